@@ -1,0 +1,15 @@
+pub mod FormLemmas
+pub mod Covers
+pub mod Minimal
+pub mod Meanings
+pub mod Reach
+pub mod Places
+pub mod Nodes
+pub mod Parts
+pub mod Grouping
+pub mod Turns
+pub mod OneOf
+pub mod Other
+mod WorkedMeaning
+mod WorkedTokens
+mod WorkedCollections

@@ -1,0 +1,15 @@
+pub mod Extents
+pub mod Access
+pub mod Texts
+pub mod Forms
+pub mod FormOf
+pub mod WellFormed
+pub mod Meaning
+pub mod Laws
+pub mod Rules
+pub mod Turns
+pub mod Cost
+pub mod Tokens
+pub mod Names
+pub mod Collections
+pub mod Slots

@@ -1,0 +1,30 @@
+//! Intervals, expressions and what they denote.
+//!
+//! This crate holds what a reader must believe: the definitions in `specs/`, from the tokens of bytes up to the
+//! concordance list of an expression over a text, each computed on worked examples. The code has the types that
+//! every crate shares. Contracts see an `Interval` as a pair of numbers, an `Expr` as a plain tree, the three lists
+//! as lists, and `Steps` as one number.
+//!
+//! The layers above use the definitions, the laws (`concordances_rise`, `chains_group`), and `Leaves`: words at
+//! addresses that are looked up one at a time. Over `1 to, 2 be, 5 to` the next `to` from 2 on stands at 5.
+#![tactic(auto)]
+
+mod bytes;
+mod expr;
+mod interval;
+mod interval_list;
+mod laws;
+mod leaves;
+mod span;
+mod steps;
+mod token_list;
+
+pub use bytes::Bytes;
+pub use expr::Expr;
+pub use interval::Interval;
+pub use interval_list::IntervalList;
+pub use laws::{chains_group, concordances_rise};
+pub use leaves::Leaves;
+pub use span::{ADDRESS_END, Span};
+pub use steps::{Ledger, NoLedger, Steps, Tally};
+pub use token_list::TokenList;
