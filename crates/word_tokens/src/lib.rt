@@ -1,0 +1,21 @@
+//! The tokens of a text.
+//!
+//! Bytes are cut into words and tags by one pass: a word is a run of letters, digits and bytes from 128, a tag gives
+//! its name between `<` and `>`, and everything else separates. Letters come out in lower case. Contracts see the list
+//! `tokens_of` of `gcl_model`, a `TokenText` as the list of its tokens, and bytes that are one token by themselves as
+//! `IsToken`.
+//!
+//! The layers above use `tokens`, `token_text` (the same in two blocks of memory), `token_count`, `is_token` and the
+//! law that each token of a text is a token. Of `To <B x="1">be</B >` the tokens are `to`, `<b>`, `be` and `</b>`.
+#![tactic(auto)]
+
+mod compact;
+mod cut;
+mod laws;
+mod lexeme;
+#[cfg(test)]
+mod tests;
+
+pub use compact::TokenText;
+pub use cut::{is_token, token_count, token_text, tokens};
+pub use laws::tokens_are_tokens;
