@@ -1,0 +1,5 @@
+pub mod RunLemmas
+pub mod NameLemmas
+pub mod CollectionLemmas
+pub mod WordLemmas
+mod WorkedRuns

@@ -1,0 +1,5 @@
+use Rattle.address_space.proofs.WordLemmas.{words_are_text}
+use Rattle.address_space.proofs.laws.words_are_text.Goals as goal
+
+pub returns : goal.returns
+returns c = words_are_text

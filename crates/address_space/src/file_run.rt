@@ -1,0 +1,62 @@
+ghost use Rattle.std.specs.Prelude.{◌≡◌, ◌<◌, [], ◌∷◌, ◌++◌, length, slice_index_or, OnOk, OnErr, IfSome};
+ghost use Rattle.address_space.specs.Runs.{IsFileRun, Precedes, last_file};
+
+use crate::file_record::FileRecord;
+use std::alloc::{AllocError, Global};
+use std::marker::Model;
+
+/// Files in rising ids, at rising addresses that none of them shares.
+#[derive(Drop)]
+pub struct FileRun {
+    files: Vec<FileRecord>,
+}
+
+impl Model for FileRun {
+    ghost use Rattle.std.specs.Prelude.{List};
+    ghost use Rattle.address_space.specs.Runs.{FileEntry, IsFileRun};
+
+    ghost Value = { List FileEntry };
+
+    ghost view = { λ r. r.files.items };
+
+    ghost invariant = { λ r. IsFileRun r.files.items };
+}
+
+impl FileRun {
+    /// No files. It takes no memory.
+    pub fn new(alloc: Global) -> Self
+        ensures { result ≡ [] }
+    {
+        FileRun {
+            files: Vec::new(alloc),
+        }
+    }
+
+    /// The number of files.
+    pub fn len(&self) -> usize
+        ensures value { result ≡ length self.now }
+        ensures run { IsFileRun self.now }
+    {
+        self.files.len()
+    }
+
+    /// The file at place `i`, counted from 0.
+    pub fn get(&self, i: usize) -> &FileRecord
+        requires { i < length self.now }
+        ensures value { result.now ≡ slice_index_or self.now i result.now }
+        ensures run { IsFileRun self.now }
+    {
+        &self.files[i]
+    }
+
+    /// Puts a file behind the others.
+    pub fn push(&mut self, file: FileRecord) -> Result<(), AllocError>
+        requires { IfSome (last_file self.old) (λ last. Precedes last file) }
+        ensures ok { OnOk result (self.new ≡ self.old ++ file ∷ []) }
+        ensures err { OnErr result (self.new ≡ self.old) }
+    {
+        let _ = &file.base;
+        self.files.push(file)?;
+        Ok(())
+    }
+}

@@ -1,0 +1,32 @@
+//! Files at addresses: their ids, their ranges of addresses and their names.
+//!
+//! Contracts see a `Range` as its first and last address, a `FileRecord` as a plain record of its four parts, and a
+//! `FileRun` as a list of these, by rising id and address. Addresses are below 2^48.
+//!
+//! The layers above use `place`, which gives a file the next addresses or says that they are spent, `is_name`, which
+//! says what a file may be called, the kept order of a `FileRun`, and the laws that adding and deleting files keep a
+//! collection sound and that its words stand where its addresses say. Of the addresses from 7 on, a file that needs
+//! three has 7 to 9.
+#![tactic(auto)]
+
+mod file_id;
+mod file_record;
+mod file_run;
+mod laws;
+mod names;
+mod places;
+mod range;
+
+pub use file_id::FileId;
+pub use file_record::FileRecord;
+pub use file_run::FileRun;
+pub use laws::{
+    adding_keeps_soundness, deleting_keeps_soundness, start_is_sound, words_are_at_addresses,
+    words_are_text,
+};
+pub use names::{NAME_MOST, is_name};
+pub use places::{AddressesSpent, place};
+pub use range::Range;
+
+#[cfg(test)]
+mod tests;

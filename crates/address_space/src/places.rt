@@ -1,0 +1,31 @@
+ghost use Rattle.std.specs.Prelude.{◌≡◌, ◌+◌, ◌-◌, ◌≤◌, ◌<◌, ◌^◌, ◌↔◌, IfOk, IfErr, IsErr};
+ghost use Rattle.gcl_model.specs.Slots.{slot_range};
+
+use crate::range::Range;
+use gcl_model::ADDRESS_END;
+
+/// So many addresses are needed from `next` on, and there are not so many.
+#[derive(Clone, Copy, Debug, PartialEq, Eq)]
+pub struct AddressesSpent {
+    pub next: u64,
+    pub need: u64,
+}
+
+/// The next addresses, as many as are needed: three from 7 on are 7 to 9. Err where they would not all be below 2^48.
+pub fn place(next: u64, need: u64) -> Result<Range, AddressesSpent>
+    requires start { next ≤ 2 ^ 48 }
+    requires some { 1 ≤ need }
+    requires most { need ≤ 2 ^ 48 }
+    ensures ok { IfOk result (λ range. range ≡ slot_range next (next + need - 1)) }
+    ensures spent { IsErr result ↔ (2 ^ 48 < next + need) }
+    ensures err { IfErr result (λ spent. (spent.next ≡ next) × (spent.need ≡ need)) }
+{
+    let end = next + need;
+    if end > ADDRESS_END {
+        return Err(AddressesSpent { next, need });
+    }
+    Ok(Range {
+        first: next,
+        last: end - 1,
+    })
+}
