@@ -1,0 +1,9 @@
+pub mod Faults
+pub mod Trees
+pub mod OneForm
+pub mod Derives
+pub mod Cuts
+pub mod Runs
+pub mod Growing
+pub mod WellFormedQueries
+mod WorkedQueries

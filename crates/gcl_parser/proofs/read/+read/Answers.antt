@@ -1,0 +1,94 @@
+use Rattle.std.proofs.Common.{◌≡◌, ◌<◌, ◌≤◌, ◌++◌, [], ◌∷◌, length, refl, sym, ap, subst, arith, rules}
+use Rattle.std.proofs.lemmas.Result.{IfOk-weaker}
+use Rattle.gcl_model.specs.Forms.{width}
+use Rattle.gcl_parser.specs.Scanned.{shown}
+use Rattle.gcl_parser.specs.Parsed.{IsParsed, IsBracketParsed}
+use Rattle.gcl_parser.specs.Grammar.{single}
+use Rattle.gcl_parser.proofs.Growing.{Chained, chain_starts, chain_goes_on, chain_ends, chain_of_one, chain_can, query_starts, query_goes_on, query_can, single_read, bracket_read, bracket_closed, not_at_end, bracket_ends}
+use Rattle.gcl_parser.proofs.read.+read.Goals as goal
+
+pub bracketed-unreachable-requires : goal.bracketed-unreachable-requires
+bracketed-unreachable-requires t c =
+    let text = c.args.text.now in
+    let inside = c.in_ok-inside.inside in
+    not_at_end text inside.end (bracket_closed text c.args.at inside c.requires.can c.in_ok-inside.ensures) c.in_default.ensures.none
+
+pub bracketed-returns : goal.bracketed-returns
+bracketed-returns t c =
+    let text = c.args.text.now in
+    let inside = c.in_ok-inside.inside in
+    let close = c.in-Some.close in
+    bracket_ends text c.args.at inside record { expr = inside.expr; end = close.end } close c.requires.can c.in_ok-inside.ensures c.in-Some.ensures.some refl refl
+
+pub chain-returns-in_default : goal.chain-returns-in_default
+chain-returns-in_default t c =
+    chain_of_one c.args.joint c.args.text.now c.args.at c.in_ok-first.first c.in_ok-first.ensures c.in_default.ensures.none
+
+pub chain-loop-members-init : goal.chain-loop-members-init
+chain-loop-members-init t c =
+    let first = c.in_ok-first.first in
+    let starts = chain_starts c.args.joint c.args.text.now c.args.at c.in-Some.next first c.in_ok-first.ensures c.in-Some.ensures.next c.in-Some.ensures.later c.in-Some.ensures.within in
+    let items : c.push.new.self.items ≡ first.expr ∷ [] = search (rules, c.in_ok-push.ensures.items, c.new-members.ensures.items) in
+    subst (λ exprs. Chained c.args.joint c.args.text.now c.args.at c.in-Some.next exprs) (sym items) starts
+
+pub chain-member-requires-in-loop-members : goal.chain-member-requires-in-loop-members
+chain-member-requires-in-loop-members t c =
+    let so_far = c.loop-members.invariant in
+    let later : c.args.at < c.loop-members.next = so_far.later in
+    let within : c.loop-members.next ≤ length c.args.text.now = so_far.within in
+    (omega arith, (within, chain_can c.args.joint c.args.text.now c.args.at c.loop-members.next c.loop-members.members.items c.requires.can so_far))
+
+pub chain-returns-in-None : goal.chain-returns-in-None
+chain-returns-in-None t c =
+    let member = c.in_ok-member.member in
+    chain_ends c.args.joint c.args.text.now c.args.at c.loop-members.next c.loop-members.members.items member record { expr = c.chain_node.result; end = member.end }
+    c.loop-members.invariant c.in_ok-member.ensures c.in-None.ensures.none (search (rules, c.chain_node.ensures, c.in_ok-push-2.ensures.items)) refl
+
+pub chain-loop-members-preserved : goal.chain-loop-members-preserved
+chain-loop-members-preserved t c =
+    let member = c.in_ok-member.member in
+    let next = c.loop-members.next in
+    let before = c.loop-members.members.items in
+    let grows = chain_goes_on c.args.joint c.args.text.now c.args.at next c.in-Some-joined.place before member c.loop-members.invariant c.in_ok-member.ensures
+    c.in-Some-joined.ensures.next c.in-Some-joined.ensures.later c.in-Some-joined.ensures.within in
+    let items : c.push-in-loop-members.new.self.items ≡ before ++ member.expr ∷ [] = c.in_ok-push-2.ensures.items in
+    subst (λ exprs. Chained c.args.joint c.args.text.now c.args.at c.in-Some-joined.place exprs) (sym items) grows
+
+pub operand-returns-in_ok-quoted_node-in-Quoted : goal.operand-returns-in_ok-quoted_node-in-Quoted
+operand-returns-in_ok-quoted_node-in-Quoted t c =
+    let text = c.args.text.now in
+    let lexeme = c.in-Some.lexeme in
+    single_read text c.args.at lexeme _ record { expr = c.in_ok-quoted_node-in-Quoted.field-0; end = lexeme.end } c.in-Some.ensures.some (ap (λ token. shown text token) c.in-Quoted.is)
+    c.in_ok-quoted_node-in-Quoted.ensures refl
+
+pub operand-returns-in-Width : goal.operand-returns-in-Width
+operand-returns-in-Width t c =
+    let text = c.args.text.now in
+    let lexeme = c.in-Some.lexeme in
+    single_read text c.args.at lexeme (width c.in-Width.width) record { expr = c.width_node.result; end = lexeme.end } c.in-Some.ensures.some
+    (ap (λ token. shown text token) c.in-Width.is) c.width_node.ensures refl
+
+pub operand-returns-in-Open : goal.operand-returns-in-Open
+operand-returns-in-Open t c =
+    let text = c.args.text.now in
+    let lexeme = c.in-Some.lexeme in
+    IfOk-weaker c.bracketed.result (λ parsed. IsBracketParsed text lexeme.end parsed) (λ parsed. IsParsed single text c.args.at parsed)
+    (λ parsed inside. bracket_read text c.args.at lexeme parsed c.in-Some.ensures.some c.in-Open.is inside) c.bracketed.ensures
+
+pub query-loop-containment-init : goal.query-loop-containment-init
+query-loop-containment-init t c = query_starts c.args.text.now c.args.at c.in_ok-whole.whole c.in_ok-whole.ensures
+
+pub query-chain-requires-in-Some : goal.query-chain-requires-in-Some
+query-chain-requires-in-Some t c =
+    let so_far = c.loop-containment.invariant in
+    let whole = c.loop-containment.whole in
+    let later : c.args.at < whole.end = so_far.later in
+    let place : whole.end < c.in-Some.next = c.in-Some.ensures.later in
+    let within : c.in-Some.next ≤ length c.args.text.now = c.in-Some.ensures.within in
+    (omega arith, (within, query_can c.args.text.now c.args.at c.in-Some.next c.in-Some.containment whole c.requires.can so_far c.in-Some.ensures.next))
+
+pub query-loop-containment-preserved : goal.query-loop-containment-preserved
+query-loop-containment-preserved t c =
+    let part = c.in_ok-part.part in
+    query_goes_on c.args.text.now c.args.at c.in-Some.next c.in-Some.containment c.loop-containment.whole part record { expr = c.in_ok-containment_node.field-0; end = part.end }
+    c.loop-containment.invariant c.in-Some.ensures.next c.in-Some.ensures.later c.in_ok-part.ensures c.in_ok-containment_node.ensures refl

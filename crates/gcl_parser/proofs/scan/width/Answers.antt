@@ -1,0 +1,23 @@
+use Rattle.std.proofs.Common.{◌≡◌, ◌+◌, ◌-◌, ◌<◌, drop, length, ap, sym, ◌∙◌, arith, true, rules}
+use Rattle.gcl_model.specs.Tokens.{starts_with_byte}
+use Rattle.gcl_parser.specs.QueryTokens.{width_piece, one_token}
+use Rattle.gcl_parser.proofs.Runs.{piece_of, digits_pass, width_behind}
+use Rattle.gcl_parser.proofs.scan.width.Goals as goal
+
+pub width_of-requires : goal.width_of-requires
+width_of-requires c =
+    let from = c.args.at + 1 in
+    let size = c.digit_count-size.result in
+    digits_pass c.args.text.now from (from + size - from) size c.digit_count-size.ensures (omega arith)
+
+pub returns : goal.returns
+returns c =
+    let text = c.args.text.now in
+    let at = c.args.at in
+    let from = at + 1 in
+    let size = c.digit_count-size.result in
+    let stands : starts_with_byte 93 (drop (from + size) text) ≡ true = search rules in
+    let found = width_behind text from size (from + size - from) c.digit_count-size.ensures (omega arith) stands in
+    let short : from + size < length text = found.short in
+    piece_of text at (width_piece (drop from text)) c.lexeme-2.result (size + 2) c.width_of.result c.lexeme-2.ensures
+    (found.piece ∙ ap (λ token. one_token token (size + 2)) (sym (c.width_of.ensures.token text))) (omega arith) (c.width_of.ensures.range text)

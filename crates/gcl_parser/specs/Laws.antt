@@ -1,0 +1,13 @@
+-- Laws of the grammar and of the refusal.
+use Rattle.std.specs.Prelude.{◌≡◌, ◌↔◌, ℕ, List, None}
+use Rattle.gcl_model.specs.Forms.{Form}
+use Rattle.gcl_parser.specs.Grammar.{IsQuery, IsQueryWithin}
+use Rattle.gcl_parser.specs.Refusal.{refused}
+
+-- a text is not refused exactly where it is a query within the limits
+abbrev pub QueriesAreNotRefused : Type 0
+QueriesAreNotRefused = (text : List ℕ) → (refused text ≡ None) ↔ ((form : Form) × IsQueryWithin text form)
+
+-- a text stands for one form at most
+abbrev pub QueriesStandForOneForm : Type 0
+QueriesStandForOneForm = (text : List ℕ) (a b : Form) → IsQuery text a → IsQuery text b → a ≡ b

@@ -1,0 +1,124 @@
+-- The query tokens of a text, with their places.
+use Rattle.std.specs.Prelude.{ℕ, zero, suc, ◌+◌, ◌^◌, Bool, not, ◌&&◌, ◌||◌, ◌==◌, nat_le, List, [], ◌∷◌, ◌++◌, map, length, drop, codes, bytes_eq, if◌then◌else◌, take_while}
+use Rattle.std.specs.Char.{is_ascii_digit}
+use Rattle.std.specs.Str.Parse.{digits_value}
+use Rattle.gcl_model.specs.Forms.{Form, term, phrase, width}
+use Rattle.gcl_model.specs.Tokens.{starts_with_byte, tokens_of}
+use Rattle.gcl_parser.specs.declared.fault.QueryKind.{QueryKind}
+use Rattle.gcl_parser.specs.declared.fault.QueryKind.TheVariants.{EmptyTerm, BadWidth, OpenQuote, Character}
+use Rattle.gcl_parser.specs.declared.token.Joint.{Joint}
+use Rattle.gcl_parser.specs.declared.token.Joint.TheVariants.{FollowedBy, BothOf, OneOf}
+use Rattle.gcl_parser.specs.declared.token.Containment.{Containment}
+use Rattle.gcl_parser.specs.declared.token.Containment.TheVariants.{Containing, ContainedIn, NotContaining, NotContainedIn}
+
+-- a quoted text or a width, with what it means; `..`, `^` or `+`; `>`, `<`, `/>` or `/<`; a bracket; or what is
+-- wrong at a place where no query token begins
+pub data QueryToken : Type 0 where
+  operand : Form → QueryToken
+  joint : Joint → QueryToken
+  containment : Containment → QueryToken
+  open_bracket : QueryToken
+  close_bracket : QueryToken
+  broken : QueryKind → QueryToken
+
+-- a beginning of the text: how many bytes it has, and its query token, none where it is a blank
+pub record Piece : Type 0 where
+  pub size : ℕ
+  pub tokens : List QueryToken
+
+abbrev pub one_token : QueryToken → ℕ → Piece
+one_token token size = record { size = size; tokens = token ∷ [] }
+
+-- no query token begins here; the first fault of a text ends its reading, so what comes next does not matter
+abbrev pub broken_piece : QueryKind → Piece
+broken_piece kind = one_token (broken kind) 1
+
+-- the two tokens around a file, which no text has: a query spells them out
+abbrev pub is_boundary : List ℕ → Bool
+is_boundary bytes = bytes_eq bytes (codes "<file!>") || bytes_eq bytes (codes "</file!>")
+
+-- the terms of the text between two quotes: the boundary token that it spells out, or else its tokens
+abbrev pub terms_of : List ℕ → List (List ℕ)
+terms_of content = if is_boundary content then content ∷ [] else tokens_of content
+
+-- one term stands for itself, several are a phrase
+abbrev pub quoted_form : List (List ℕ) → Form
+quoted_form (token ∷ []) = term token
+quoted_form tokens = phrase tokens
+
+-- a quoted text without a term is none
+abbrev pub quoted_token : List (List ℕ) → QueryToken
+quoted_token [] = broken EmptyTerm
+quoted_token (token ∷ more) = operand (quoted_form (token ∷ more))
+
+abbrev pub is_no_quote : ℕ → Bool
+is_no_quote b = not (b == 34)
+
+-- the quoted text whose first quote stands before these bytes: up to the next quote
+abbrev pub quoted_piece : List ℕ → Piece
+quoted_piece bytes =
+    let content = take_while is_no_quote bytes in
+    if starts_with_byte 34 (drop (length content) bytes) then one_token (quoted_token (terms_of content)) (length content + 2) else broken_piece OpenQuote
+
+-- a width is 1 to 2^48
+abbrev pub width_token : ℕ → QueryToken
+width_token n = if nat_le 1 n && nat_le n (2 ^ 48) then operand (width n) else broken BadWidth
+
+-- the width whose `[` stands before these bytes: digits, and `]`
+abbrev pub width_piece : List ℕ → Piece
+width_piece bytes =
+    let digits = take_while is_ascii_digit bytes in
+    if starts_with_byte 93 (drop (length digits) bytes) then one_token (width_token (digits_value 10 digits)) (length digits + 2) else broken_piece BadWidth
+
+-- an operator or a bracket, by its first byte and the rest
+abbrev pub sign_piece : ℕ → List ℕ → Piece
+sign_piece b bytes =
+    if b == 94 then one_token (joint BothOf) 1
+    else if b == 43 then one_token (joint OneOf) 1
+    else if b == 62 then one_token (containment Containing) 1
+    else if b == 60 then one_token (containment ContainedIn) 1
+    else if b == 40 then one_token open_bracket 1
+    else if b == 41 then one_token close_bracket 1
+    else if (b == 46) && starts_with_byte 46 bytes then one_token (joint FollowedBy) 2
+    else if (b == 47) && starts_with_byte 62 bytes then one_token (containment NotContaining) 2
+    else if (b == 47) && starts_with_byte 60 bytes then one_token (containment NotContainedIn) 2
+    else broken_piece Character
+
+-- spaces and tabs
+abbrev pub is_blank : ℕ → Bool
+is_blank b = (b == 32) || (b == 9)
+
+-- what the text begins with, by its first byte and the rest
+abbrev pub first_piece : ℕ → List ℕ → Piece
+first_piece b bytes =
+    if is_blank b then record { size = 1; tokens = [] }
+    else if b == 34 then quoted_piece bytes
+    else if b == 91 then width_piece bytes
+    else sign_piece b bytes
+
+-- a query token and the place where it begins
+pub record Placed : Type 0 where
+  pub at : ℕ
+  pub token : QueryToken
+
+abbrev pub placed : ℕ → List QueryToken → List Placed
+placed at tokens = map (λ token. record { at = at; token = token }) tokens
+
+-- the query tokens of at most the first n pieces of bytes that begin at a place
+abbrev pub tokens_of_pieces : ℕ → ℕ → List ℕ → List Placed
+tokens_of_pieces zero at bytes = []
+tokens_of_pieces (suc n) at [] = []
+tokens_of_pieces (suc n) at (b ∷ bytes) =
+    let piece = first_piece b bytes in
+    placed at piece.tokens ++ tokens_of_pieces n (at + piece.size) (drop piece.size (b ∷ bytes))
+
+-- the query tokens of bytes that begin at a place; they have no more pieces than bytes
+abbrev pub tokens_behind : ℕ → List ℕ → List Placed
+tokens_behind at bytes = tokens_of_pieces (length bytes) at bytes
+
+-- the query tokens of a text: of `"to".."be"` they are a term at 0, `..` at 4 and a term at 6
+abbrev pub query_tokens : List ℕ → List Placed
+query_tokens text = tokens_behind 0 text
+
+abbrev pub token_of : Placed → QueryToken
+token_of p = p.token

@@ -1,0 +1,28 @@
+//! The expression of a query, or the first place at which a text is no query.
+//!
+//! A query has quoted texts, widths, operators and brackets. `..` binds most, then `^`, then `+`; the containments
+//! `>`, `<`, `/>` and `/<` bind least and group from the left. Contracts see the grammar as the trees of
+//! `specs/Grammar.antt`: a tree spells query tokens and stands for one form (`IsQueryWithin`). A text that no tree
+//! within the limits spells has its first fault, a place and a kind, by `refused` of `specs/Refusal.antt`.
+//!
+//! The layers above use `parse` and the law `queries_are_not_refused`: a text is not refused exactly where a tree
+//! spells it, and it stands for one form at most. `"to".."be" ^ [3]` is both of `to` followed by `be`, and 3 words.
+#![tactic(auto)]
+
+mod fault;
+mod laws;
+mod node;
+mod parsed;
+mod parser;
+mod read;
+mod refusal;
+mod scan;
+mod state;
+#[cfg(test)]
+mod tests;
+mod token;
+mod width;
+
+pub use fault::{ParseFault, QueryFault, QueryKind};
+pub use laws::queries_are_not_refused;
+pub use parser::parse;

@@ -1,0 +1,8 @@
+use gcl_model::Expr;
+
+/// An expression that was read, and the place behind it.
+#[derive(Drop)]
+pub struct Parsed {
+    pub expr: Expr,
+    pub end: usize,
+}

@@ -1,0 +1,144 @@
+ghost use Rattle.std.specs.Prelude.{◌≡◌, ◌<◌, ◌≤◌, ◌∷◌, length, IfOk, IfNone, IfSome};
+ghost use Rattle.gcl_parser.specs.Grammar.{single, joined as joined_level, below};
+ghost use Rattle.gcl_parser.specs.QueryTokens.{joint as joint_token, containment as containment_token};
+ghost use Rattle.gcl_parser.specs.Scanned.{bare_from};
+ghost use Rattle.gcl_parser.specs.Reading.{CanRead, CanReadInside, IsNotNext, IsNoContainment};
+ghost use Rattle.gcl_parser.specs.Parsed.{IsParsed, IsQueryParsed, IsBracketParsed};
+
+use crate::node::{chain_node, containment_node, quoted_node, width_node};
+use crate::parsed::Parsed;
+use crate::scan::next_lexeme;
+use crate::token::{Containment, Joint, Token};
+use std::alloc::{AllocError, Global};
+
+/// The query at a place of a text that is not refused.
+#[cycle(read)]
+pub fn query(alloc: Global, text: &[u8], at: usize) -> Result<Parsed, AllocError>
+    requires within { at ≤ length text.now }
+    requires can { CanRead (bare_from text.now at) }
+    ensures { IfOk result (λ parsed. IsQueryParsed text.now at parsed) }
+{
+    let mut whole = chain(alloc, text, at, Joint::OneOf)?;
+    while let Some((containment, next)) = compared(text, whole.end) {
+        let part = chain(alloc, text, next, Joint::OneOf)?;
+        whole = Parsed {
+            expr: containment_node(alloc, containment, whole.expr, part.expr)?,
+            end: part.end,
+        };
+    }
+    Ok(whole)
+}
+
+/// The members that the joint joins, from a place on; one member alone is itself.
+#[cycle(read)]
+fn chain(alloc: Global, text: &[u8], at: usize, joint: Joint) -> Result<Parsed, AllocError>
+    requires within { at ≤ length text.now }
+    requires can { CanRead (bare_from text.now at) }
+    ensures { IfOk result (λ parsed. IsParsed (joined_level joint) text.now at parsed) }
+{
+    let first = member(alloc, text, at, joint)?;
+    let Some(mut next) = joined(text, first.end, joint) else {
+        return Ok(first);
+    };
+    let mut members = Vec::new(alloc);
+    members.push(first.expr)?;
+    loop {
+        let member = member(alloc, text, next, joint)?;
+        members.push(member.expr)?;
+        match joined(text, member.end, joint) {
+            None => {
+                return Ok(Parsed {
+                    expr: chain_node(joint, members),
+                    end: member.end,
+                });
+            }
+            Some(place) => next = place,
+        }
+    }
+}
+
+/// A member of a chain.
+#[cycle(read)]
+fn member(alloc: Global, text: &[u8], at: usize, joint: Joint) -> Result<Parsed, AllocError>
+    requires within { at ≤ length text.now }
+    requires can { CanRead (bare_from text.now at) }
+    ensures { IfOk result (λ parsed. IsParsed (below joint) text.now at parsed) }
+{
+    match joint {
+        Joint::FollowedBy => operand(alloc, text, at),
+        Joint::BothOf => chain(alloc, text, at, Joint::FollowedBy),
+        Joint::OneOf => chain(alloc, text, at, Joint::BothOf),
+    }
+}
+
+/// A quoted text, a width or a query in brackets.
+#[cycle(read)]
+fn operand(alloc: Global, text: &[u8], at: usize) -> Result<Parsed, AllocError>
+    requires within { at ≤ length text.now }
+    requires can { CanRead (bare_from text.now at) }
+    ensures { IfOk result (λ parsed. IsParsed single text.now at parsed) }
+{
+    let Some(lexeme) = next_lexeme(text, at) else {
+        unreachable!()
+    };
+    match lexeme.token {
+        Token::Quoted(from, to) => Ok(Parsed {
+            expr: quoted_node(alloc, &text[from..to])?,
+            end: lexeme.end,
+        }),
+        Token::Width(width) => Ok(Parsed {
+            expr: width_node(width),
+            end: lexeme.end,
+        }),
+        Token::Open => bracketed(alloc, text, lexeme.end),
+        _ => unreachable!(),
+    }
+}
+
+/// The query behind an open bracket, up to and with the bracket that closes it.
+#[cycle(read)]
+fn bracketed(alloc: Global, text: &[u8], at: usize) -> Result<Parsed, AllocError>
+    requires within { at ≤ length text.now }
+    requires can { CanReadInside (bare_from text.now at) }
+    ensures { IfOk result (λ parsed. IsBracketParsed text.now at parsed) }
+{
+    let inside = query(alloc, text, at)?;
+    let Some(close) = next_lexeme(text, inside.end) else {
+        unreachable!()
+    };
+    Ok(Parsed {
+        expr: inside.expr,
+        end: close.end,
+    })
+}
+
+/// The place behind the joint, where it comes next.
+fn joined(text: &[u8], from: usize, joint: Joint) -> Option<usize>
+    requires { from ≤ length text.now }
+    ensures next { IfSome result (λ place. bare_from text.now from ≡ joint_token joint ∷ bare_from text.now place) }
+    ensures later { IfSome result (λ place. from < place) }
+    ensures within { IfSome result (λ place. place ≤ length text.now) }
+    ensures none { IfNone result (IsNotNext (joint_token joint) (bare_from text.now from)) }
+{
+    let lexeme = next_lexeme(text, from)?;
+    if lexeme.token == Token::Joint(joint) {
+        Some(lexeme.end)
+    } else {
+        None
+    }
+}
+
+/// The containment that comes next, and the place behind it.
+fn compared(text: &[u8], from: usize) -> Option<(Containment, usize)>
+    requires { from ≤ length text.now }
+    ensures next { IfSome result (λ found. bare_from text.now from ≡ containment_token found.0 ∷ bare_from text.now found.1) }
+    ensures later { IfSome result (λ found. from < found.1) }
+    ensures within { IfSome result (λ found. found.1 ≤ length text.now) }
+    ensures none { IfNone result (IsNoContainment (bare_from text.now from)) }
+{
+    let lexeme = next_lexeme(text, from)?;
+    match lexeme.token {
+        Token::Containment(containment) => Some((containment, lexeme.end)),
+        _ => None,
+    }
+}

@@ -1,0 +1,150 @@
+ghost use Rattle.std.specs.Prelude.{◌≡◌, ◌+◌, ◌<◌, ◌≤◌, ◌^◌, ℕ, [], false, length, drop, nat_le, slice_index, slice_range, IfNone, IfSome};
+ghost use Rattle.gcl_model.specs.Tokens.{starts_with_byte};
+ghost use Rattle.gcl_parser.specs.QueryTokens.{is_blank as is_blank_byte, is_boundary as is_boundary_token, terms_of, quoted_token, quoted_piece, width_piece, sign_piece, first_piece, one_token};
+ghost use Rattle.gcl_parser.specs.Scanned.{shown, HasRange, IsPiece, IsNext, tokens_from};
+
+use crate::fault::QueryKind;
+use crate::token::{Containment, Joint, Lexeme, Token};
+use crate::width::{digit_count, width_of};
+use memchr::memchr;
+use word_tokens::token_count;
+
+/// The first query token from a place on; none where only blanks are left.
+pub fn next_lexeme(text: &[u8], from: usize) -> Option<Lexeme>
+    requires { from ≤ length text.now }
+    ensures none { IfNone result (tokens_from text.now from ≡ []) }
+    ensures some { IfSome result (λ lexeme. IsNext text.now from lexeme) }
+{
+    let at = after_blanks(text, from);
+    if at == text.len() {
+        return None;
+    }
+    Some(lexeme_at(text, at))
+}
+
+/// The place of the first byte from a place on that is no blank, or the length of the text.
+fn after_blanks(text: &[u8], from: usize) -> usize
+    requires { from ≤ length text.now }
+    ensures later { from ≤ result }
+    ensures within { result ≤ length text.now }
+    ensures same { tokens_from text.now result ≡ tokens_from text.now from }
+    ensures stops { result < length text.now → is_blank_byte (slice_index text.now result) ≡ false }
+{
+    let mut at = from;
+    while at < text.len() && is_blank(text[at]) {
+        at += 1;
+    }
+    at
+}
+
+fn is_blank(byte: u8) -> bool
+    ensures { result ≡ is_blank_byte byte }
+{
+    byte == b' ' || byte == b'\t'
+}
+
+/// The query token at a place that holds no blank.
+fn lexeme_at(text: &[u8], at: usize) -> Lexeme
+    requires within { at < length text.now }
+    requires no_blank { is_blank_byte (slice_index text.now at) ≡ false }
+    ensures { IsPiece text.now at (first_piece (slice_index text.now at) (drop (at + 1) text.now)) result }
+{
+    match text[at] {
+        b'"' => quoted(text, at),
+        b'[' => width(text, at),
+        _ => sign(text, at),
+    }
+}
+
+/// The quoted text whose first quote stands at the place.
+fn quoted(text: &[u8], at: usize) -> Lexeme
+    requires { at < length text.now }
+    ensures { IsPiece text.now at (quoted_piece (drop (at + 1) text.now)) result }
+{
+    let from = at + 1;
+    match memchr(b'"', &text[from..]) {
+        None => lexeme(at, 1, Token::Broken(QueryKind::OpenQuote)),
+        Some(size) => lexeme(at, size + 2, content(text, from, from + size)),
+    }
+}
+
+/// What stands between two quotes, from one place to another.
+fn content(text: &[u8], from: usize, to: usize) -> Token
+    requires order { from ≤ to }
+    requires within { to ≤ length text.now }
+    ensures token { shown text.now result ≡ quoted_token (terms_of (slice_range text.now from to)) }
+    ensures range { HasRange text.now result }
+{
+    if has_terms(&text[from..to]) {
+        Token::Quoted(from, to)
+    } else {
+        Token::Broken(QueryKind::EmptyTerm)
+    }
+}
+
+fn has_terms(bytes: &[u8]) -> bool
+    ensures { result ≡ nat_le 1 (length (terms_of bytes.now)) }
+{
+    is_boundary(bytes) || token_count(bytes) > 0
+}
+
+/// The two tokens that no text has: a query spells them out.
+pub fn is_boundary(bytes: &[u8]) -> bool
+    ensures { result ≡ is_boundary_token bytes.now }
+{
+    bytes == b"<file!>".as_slice() || bytes == b"</file!>".as_slice()
+}
+
+/// The width whose `[` stands at the place.
+fn width(text: &[u8], at: usize) -> Lexeme
+    requires { at < length text.now }
+    ensures { IsPiece text.now at (width_piece (drop (at + 1) text.now)) result }
+{
+    let from = at + 1;
+    let size = digit_count(&text[from..]);
+    if !stands(text, from + size, b']') {
+        return lexeme(at, 1, Token::Broken(QueryKind::BadWidth));
+    }
+    lexeme(at, size + 2, width_of(&text[from..from + size]))
+}
+
+/// The operator or the bracket at the place.
+fn sign(text: &[u8], at: usize) -> Lexeme
+    requires { at < length text.now }
+    ensures { IsPiece text.now at (sign_piece (slice_index text.now at) (drop (at + 1) text.now)) result }
+{
+    match text[at] {
+        b'^' => lexeme(at, 1, Token::Joint(Joint::BothOf)),
+        b'+' => lexeme(at, 1, Token::Joint(Joint::OneOf)),
+        b'>' => lexeme(at, 1, Token::Containment(Containment::Containing)),
+        b'<' => lexeme(at, 1, Token::Containment(Containment::ContainedIn)),
+        b'(' => lexeme(at, 1, Token::Open),
+        b')' => lexeme(at, 1, Token::Close),
+        b'.' if stands(text, at + 1, b'.') => lexeme(at, 2, Token::Joint(Joint::FollowedBy)),
+        b'/' if stands(text, at + 1, b'>') => {
+            lexeme(at, 2, Token::Containment(Containment::NotContaining))
+        }
+        b'/' if stands(text, at + 1, b'<') => {
+            lexeme(at, 2, Token::Containment(Containment::NotContainedIn))
+        }
+        _ => lexeme(at, 1, Token::Broken(QueryKind::Character)),
+    }
+}
+
+/// Whether the byte stands at the place.
+fn stands(text: &[u8], at: usize, byte: u8) -> bool
+    ensures { result ≡ starts_with_byte byte (drop at text.now) }
+{
+    at < text.len() && text[at] == byte
+}
+
+fn lexeme(at: usize, size: usize, token: Token) -> Lexeme
+    requires { at + size < 2 ^ 64 }
+    ensures { result ≡ record { at = at; end = at + size; token = token } }
+{
+    Lexeme {
+        at,
+        end: at + size,
+        token,
+    }
+}

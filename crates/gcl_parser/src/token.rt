@@ -1,0 +1,47 @@
+use crate::fault::QueryKind;
+
+/// An operator that joins a chain of parts.
+#[derive(Clone, Copy, Debug, PartialEq, Eq)]
+pub enum Joint {
+    /// `..`
+    FollowedBy,
+    /// `^`
+    BothOf,
+    /// `+`
+    OneOf,
+}
+
+/// An operator between two parts, grouped from the left.
+#[derive(Clone, Copy, Debug, PartialEq, Eq)]
+pub enum Containment {
+    /// `>`
+    Containing,
+    /// `<`
+    ContainedIn,
+    /// `/>`
+    NotContaining,
+    /// `/<`
+    NotContainedIn,
+}
+
+/// A query token as it stands in the text, or what is wrong where none begins.
+#[derive(Clone, Copy, Debug, PartialEq, Eq)]
+pub enum Token {
+    /// A quoted text: the bytes from the first place up to the second, without its quotes.
+    Quoted(usize, usize),
+    /// A width, 1 to 2^48.
+    Width(u64),
+    Joint(Joint),
+    Containment(Containment),
+    Open,
+    Close,
+    Broken(QueryKind),
+}
+
+/// A query token with the place where it begins and the place behind it.
+#[derive(Clone, Copy, Debug, PartialEq, Eq)]
+pub struct Lexeme {
+    pub at: usize,
+    pub end: usize,
+    pub token: Token,
+}
