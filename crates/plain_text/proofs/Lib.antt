@@ -1,0 +1,5 @@
+pub mod Entries
+pub mod Holders
+pub mod Operands
+pub mod Rows
+pub mod Puts

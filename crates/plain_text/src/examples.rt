@@ -1,0 +1,68 @@
+ghost use Rattle.std.specs.Prelude.{◌≤◌, map, IfOk};
+ghost use Rattle.gcl_model.specs.Forms.{forms_count};
+ghost use Rattle.gcl_model.specs.FormOf.{form_of, forms_from};
+ghost use Rattle.gcl_model.specs.WellFormed.{IsWellFormed, AreWellFormed};
+
+use gcl_model::{Bytes, Expr, TokenList};
+use std::alloc::{AllocError, Global};
+
+pub fn tokens(alloc: Global, words: &[&str]) -> Result<TokenList, AllocError> {
+    let mut tokens = TokenList::new(alloc);
+    for word in words {
+        tokens.push(Bytes::copy_of(alloc, word.as_bytes())?)?;
+    }
+    Ok(tokens)
+}
+
+/// `to be or not to be` between the tokens of a file's boundary.
+pub fn hamlet(alloc: Global) -> Result<TokenList, AllocError> {
+    tokens(
+        alloc,
+        &["<file!>", "to", "be", "or", "not", "to", "be", "</file!>"],
+    )
+}
+
+pub fn term(alloc: Global, word: &str) -> Result<Expr, AllocError>
+    ensures { IfOk result (λ expr. IsWellFormed (form_of expr)) }
+{
+    Ok(Expr::Term(Bytes::copy_of(alloc, word.as_bytes())?))
+}
+
+fn two(alloc: Global, a: &str, b: &str) -> Result<Vec<Expr>, AllocError>
+    ensures two { IfOk result (λ exprs. 2 ≤ forms_count (forms_from (map form_of exprs.items))) }
+    ensures formed { IfOk result (λ exprs. AreWellFormed (forms_from (map form_of exprs.items))) }
+{
+    let mut exprs = Vec::new(alloc);
+    exprs.push(term(alloc, a)?)?;
+    exprs.push(term(alloc, b)?)?;
+    Ok(exprs)
+}
+
+pub fn seq(alloc: Global, a: &str, b: &str) -> Result<Expr, AllocError>
+    ensures { IfOk result (λ expr. IsWellFormed (form_of expr)) }
+{
+    Ok(Expr::Seq(two(alloc, a, b)?))
+}
+
+pub fn both(alloc: Global, a: &str, b: &str) -> Result<Expr, AllocError>
+    ensures { IfOk result (λ expr. IsWellFormed (form_of expr)) }
+{
+    Ok(Expr::Both(two(alloc, a, b)?))
+}
+
+/// The pair of the first two words, or the third.
+pub fn both_or(alloc: Global, a: &str, b: &str, c: &str) -> Result<Expr, AllocError>
+    ensures { IfOk result (λ expr. IsWellFormed (form_of expr)) }
+{
+    let mut exprs = Vec::new(alloc);
+    exprs.push(both(alloc, a, b)?)?;
+    exprs.push(term(alloc, c)?)?;
+    Ok(Expr::One(exprs))
+}
+
+pub fn boxed(alloc: Global, expr: Expr) -> Result<Box<Expr>, AllocError>
+    requires { IsWellFormed (form_of expr) }
+    ensures { IfOk result (λ b. IsWellFormed (form_of b.value)) }
+{
+    Ok(Box::new(alloc, expr)?)
+}
