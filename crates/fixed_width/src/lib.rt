@@ -1,0 +1,12 @@
+//! Intervals of one width: the accesses of their list, by arithmetic on the span.
+//!
+//! Contracts see the answer as the access of the concordance list of the width over any text with this span. The layer
+//! above uses the four accesses, for every address. Of the width 7 over the addresses 0 to 7 the first interval from 1
+//! on is (1, 7), and from 2 on there is none.
+#![tactic(auto)]
+
+mod accesses;
+#[cfg(test)]
+mod tests;
+
+pub use accesses::{width_first_end, width_first_start, width_last_end, width_last_start};

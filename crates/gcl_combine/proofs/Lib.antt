@@ -1,0 +1,3 @@
+pub mod OneForward
+pub mod OneBackward
+mod Worked

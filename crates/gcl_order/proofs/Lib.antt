@@ -1,0 +1,2 @@
+pub mod SeqAccess
+mod Worked

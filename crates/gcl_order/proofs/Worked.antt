@@ -1,0 +1,36 @@
+-- Walks over the places of "to" and of "be" in `to be or not to be` at 1 to 6.
+use Rattle.std.specs.Prelude.{◌≡◌, List, [], ◌∷◌, Some, None}
+use Rattle.std.proofs.Common.{refl}
+use Rattle.gcl_model.specs.Extents.{Extent, extent}
+use Rattle.gcl_order.specs.Walks.{address_before, forward_and_back, back_and_forward}
+
+abbrev to : List Extent
+to = extent 1 1 ∷ extent 5 5 ∷ []
+
+abbrev be : List Extent
+be = extent 2 2 ∷ extent 6 6 ∷ []
+
+before_first : address_before 0 ≡ None
+before_first = refl
+
+-- "to" followed by "be": from 0 on (1, 2), from 2 on (5, 6)
+to_be-from_0 : forward_and_back to (be ∷ []) (to ∷ []) 0 ≡ Some (extent 1 2)
+to_be-from_0 = refl
+
+to_be-from_2 : forward_and_back to (be ∷ []) (to ∷ []) 2 ≡ Some (extent 5 6)
+to_be-from_2 = refl
+
+-- "be" followed by "to" followed by "be"
+be_to_be : forward_and_back be (to ∷ be ∷ []) (be ∷ to ∷ []) 0 ≡ Some (extent 2 6)
+be_to_be = refl
+
+-- "be" followed by "be" is no single place of it
+be_be : forward_and_back be (be ∷ []) (be ∷ []) 3 ≡ None
+be_be = refl
+
+-- the last "be" .. "to" up to 6 is (2, 5), and up to 4 there is none
+be_to-up_to_6 : back_and_forward to (to ∷ []) (be ∷ []) 6 ≡ Some (extent 2 5)
+be_to-up_to_6 = refl
+
+be_to-up_to_4 : back_and_forward to (to ∷ []) (be ∷ []) 4 ≡ None
+be_to-up_to_4 = refl

@@ -1,0 +1,18 @@
+-- The accesses of "followed by", from those of its operands: `first` and `rest` are their lists, and so are `front` and `last`.
+use Rattle.std.specs.Prelude.{◌≡◌, ℕ, List, [], ◌∷◌, ◌++◌}
+use Rattle.gcl_model.specs.Extents.{Extent}
+use Rattle.gcl_model.specs.Texts.{Text}
+use Rattle.gcl_model.specs.Forms.{Forms, seq}
+use Rattle.gcl_model.specs.Meaning.{concordance, operands}
+use Rattle.gcl_model.specs.Access.{first_start, last_end}
+use Rattle.gcl_order.specs.Walks.{forward_and_back, back_and_forward}
+
+abbrev pub SeqGoesForward : Type 0
+SeqGoesForward = (text : Text) (forms : Forms) (first last : List Extent) (rest front : List (List Extent)) →
+    operands text forms ≡ first ∷ rest → operands text forms ≡ front ++ last ∷ [] → (k : ℕ) →
+    first_start (concordance text (seq forms)) k ≡ forward_and_back first rest front k
+
+abbrev pub SeqGoesBackward : Type 0
+SeqGoesBackward = (text : Text) (forms : Forms) (first last : List Extent) (rest front : List (List Extent)) →
+    operands text forms ≡ first ∷ rest → operands text forms ≡ front ++ last ∷ [] → (k : ℕ) →
+    last_end (concordance text (seq forms)) k ≡ back_and_forward last rest front k

@@ -1,0 +1,7 @@
+ghost use Rattle.gcl_order.specs.Laws.{SeqGoesForward, SeqGoesBackward};
+
+/// The accesses of "followed by", from those of its operands.
+pub fn followed_by_accesses()
+    ensures forward { SeqGoesForward }
+    ensures backward { SeqGoesBackward }
+{}

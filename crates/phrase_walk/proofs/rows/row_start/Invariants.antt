@@ -1,0 +1,16 @@
+use Rattle.std.proofs.Common.{◌≡◌, ◌+◌, ◌*◌, ◌≤◌, Some, length}
+use Rattle.phrase_walk.specs.Rows.{row_start}
+use Rattle.phrase_walk.proofs.rows.row_start.Given as goal
+
+-- the tokens that are left, before here, start where all start before the end
+abbrev pub invariant-loop-token : goal.invariant-loop-token
+invariant-loop-token g l =
+    let words = (g.L.Leaves.text l.leaves).words in
+    let most = g.L.Leaves.most l.leaves in
+    record {
+      answer : row_start words l.rest (Some l.at) ≡ row_start words l.tokens (Some l.end);
+      cost : l.steps + length l.rest * most ≤ l.fn.steps + length l.tokens * most;
+    }
+
+abbrev pub decreases-loop-token : goal.decreases-loop-token
+decreases-loop-token g l = length l.rest
