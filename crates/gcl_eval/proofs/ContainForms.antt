@@ -1,0 +1,70 @@
+-- A containment by its kind and its two operands: its form, its list, its cost.
+use Rattle.std.proofs.Common.{◌≡◌, ℕ, ◌+◌, ◌*◌, ◌<◌, ◌≤◌, ◌^◌, min, List, length, Option, Some, None, IfSome, refl, sym, ap, ◌∙◌, subst, arith, filter}
+use Rattle.gcl_model.specs.Extents.{Extent}
+use Rattle.gcl_model.specs.Texts.{Text, IsText}
+use Rattle.gcl_model.specs.Forms.{Form, containing, contained_in, not_containing, not_contained_in}
+use Rattle.gcl_model.specs.WellFormed.{IsWellFormed}
+use Rattle.gcl_model.specs.Meaning.{concordance}
+use Rattle.gcl_model.specs.Cost.{cost, turns_cost}
+use Rattle.gcl_contain.proofs.Nodes.{containing_list, contained_in_list, not_containing_list, not_contained_in_list}
+use Rattle.gcl_eval.specs.OfTerms.{IsOfTerms}
+use Rattle.gcl_eval.specs.Containments.{contain_form, loop_of}
+use Rattle.gcl_eval.specs.Directions.{access_of}
+use Rattle.gcl_eval.specs.declared.containment.Containment.{Containment}
+use Rattle.gcl_eval.specs.declared.containment.Containment.TheVariants.{Containing, ContainedIn, NotContaining, NotContainedIn}
+use Rattle.gcl_eval.specs.declared.direction.Access.{Access}
+use Rattle.gcl_eval.specs.declared.direction.Direction.{Direction}
+use Rattle.gcl_eval.specs.declared.direction.Direction.TheVariants.{Forward, Backward}
+use Rattle.gcl_eval.proofs.Found.{access_gives, member_of_text}
+use Rattle.gcl_eval.proofs.OperandLemmas.{IsOperand}
+use Rattle.gcl_eval.proofs.Containments.{IsKept, IsWithin}
+
+-- both operands can be evaluated
+pub record AreBothOperands (a b : Form) : Type 0 where
+  pub first : IsOperand a
+  pub second : IsOperand b
+
+parts : (containment : Containment) (a b : Form) → IsWellFormed (contain_form containment a b) → IsOfTerms (contain_form containment a b) → AreBothOperands a b
+parts Containing a b w t = record { first = record { well_formed = w.0; of_terms = t.0 }; second = record { well_formed = w.1; of_terms = t.1 } }
+parts ContainedIn a b w t = record { first = record { well_formed = w.0; of_terms = t.0 }; second = record { well_formed = w.1; of_terms = t.1 } }
+parts NotContaining a b w t = record { first = record { well_formed = w.0; of_terms = t.0 }; second = record { well_formed = w.1; of_terms = t.1 } }
+parts NotContainedIn a b w t = record { first = record { well_formed = w.0; of_terms = t.0 }; second = record { well_formed = w.1; of_terms = t.1 } }
+
+kept : (containment : Containment) (text : Text) (a b : Form) (direction : Direction) → concordance text (contain_form containment a b) ≡ filter ((loop_of direction containment).keeps (concordance text b)) (concordance text a)
+kept Containing text a b Forward = containing_list text a b
+kept Containing text a b Backward = containing_list text a b
+kept ContainedIn text a b Forward = contained_in_list text a b
+kept ContainedIn text a b Backward = contained_in_list text a b
+kept NotContaining text a b Forward = not_containing_list text a b
+kept NotContaining text a b Backward = not_containing_list text a b
+kept NotContainedIn text a b Forward = not_contained_in_list text a b
+kept NotContainedIn text a b Backward = not_contained_in_list text a b
+
+costs : (containment : Containment) (text : Text) (bound : ℕ) (a b : Form) → cost text bound (contain_form containment a b) ≡ turns_cost text a b (cost text bound a) (cost text bound b)
+costs Containing text bound a b = refl
+costs ContainedIn text bound a b = refl
+costs NotContaining text bound a b = refl
+costs NotContainedIn text bound a b = refl
+
+module _ (containment : Containment) (e a b : Form) (is : e ≡ contain_form containment a b) where
+  pub both_operands : IsWellFormed e → IsOfTerms e → AreBothOperands a b
+  both_operands w t = parts containment a b (subst IsWellFormed is w) (subst IsOfTerms is t)
+
+  pub contain_kept : (text : Text) → IsKept containment (concordance text a) (concordance text b) (concordance text e)
+  contain_kept text = λ direction. ap (concordance text) is ∙ kept containment text a b direction
+
+  pub contain_cost : (text : Text) (bound : ℕ) → cost text bound e ≡ turns_cost text a b (cost text bound a) (cost text bound b)
+  contain_cost text bound = ap (cost text bound) is ∙ costs containment text bound a b
+
+-- what an access gives lies within the addresses
+pub access_spans : (access : Access) (text : Text) (form : Form) (k : ℕ) (o : Option Extent) → IsText text → o ≡ access_of access (concordance text form) k → IfSome o IsWithin
+access_spans access text form k None sound is = tt
+access_spans access text form k (Some a) sound is =
+    let of = member_of_text text form a (access_gives access (concordance text form) k a (sym is)) in
+    let below : a.end < text.next = of.below in
+    let bound : text.next ≤ 2 ^ 48 = sound.in_range in
+    record { proper = of.proper; below = omega arith }
+
+pub spans_below : (o : Option Extent) → IfSome o IsWithin → IfSome o (λ b. b.end < 2 ^ 62)
+spans_below None w = tt
+spans_below (Some b) w = let v : IsWithin b = w in let x : b.end < 2 ^ 48 = v.below in omega arith

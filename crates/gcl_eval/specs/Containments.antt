@@ -1,0 +1,39 @@
+-- The containments: their forms, and the loop that answers their accesses in a direction.
+use Rattle.std.specs.Prelude.{ℕ, List, Option}
+use Rattle.gcl_model.specs.Extents.{Extent}
+use Rattle.gcl_model.specs.Forms.{Form, containing, contained_in, not_containing, not_contained_in}
+use Rattle.gcl_contain.specs.Kinds.{Kind, first_from, last_upto}
+use Rattle.gcl_contain.specs.Kinds as Kinds
+use Rattle.gcl_eval.specs.declared.containment.Containment.{Containment}
+use Rattle.gcl_eval.specs.declared.containment.Containment.TheVariants.{Containing, ContainedIn, NotContaining, NotContainedIn}
+use Rattle.gcl_eval.specs.declared.direction.Direction.{Direction}
+use Rattle.gcl_eval.specs.declared.direction.Direction.TheVariants.{Forward, Backward}
+
+abbrev pub contain_form : Containment → Form → Form → Form
+contain_form Containing = containing
+contain_form ContainedIn = contained_in
+contain_form NotContaining = not_containing
+contain_form NotContainedIn = not_contained_in
+
+abbrev pub IsContainment : Form → Type 0
+IsContainment (containing a b) = Unit {0}
+IsContainment (contained_in a b) = Unit {0}
+IsContainment (not_containing a b) = Unit {0}
+IsContainment (not_contained_in a b) = Unit {0}
+IsContainment _ = ⊥
+
+-- which members the loop keeps, by which end it goes through the first operand, what it asks of the second, and its move
+abbrev pub loop_of : Direction → Containment → Kind
+loop_of Forward Containing = Kinds.containing
+loop_of Forward ContainedIn = Kinds.contained_in
+loop_of Forward NotContaining = Kinds.not_containing
+loop_of Forward NotContainedIn = Kinds.not_contained_in
+loop_of Backward Containing = Kinds.containing_back
+loop_of Backward ContainedIn = Kinds.contained_in_back
+loop_of Backward NotContaining = Kinds.not_containing_back
+loop_of Backward NotContainedIn = Kinds.not_contained_in_back
+
+-- the access of the first operand by which the loop goes on
+abbrev pub goes_by : Direction → Kind → List Extent → ℕ → Option Extent
+goes_by Forward = first_from
+goes_by Backward = last_upto

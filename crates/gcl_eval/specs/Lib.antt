@@ -1,0 +1,5 @@
+pub mod OfTerms
+pub mod Operands
+pub mod Directions
+pub mod Sources
+pub mod Containments

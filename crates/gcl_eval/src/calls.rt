@@ -1,0 +1,75 @@
+ghost use Rattle.std.specs.Prelude.{◌≡◌, ◌+◌, ◌<◌, ◌≤◌, ◌^◌};
+ghost use Rattle.gcl_model.specs.FormOf.{form_of};
+ghost use Rattle.gcl_model.specs.Meaning.{concordance};
+ghost use Rattle.gcl_model.specs.Access.{first_start, first_end, last_end, last_start};
+ghost use Rattle.gcl_model.specs.Cost.{cost};
+ghost use Rattle.gcl_model.specs.WellFormed.{IsWellFormed};
+ghost use Rattle.gcl_eval.specs.OfTerms.{IsOfTerms};
+
+use crate::access::access;
+use crate::direction::Access;
+use gcl_model::{Expr, Interval, Leaves, Ledger, Steps};
+
+/// The first member that starts at or after `k`.
+pub fn first_start<L: Leaves, S: Ledger>(
+    expr: &Expr,
+    leaves: &L,
+    k: u64,
+    steps: &mut Steps<S>,
+) -> Option<Interval>
+    requires well_formed { IsWellFormed (form_of expr.now) }
+    requires of_terms { IsOfTerms (form_of expr.now) }
+    requires below { k < 2 ^ 62 }
+    ensures answer { result ≡ first_start (concordance (L.text leaves.now) (form_of expr.now)) k }
+    ensures cost { steps.new ≤ steps.old + cost (L.text leaves.now) (L.most leaves.now) (form_of expr.now) }
+{
+    access(expr, Access::FirstStart, leaves, leaves.span(), k, steps)
+}
+
+/// The first member that ends at or after `k`.
+pub fn first_end<L: Leaves, S: Ledger>(
+    expr: &Expr,
+    leaves: &L,
+    k: u64,
+    steps: &mut Steps<S>,
+) -> Option<Interval>
+    requires well_formed { IsWellFormed (form_of expr.now) }
+    requires of_terms { IsOfTerms (form_of expr.now) }
+    requires below { k < 2 ^ 62 }
+    ensures answer { result ≡ first_end (concordance (L.text leaves.now) (form_of expr.now)) k }
+    ensures cost { steps.new ≤ steps.old + cost (L.text leaves.now) (L.most leaves.now) (form_of expr.now) }
+{
+    access(expr, Access::FirstEnd, leaves, leaves.span(), k, steps)
+}
+
+/// The last member that ends at or before `k`.
+pub fn last_end<L: Leaves, S: Ledger>(
+    expr: &Expr,
+    leaves: &L,
+    k: u64,
+    steps: &mut Steps<S>,
+) -> Option<Interval>
+    requires well_formed { IsWellFormed (form_of expr.now) }
+    requires of_terms { IsOfTerms (form_of expr.now) }
+    requires below { k < 2 ^ 62 }
+    ensures answer { result ≡ last_end (concordance (L.text leaves.now) (form_of expr.now)) k }
+    ensures cost { steps.new ≤ steps.old + cost (L.text leaves.now) (L.most leaves.now) (form_of expr.now) }
+{
+    access(expr, Access::LastEnd, leaves, leaves.span(), k, steps)
+}
+
+/// The last member that starts at or before `k`.
+pub fn last_start<L: Leaves, S: Ledger>(
+    expr: &Expr,
+    leaves: &L,
+    k: u64,
+    steps: &mut Steps<S>,
+) -> Option<Interval>
+    requires well_formed { IsWellFormed (form_of expr.now) }
+    requires of_terms { IsOfTerms (form_of expr.now) }
+    requires below { k < 2 ^ 62 }
+    ensures answer { result ≡ last_start (concordance (L.text leaves.now) (form_of expr.now)) k }
+    ensures cost { steps.new ≤ steps.old + cost (L.text leaves.now) (L.most leaves.now) (form_of expr.now) }
+{
+    access(expr, Access::LastStart, leaves, leaves.span(), k, steps)
+}

@@ -1,0 +1,98 @@
+ghost use Rattle.std.specs.Prelude.{◌≡◌, ◌<◌, ◌^◌, List, IfSome};
+ghost use Rattle.gcl_model.specs.declared.expr.Expr.{size-Expr};
+ghost use Rattle.gcl_model.specs.Extents.{Extent};
+ghost use Rattle.gcl_model.specs.FormOf.{form_of};
+ghost use Rattle.gcl_contain.specs.Moves.{move_of};
+ghost use Rattle.gcl_eval.specs.Directions.{access_of};
+ghost use Rattle.gcl_eval.specs.Containments.{IsContainment, contain_form, loop_of, goes_by};
+
+use crate::direction::{Access, Direction};
+use gcl_contain::{
+    Turn, has_turn, has_turn_back, in_turn, in_turn_back, not_has_turn, not_has_turn_back,
+    not_in_turn, not_in_turn_back,
+};
+use gcl_model::{Expr, Interval};
+
+/// One of the four kinds that keep members of a first operand by those of a second.
+#[derive(Clone, Copy)]
+pub(crate) enum Containment {
+    Containing,
+    ContainedIn,
+    NotContaining,
+    NotContainedIn,
+}
+
+/// The kind of a containment, and its first and its second operand.
+pub(crate) fn operands(expr: &Expr) -> (Containment, &Expr, &Expr)
+    requires { IsContainment (form_of expr.now) }
+    ensures form { form_of expr.now ≡ contain_form result.0 (form_of result.1.now) (form_of result.2.now) }
+    ensures first { size-Expr result.1.now < size-Expr expr.now }
+    ensures second { size-Expr result.2.now < size-Expr expr.now }
+{
+    match expr {
+        Expr::Containing(a, b) => (Containment::Containing, a, b),
+        Expr::ContainedIn(a, b) => (Containment::ContainedIn, a, b),
+        Expr::NotContaining(a, b) => (Containment::NotContaining, a, b),
+        Expr::NotContainedIn(a, b) => (Containment::NotContainedIn, a, b),
+        _ => unreachable!(),
+    }
+}
+
+impl Containment {
+    /// The access by which the loop goes through the first operand.
+    pub(crate) fn goes_by(self, direction: Direction) -> Access
+        ensures { access_of result ≡ goes_by direction (loop_of direction self) }
+    {
+        match (direction, self) {
+            (Direction::Forward, Containment::Containing) => Access::FirstEnd,
+            (Direction::Forward, Containment::ContainedIn) => Access::FirstStart,
+            (Direction::Forward, Containment::NotContaining) => Access::FirstStart,
+            (Direction::Forward, Containment::NotContainedIn) => Access::FirstEnd,
+            (Direction::Backward, Containment::Containing) => Access::LastStart,
+            (Direction::Backward, Containment::ContainedIn) => Access::LastEnd,
+            (Direction::Backward, Containment::NotContaining) => Access::LastEnd,
+            (Direction::Backward, Containment::NotContainedIn) => Access::LastStart,
+        }
+    }
+
+    /// What the loop asks of the second operand at a member of the first: an access and its position.
+    pub(crate) fn question(self, direction: Direction, member: Interval) -> (Access, u64)
+        requires { member.end < 2 ^ 48 }
+        ensures asks { (list : List Extent) → access_of result.0 list result.1 ≡ (loop_of direction self).ask list member }
+        ensures below { result.1 < 2 ^ 62 }
+    {
+        match (direction, self) {
+            (Direction::Forward, Containment::Containing) => (Access::FirstStart, member.start),
+            (Direction::Forward, Containment::ContainedIn) => (Access::FirstEnd, member.end),
+            (Direction::Forward, Containment::NotContaining) => (Access::FirstStart, member.start),
+            (Direction::Forward, Containment::NotContainedIn) => (Access::FirstEnd, member.end),
+            (Direction::Backward, Containment::Containing) => (Access::LastEnd, member.end),
+            (Direction::Backward, Containment::ContainedIn) => (Access::LastStart, member.start),
+            (Direction::Backward, Containment::NotContaining) => (Access::LastEnd, member.end),
+            (Direction::Backward, Containment::NotContainedIn) => (Access::LastStart, member.start),
+        }
+    }
+
+    /// What the loop does at a member of the first operand, by the second operand's answer there.
+    pub(crate) fn turn(
+        self,
+        direction: Direction,
+        member: Interval,
+        answer: Option<Interval>,
+    ) -> Turn
+        requires member_below { member.end < 2 ^ 62 }
+        requires answer_below { IfSome answer (λ b. b.end < 2 ^ 62) }
+        ensures { move_of result ≡ (loop_of direction self).move member answer }
+    {
+        match (direction, self) {
+            (Direction::Forward, Containment::Containing) => has_turn(member, answer),
+            (Direction::Forward, Containment::ContainedIn) => in_turn(member, answer),
+            (Direction::Forward, Containment::NotContaining) => not_has_turn(member, answer),
+            (Direction::Forward, Containment::NotContainedIn) => not_in_turn(member, answer),
+            (Direction::Backward, Containment::Containing) => has_turn_back(member, answer),
+            (Direction::Backward, Containment::ContainedIn) => in_turn_back(member, answer),
+            (Direction::Backward, Containment::NotContaining) => not_has_turn_back(member, answer),
+            (Direction::Backward, Containment::NotContainedIn) => not_in_turn_back(member, answer),
+        }
+    }
+}
