@@ -1,0 +1,4 @@
+pub mod TableLaws
+pub mod ShardWords
+pub mod Walks
+mod Worked

@@ -1,0 +1,2 @@
+pub mod Searches
+mod Worked

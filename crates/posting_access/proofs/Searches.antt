@@ -1,0 +1,153 @@
+-- A look-up in a rising list, by the block that decides.
+use Rattle.std.proofs.Common.{◌≡◌, ℕ, zero, suc, ◌+◌, ◌-◌, ◌*◌, ◌^◌, ◌<◌, ◌≤◌, Bool, true, false, cond, leb, List, [], ◌∷◌, ◌++◌, length, take, drop, get_or, reverse, find, nat_le, Option, Some, None, refl, sym, ap, ◌∙◌, arith}
+use Rattle.std.specs.List.{slice_get}
+use Rattle.std.specs.Option.{option_or}
+use Rattle.std.proofs.lemmas.Bool.{le-leb, lt-leb}
+use Rattle.std.proofs.lemmas.List.{take-append-drop, drop-drop, length-drop, length-take, get_or-take, get_or-drop, reverse-append}
+use Rattle.std.proofs.lemmas.List.Folds.{find-append}
+use Rattle.gcl_model.specs.Access.{later_or, find_last}
+use Rattle.posting_code.specs.Postings.{RiseWithin, ArePostings, blocks_of, block_of}
+use Rattle.posting_code.proofs.Rising.{rise_index}
+use Rattle.posting_access.specs.Search.{least_from, greatest_to}
+
+later_or-none : {X : Type 0} (o : Option X) → later_or o None ≡ o
+later_or-none None = refl
+later_or-none (Some x) = refl
+
+later_or-assoc : {X : Type 0} (a b c : Option X) → later_or a (later_or b c) ≡ later_or (later_or a b) c
+later_or-assoc None b c = refl
+later_or-assoc (Some x) b c = refl
+
+later_or-option_or : {X : Type 0} (a : Option X) (b : Bool) (x : X) → option_or a (cond b (Some x) None) ≡ later_or a (cond b (Some x) None)
+later_or-option_or None b x = refl
+later_or-option_or (Some y) b x = refl
+
+pub find_last-append : {X : Type 0} (p : X → Bool) (xs ys : List X) → find_last p (xs ++ ys) ≡ later_or (find_last p ys) (find_last p xs)
+find_last-append p [] ys = sym (later_or-none (find_last p ys))
+find_last-append p (x ∷ xs) ys =
+    ap (λ o. later_or o (cond (p x) (Some x) None)) (find_last-append p xs ys)
+    ∙ sym (later_or-assoc (find_last p ys) (find_last p xs) (cond (p x) (Some x) None))
+
+-- the first from the back is the last
+pub find-reverse : {X : Type 0} (p : X → Bool) (xs : List X) → find p (reverse xs) ≡ find_last p xs
+find-reverse p [] = refl
+find-reverse p (x ∷ xs) =
+    ap (find p) (reverse-append (x ∷ []) xs)
+    ∙ find-append p (reverse xs) (x ∷ [])
+    ∙ ap (λ o. option_or o (cond (p x) (Some x) None)) (find-reverse p xs)
+    ∙ later_or-option_or (find_last p xs) (p x) x
+
+-- members before one that is at most k can be left out
+least_skips : (low end : ℕ) (xs : List ℕ) (n k : ℕ) → RiseWithin low end xs → n < length xs → get_or xs n 0 ≤ k → least_from xs k ≡ least_from (drop n xs) k
+least_skips low end [] n k r lt le = absurd (omega arith)
+least_skips low end (x ∷ xs) zero k r lt le = refl
+least_skips low end (x ∷ xs) (suc n) k r lt le =
+    let h = rise_index (x + 1) end xs n r.2 (omega arith) in
+    let a = h.0 in
+    let e : leb k x ≡ false = lt-leb k x (omega arith) in
+    rw e (least_skips (x + 1) end xs n k r.2 (omega arith) le)
+
+-- where a member past k comes first, it is the answer
+least_beyond : (xs : List ℕ) (n k : ℕ) → (n < length xs → k < get_or xs n 0) → least_from (drop n xs) k ≡ slice_get xs n
+least_beyond [] zero k after = refl
+least_beyond [] (suc n) k after = refl
+least_beyond (x ∷ xs) zero k after = let lt = after (omega arith) in let e : leb k x ≡ true = le-leb k x (omega arith) in rw e refl
+least_beyond (x ∷ xs) (suc n) k after = least_beyond xs n k (λ lt. after (omega arith))
+
+greatest_none : (low end : ℕ) (xs : List ℕ) (k : ℕ) → RiseWithin low end xs → k < low → greatest_to xs k ≡ None
+greatest_none low end [] k r lt = refl
+greatest_none low end (x ∷ xs) k r lt =
+    let a = r.0 in
+    let e : leb x k ≡ false = lt-leb x k (omega arith) in
+    rw (greatest_none (x + 1) end xs k r.2 (omega arith), e) refl
+
+greatest_beyond : (low end : ℕ) (xs : List ℕ) (n k : ℕ) → RiseWithin low end xs → (n < length xs → k < get_or xs n 0) → greatest_to (drop n xs) k ≡ None
+greatest_beyond low end [] zero k r after = refl
+greatest_beyond low end [] (suc n) k r after = refl
+greatest_beyond low end (x ∷ xs) zero k r after = let lt = after (omega arith) in greatest_none x end (x ∷ xs) k (omega arith, r.1, r.2) lt
+greatest_beyond low end (x ∷ xs) (suc n) k r after = greatest_beyond (x + 1) end xs n k r.2 (λ lt. after (omega arith))
+
+-- a list whose first member passes has a last one that does
+later_or-some : (a : Option ℕ) (x : ℕ) (o : Option ℕ) → later_or (later_or a (Some x)) o ≡ later_or a (Some x)
+later_or-some None x o = refl
+later_or-some (Some y) x o = refl
+
+greatest_met : (xs : List ℕ) (k : ℕ) (o : Option ℕ) → 0 < length xs → get_or xs 0 0 ≤ k → later_or (greatest_to xs k) o ≡ greatest_to xs k
+greatest_met [] k o lt le = absurd (omega arith)
+greatest_met (x ∷ xs) k o lt le = let e : leb x k ≡ true = le-leb x k le in rw e (later_or-some (greatest_to xs k) x o)
+
+-- how many blocks begin at or before k
+pub record IsNear (xs : List ℕ) (k near : ℕ) : Type 0 where
+  pub rising : ArePostings xs
+  pub within : near ≤ blocks_of xs
+  pub before : 0 < near → get_or xs (64 * (near - 1)) 0 ≤ k
+  pub after : near < blocks_of xs → k < get_or xs (64 * near) 0
+
+block_exists : (xs : List ℕ) (n : ℕ) → 64 * n < length xs → n < blocks_of xs
+block_exists xs n lt = omega arith
+
+block_begins : (xs : List ℕ) (n : ℕ) → n < blocks_of xs → 64 * n < length xs
+block_begins xs n lt = omega arith
+
+least_at_near : (xs : List ℕ) (k near : ℕ) → IsNear xs k near → least_from (drop (64 * near) xs) k ≡ slice_get xs (64 * near)
+least_at_near xs k near i = least_beyond xs (64 * near) k (λ lt. i.after (block_exists xs near lt))
+
+-- no block begins at or before k
+pub least_first : (xs : List ℕ) (k : ℕ) → IsNear xs k 0 → least_from xs k ≡ slice_get xs 0
+least_first xs k i = least_at_near xs k 0 i
+
+-- the least is in the last block that begins at or before k, or else begins the next one
+least_near : (xs : List ℕ) (k last near : ℕ) → IsNear xs k near → near ≡ last + 1 →
+    least_from xs k ≡ option_or (least_from (block_of xs last) k) (slice_get xs (64 * near))
+least_near xs k last near i is =
+    let exists : last < blocks_of xs = let w = i.within in omega arith in
+    let back : near - 1 ≡ last = omega arith in
+    let before : get_or xs (64 * last) 0 ≤ k = let b = i.before (omega arith) in let b = rw back at b in b in
+    let next : 64 * last + 64 ≡ 64 * near = omega arith in
+    let behind = drop (64 * last) xs in
+    let parts : take 64 behind ++ drop 64 behind ≡ behind = take-append-drop 64 behind in
+    let rest : drop 64 behind ≡ drop (64 * near) xs = drop-drop 64 (64 * last) xs ∙ ap (λ n. drop n xs) next in
+    least_skips 0 (2 ^ 48) xs (64 * last) k i.rising (block_begins xs last exists) before
+    ∙ ap (λ ys. least_from ys k) (sym parts)
+    ∙ find-append (λ p. nat_le k p) (take 64 behind) (drop 64 behind)
+    ∙ ap (λ ys. option_or (least_from (block_of xs last) k) (least_from ys k)) rest
+    ∙ ap (λ o. option_or (least_from (block_of xs last) k) o) (least_at_near xs k near i)
+
+pub least_found : (xs : List ℕ) (k last near x : ℕ) → IsNear xs k near → near ≡ last + 1 → Some x ≡ least_from (block_of xs last) k → Some x ≡ least_from xs k
+least_found xs k last near x i is e = sym (least_near xs k last near i is ∙ ap (λ o. option_or o (slice_get xs (64 * near))) (sym e))
+
+pub least_not_found : (xs : List ℕ) (k last near : ℕ) → IsNear xs k near → near ≡ last + 1 → None ≡ least_from (block_of xs last) k → least_from xs k ≡ slice_get xs (64 * near)
+least_not_found xs k last near i is e = least_near xs k last near i is ∙ ap (λ o. option_or o (slice_get xs (64 * near))) (sym e)
+
+-- no member is at most k
+pub greatest_first : (xs : List ℕ) (k : ℕ) → IsNear xs k 0 → greatest_to xs k ≡ None
+greatest_first xs k i = greatest_beyond 0 (2 ^ 48) xs 0 k i.rising (λ lt. i.after (block_exists xs 0 (omega arith)))
+
+-- the greatest is in the last block that begins at or before k
+pub greatest_near : (xs : List ℕ) (k last near : ℕ) → IsNear xs k near → near ≡ last + 1 → greatest_to xs k ≡ greatest_to (block_of xs last) k
+greatest_near xs k last near i is =
+    let exists : last < blocks_of xs = let w = i.within in omega arith in
+    let begins : 64 * last < length xs = block_begins xs last exists in
+    let back : near - 1 ≡ last = omega arith in
+    let before : get_or xs (64 * last) 0 ≤ k = let b = i.before (omega arith) in let b = rw back at b in b in
+    let next : 64 * last + 64 ≡ 64 * near = omega arith in
+    let front = take (64 * last) xs in
+    let behind = drop (64 * last) xs in
+    let whole : front ++ behind ≡ xs = take-append-drop (64 * last) xs in
+    let parts : take 64 behind ++ drop 64 behind ≡ behind = take-append-drop 64 behind in
+    let rest : drop 64 behind ≡ drop (64 * near) xs = drop-drop 64 (64 * last) xs ∙ ap (λ n. drop n xs) next in
+    let none : greatest_to (drop 64 behind) k ≡ None =
+    ap (λ ys. greatest_to ys k) rest ∙ greatest_beyond 0 (2 ^ 48) xs (64 * near) k i.rising (λ lt. i.after (block_exists xs near lt)) in
+    let block : greatest_to behind k ≡ greatest_to (take 64 behind) k =
+    ap (λ ys. greatest_to ys k) (sym parts)
+    ∙ find_last-append (λ p. nat_le p k) (take 64 behind) (drop 64 behind)
+    ∙ ap (λ o. later_or o (greatest_to (take 64 behind) k)) none in
+    let some : 0 < length (take 64 behind) = let a = length-take 64 behind in let b = length-drop (64 * last) xs in omega (arith, a, b) in
+    let same : 64 * last + 0 ≡ 64 * last = omega arith in
+    let head : get_or (take 64 behind) 0 0 ≡ get_or xs (64 * last) 0 =
+    get_or-take 64 behind 0 0 (omega arith) ∙ get_or-drop (64 * last) xs 0 0 ∙ ap (λ n. get_or xs n 0) same in
+    let low : get_or (take 64 behind) 0 0 ≤ k = omega (arith, head, before) in
+    ap (λ ys. greatest_to ys k) (sym whole)
+    ∙ find_last-append (λ p. nat_le p k) front behind
+    ∙ ap (λ o. later_or o (greatest_to front k)) block
+    ∙ greatest_met (take 64 behind) k (greatest_to front k) some low

@@ -1,0 +1,22 @@
+-- Look-ups, computed.
+use Rattle.std.proofs.Common.{◌≡◌, [], ◌∷◌, Some, None, refl}
+use Rattle.posting_access.specs.Search.{least_from, greatest_to}
+
+-- between two members, at a member, and past the last
+least_from-between : least_from (2 ∷ 5 ∷ 9 ∷ []) 3 ≡ Some 5
+least_from-between = refl
+
+least_from-met : least_from (2 ∷ 5 ∷ 9 ∷ []) 9 ≡ Some 9
+least_from-met = refl
+
+least_from-past : least_from (2 ∷ 5 ∷ 9 ∷ []) 10 ≡ None
+least_from-past = refl
+
+greatest_to-between : greatest_to (2 ∷ 5 ∷ 9 ∷ []) 3 ≡ Some 2
+greatest_to-between = refl
+
+greatest_to-met : greatest_to (2 ∷ 5 ∷ 9 ∷ []) 5 ≡ Some 5
+greatest_to-met = refl
+
+greatest_to-before : greatest_to (2 ∷ 5 ∷ 9 ∷ []) 1 ≡ None
+greatest_to-before = refl

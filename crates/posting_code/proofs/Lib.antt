@@ -1,0 +1,2 @@
+pub mod Rising
+mod Worked

@@ -1,0 +1,22 @@
+-- Words grouped by their tokens.
+use Rattle.std.specs.Prelude.{ℕ, List, [], ◌∷◌, map, Option, None, Some}
+use denote.Ref.{Bor}
+use Rattle.gcl_model.specs.Texts.{Word, places}
+use Rattle.index_shard.specs.Tables.{TermEntry}
+
+-- a list that is not empty
+abbrev pub unless_empty : List ℕ → Option (List ℕ)
+unless_empty [] = None
+unless_empty (p ∷ ps) = Some (p ∷ ps)
+
+-- the places of a token among the words, if it has any
+abbrev pub group_of : List Word → List ℕ → Option (List ℕ)
+group_of words token = unless_empty (places words token)
+
+-- the entries of a map from tokens to lists of addresses
+abbrev pub table_entry : {V : Type 0} → (V → List ℕ) → Bor (List ℕ) × V → TermEntry
+table_entry addresses_of entry = record { term = entry.0.now; addresses = addresses_of entry.1 }
+
+-- the map as the table of a shard
+abbrev pub table_of : {V : Type 0} → (V → List ℕ) → List (Bor (List ℕ) × V) → List TermEntry
+table_of addresses_of entries = map (table_entry addresses_of) entries

@@ -1,0 +1,15 @@
+//! The index of one file.
+//!
+//! Contracts see the tokens of a file between its two boundary tokens, at consecutive addresses. The words of the shard
+//! that `build` makes are these, and its range is these addresses.
+//!
+//! The layer above gives the next free address and a file's tokens. From address 0 on, the shard of `to be or not to be`
+//! has `to` at 1 and 5, and `</file!>` at 7.
+#![tactic(auto)]
+
+mod group;
+mod making;
+#[cfg(test)]
+mod tests;
+
+pub use making::build;
