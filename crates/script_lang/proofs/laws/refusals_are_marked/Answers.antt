@@ -1,0 +1,12 @@
+use Rattle.script_lang.proofs.AnswerLemmas.{file_line-plain, gone_line-plain, interval_line-plain, total_line-plain, record_line-plain, refusal_line-marked}
+use Rattle.script_lang.proofs.laws.refusals_are_marked.Goals as goal
+
+pub returns : goal.returns
+returns c = record {
+  refusal = refusal_line-marked;
+  file = file_line-plain;
+  gone = gone_line-plain;
+  interval = interval_line-plain;
+  total = total_line-plain;
+  listed = record_line-plain;
+}

@@ -1,0 +1,63 @@
+-- The lines of answers, each without its newline.
+use Rattle.std.specs.Prelude.{ℕ, ◌+◌, ◌-◌, ◌==◌, ◌≡◌, Bool, false, List, [], ◌∷◌, ◌++◌, codes, decimal}
+use Rattle.gcl_model.specs.Extents.{Extent}
+use Rattle.address_space.specs.Runs.{FileEntry}
+use Rattle.gcl_parser.specs.declared.fault.QueryFault.{QueryFault}
+use Rattle.gcl_parser.specs.declared.fault.QueryKind.{QueryKind}
+use Rattle.gcl_parser.specs.declared.fault.QueryKind.TheVariants.{OperandExpected, OperatorOrCloseExpected, EmptyTerm, BadWidth, OpenQuote, Character, TooLarge, TooDeep}
+use Rattle.script_lang.specs.declared.refusals.Refusal.{Refusal}
+use Rattle.script_lang.specs.declared.refusals.Refusal.TheVariants.{Command, LongLine, Query, NoFile, TooLong, NoAddresses}
+
+-- "file ID FIRST LAST" of a file that was added
+abbrev pub file_line : ℕ → ℕ → ℕ → List ℕ
+file_line id first last = codes "file " ++ decimal id ++ codes " " ++ decimal first ++ codes " " ++ decimal last
+
+-- "gone ID" of a file that was deleted
+abbrev pub gone_line : ℕ → List ℕ
+gone_line id = codes "gone " ++ decimal id
+
+-- "P Q" of an interval
+abbrev pub interval_line : Extent → List ℕ
+interval_line interval = decimal interval.start ++ codes " " ++ decimal interval.end
+
+-- "= K" of a total
+abbrev pub total_line : ℕ → List ℕ
+total_line total = codes "= " ++ decimal total
+
+-- "ID FIRST LAST NAME" of a surviving file
+abbrev pub record_line : FileEntry → List ℕ
+record_line file = decimal file.id ++ codes " " ++ decimal file.base ++ codes " " ++ decimal (file.base + file.len - 1) ++ codes " " ++ file.name
+
+-- what is wrong with a query, in words
+abbrev pub kind_text : QueryKind → List ℕ
+kind_text OperandExpected = codes "operand expected"
+kind_text OperatorOrCloseExpected = codes "operator or close expected"
+kind_text EmptyTerm = codes "empty term"
+kind_text BadWidth = codes "bad width"
+kind_text OpenQuote = codes "open quote"
+kind_text Character = codes "character"
+kind_text TooLarge = codes "too large"
+kind_text TooDeep = codes "too deep"
+
+-- "! query at N: KIND"
+abbrev pub query_line : QueryFault → List ℕ
+query_line fault = codes "! query at " ++ decimal fault.at ++ codes ": " ++ kind_text fault.kind
+
+-- the line of a refusal
+abbrev pub refusal_line : Refusal → List ℕ
+refusal_line Command = codes "! command"
+refusal_line LongLine = codes "! long line"
+refusal_line (Query fault) = query_line fault
+refusal_line (NoFile id) = codes "! no file " ++ decimal id
+refusal_line TooLong = codes "! file too long"
+refusal_line NoAddresses = codes "! no addresses"
+
+-- the line begins with an exclamation mark
+abbrev pub is_refusal : List ℕ → Bool
+is_refusal [] = false
+is_refusal (b ∷ rest) = b == 33
+
+-- the new bytes begin with the old ones
+pub record Grows (old new : List ℕ) : Type 0 where
+  pub more : List ℕ
+  pub is : new ≡ old ++ more

@@ -1,0 +1,5 @@
+pub mod Blanks
+pub mod Lines
+pub mod Numbers
+pub mod Commands
+pub mod Answers

@@ -1,0 +1,31 @@
+//! The language of scripts: lines, commands, and the text of each answer.
+//!
+//! Contracts see a `Command` by its variants, with bytes as lists and numbers as numbers. What the lines of a text are,
+//! what command a line is, and what the line of each answer says, are the definitions in `specs/`.
+//!
+//! The layers above cut a script by `line_at`, read each line by `command`, and append answers by the `put_` calls.
+//! No answer begins with an exclamation mark but a refusal, and each refusal does (`refusals_are_marked`). Of
+//! `"  del 007\r\nfiles"` the first line is `del 007`, the command is `Del(7)`, and its answer may be `gone 7`.
+#![tactic(auto)]
+
+mod blanks;
+mod commands;
+mod grammar;
+mod laws;
+mod line_cut;
+mod lines;
+mod numbers;
+mod put;
+mod refusals;
+
+pub use commands::Command;
+pub use grammar::command;
+pub use laws::refusals_are_marked;
+pub use line_cut::LineCut;
+pub use lines::line_at;
+pub use numbers::number_of;
+pub use put::{put_file, put_gone, put_interval, put_record, put_refusal, put_total};
+pub use refusals::Refusal;
+
+#[cfg(test)]
+mod tests;

@@ -1,0 +1,18 @@
+use gcl_parser::QueryFault;
+
+/// Why a line is refused.
+#[derive(Clone, Copy, Debug, PartialEq, Eq)]
+pub enum Refusal {
+    /// The line is no command.
+    Command,
+    /// The line has more bytes than a line may have.
+    LongLine,
+    /// The text of a query is none, from this place on.
+    Query(QueryFault),
+    /// No surviving file has this id.
+    NoFile(u64),
+    /// A file has more bytes than it may have.
+    TooLong,
+    /// A file needs addresses at or above 2^48.
+    NoAddresses,
+}

@@ -1,0 +1,146 @@
+use crate::{
+    Command, LineCut, Refusal, command, line_at, put_file, put_gone, put_interval, put_record,
+    put_refusal, put_total,
+};
+use address_space::{FileId, FileRecord};
+use gcl_model::{Bytes, Interval};
+use std::test::Fail;
+
+fn cut(from: usize, to: usize, after: usize) -> Option<LineCut> {
+    Some(LineCut {
+        from,
+        to,
+        after,
+        long: false,
+    })
+}
+
+fn long_cut(at: usize, after: usize) -> Option<LineCut> {
+    Some(LineCut {
+        from: at,
+        to: at,
+        after,
+        long: true,
+    })
+}
+
+#[test]
+fn lines_lose_a_return_and_outer_blanks_and_may_be_long(rt: HostRuntime) {
+    let cases: [(&[u8], usize, usize, Option<LineCut>); 14] = [
+        (b"", 0, 5, None),
+        (b"a\n", 2, 5, None),
+        (b"\n", 0, 5, cut(0, 0, 1)),
+        (b"ab\ncd", 0, 5, cut(0, 2, 3)),
+        (b"ab\ncd", 3, 5, cut(3, 5, 5)),
+        (b"a\r\n", 0, 5, cut(0, 1, 3)),
+        (b"a\r\r\n", 0, 5, cut(0, 2, 4)),
+        (b"\t a\t\n", 0, 5, cut(2, 3, 5)),
+        (b" \t \n", 0, 5, cut(0, 0, 4)),
+        (b"12345\n", 0, 5, cut(0, 5, 6)),
+        (b"123456\n7", 0, 5, long_cut(0, 7)),
+        (b"a\n123456", 2, 5, long_cut(2, 8)),
+        (b" \ta b\t\r\n", 0, 7, cut(2, 5, 8)),
+        (b" \ta b\t\r\n", 0, 6, long_cut(0, 8)),
+    ];
+    for (bytes, at, most, want) in cases {
+        assert!(rt; at <= bytes.len());
+        assert_eq!(rt; line_at(bytes, at, most), want, "{bytes:?} from {at}");
+    }
+}
+
+// A command as a word, a number and bytes, to compare it with.
+fn parts<'a>(command: &'a Command) -> (&'static str, u64, &'a [u8]) {
+    match command {
+        Command::Blank => ("blank", 0, &[]),
+        Command::Add(name) => ("add", 0, name.as_slice()),
+        Command::Del(id) => ("del", *id, &[]),
+        Command::Find(query) => ("find", 0, query.as_slice()),
+        Command::Count(query) => ("count", 0, query.as_slice()),
+        Command::Top(most, query) => ("top", *most, query.as_slice()),
+        Command::Files => ("files", 0, &[]),
+        Command::Merge => ("merge", 0, &[]),
+        Command::Shards => ("shards", 0, &[]),
+        Command::Save(name) => ("save", 0, name.as_slice()),
+        Command::Load(name) => ("open", 0, name.as_slice()),
+        Command::Wrong => ("wrong", 0, &[]),
+    }
+}
+
+#[test]
+fn each_command_takes_its_argument_and_no_other(rt: HostRuntime) -> Result<(), Fail> {
+    let cases: [(&[u8], &str, u64, &[u8]); 32] = [
+        (b"", "blank", 0, b""),
+        (b"add a.txt", "add", 0, b"a.txt"),
+        (b"add\t a b", "add", 0, b"a b"),
+        (b"add", "wrong", 0, b""),
+        (b"add a\x01b", "wrong", 0, b""),
+        (b"add \xff", "wrong", 0, b""),
+        (b"add a ", "wrong", 0, b""),
+        (b"del 7", "del", 7, b""),
+        (b"del 007", "del", 7, b""),
+        (
+            b"del 999999999999999999",
+            "del",
+            999_999_999_999_999_999,
+            b"",
+        ),
+        (b"del 0000000000000000007", "wrong", 0, b""),
+        (b"del -7", "wrong", 0, b""),
+        (b"del 7 8", "wrong", 0, b""),
+        (b"find \"to\"..\"be\"", "find", 0, b"\"to\"..\"be\""),
+        (b"find", "find", 0, b""),
+        (b"find\"to\"", "wrong", 0, b""),
+        (b"count  [3]", "count", 0, b"[3]"),
+        (b"count", "count", 0, b""),
+        (b"top 2 \"to\"", "top", 2, b"\"to\""),
+        (b"top 2\t", "top", 2, b""),
+        (b"top 2", "top", 2, b""),
+        (b"top", "wrong", 0, b""),
+        (b"top \"to\"", "wrong", 0, b""),
+        (b"top 2\"to\"", "wrong", 0, b""),
+        (b"files", "files", 0, b""),
+        (b"files x", "wrong", 0, b""),
+        (b"merge", "merge", 0, b""),
+        (b"shards", "shards", 0, b""),
+        (b"save a.gcl", "save", 0, b"a.gcl"),
+        (b"save", "wrong", 0, b""),
+        (b"open a.gcl", "open", 0, b"a.gcl"),
+        (b"Files", "wrong", 0, b""),
+    ];
+    for (line, word, number, bytes) in cases {
+        let got = command(rt.alloc(), line)?;
+        let got = parts(&got);
+        assert_eq!(rt; got.0, word, "{line:?}");
+        assert_eq!(rt; got.1, number, "{line:?}");
+        assert_eq!(rt; got.2, bytes, "{line:?}");
+    }
+    Ok(())
+}
+
+#[test]
+fn each_answer_is_one_line(rt: HostRuntime) -> Result<(), Fail> {
+    let mut out = Vec::new(rt.alloc());
+    put_file(&mut out, 0, 0, 7)?;
+    put_gone(&mut out, 12)?;
+    put_interval(&mut out, Interval::new(1, 20))?;
+    put_total(&mut out, 0)?;
+    put_record(
+        &mut out,
+        &FileRecord {
+            id: FileId(2),
+            base: 10,
+            len: 2,
+            name: Bytes::copy_of(rt.alloc(), b"a b")?,
+        },
+    )?;
+    put_refusal(&mut out, &Refusal::Command)?;
+    put_refusal(&mut out, &Refusal::LongLine)?;
+    put_refusal(&mut out, &Refusal::NoFile(3))?;
+    put_refusal(&mut out, &Refusal::TooLong)?;
+    put_refusal(&mut out, &Refusal::NoAddresses)?;
+    assert_eq!(rt;
+        out.as_slice(),
+        b"file 0 0 7\ngone 12\n1 20\n= 0\n2 10 11 a b\n! command\n! long line\n! no file 3\n! file too long\n! no addresses\n".as_slice()
+    );
+    Ok(())
+}
