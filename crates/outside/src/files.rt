@@ -1,0 +1,149 @@
+ghost use Rattle.std.specs.Prelude.{◌≡◌, ℕ, List, Option, None, Some, IfSome, IsErrOf, ◌⊎◌};
+ghost use Rattle.std.specs.Option.{option_copied};
+ghost use Rattle.outside.specs.Causes.{HasFileCause};
+ghost use Rattle.outside.specs.Contents.{Contents, Loads, content_of, sure_content_of};
+
+use crate::{FailList, FileError};
+use gcl_model::Bytes;
+use std::alloc::{AllocError, Global};
+
+/// What a load put into the buffer: the whole content, or its first bytes and one more than was asked for.
+#[derive(Clone, Copy, Debug, PartialEq, Eq)]
+pub enum Loaded {
+    /// The whole content, at most as many bytes as were asked for.
+    Whole,
+    /// The content has more bytes than were asked for.
+    Long,
+}
+
+/// Contents by name.
+pub trait Files {
+    /// The content under each name, None where the files don't tell.
+    ghost held: { Self → Option Contents };
+
+    /// How often the files have failed.
+    ghost faults: { Self → ℕ };
+
+    /// Empties `out` and puts the content of a name there, or its first `most + 1` bytes.
+    /// A name that isn't held is a fault.
+    fn load(&mut self, name: &[u8], most: u64, out: &mut Vec<u8>) -> Result<Loaded, FileError>
+        ensures loaded { Loads (held self.old) name.now most result out.new.items }
+        ensures same { held self.new ≡ held self.old }
+        ensures cause { HasFileCause (faults self.old) (faults self.new) result };
+}
+
+// The content of the first entry of that name.
+fn find_content<'a>(held: &'a [(Bytes, Bytes)], name: &[u8]) -> Option<&'a [u8]>
+    ensures { option_copied result ≡ content_of held.now name.now }
+{
+    held.iter()
+        .find(|entry| entry.0.as_slice() == name)
+        .map(|entry| entry.1.as_slice())
+}
+
+// Puts the content, or its first `most + 1` bytes, into an empty buffer.
+fn put_content(content: &[u8], most: u64, out: &mut Vec<u8>) -> Result<Loaded, AllocError>
+    ensures { (contents : Contents) (name : List ℕ) → contents name ≡ Some content.now →
+        Loads (Some contents) name most result out.new.items }
+{
+    out.clear();
+    if content.len() as u64 <= most {
+        out.extend_from_slice(content)?;
+        return Ok(Loaded::Whole);
+    }
+    out.extend_from_slice(&content[..most as usize + 1])?;
+    Ok(Loaded::Long)
+}
+
+/// Files in memory. It fails at the calls with these numbers, counted from 1, and where a name isn't held.
+#[derive(Drop)]
+pub struct MemFiles {
+    held: Vec<(Bytes, Bytes)>,
+    calls: FailList,
+}
+
+impl MemFiles {
+    ghost use Rattle.outside.specs.Plans.{files_plan};
+
+    /// Names and their contents; of two members of one name the first counts. It takes no memory.
+    pub fn new(_alloc: Global, held: Vec<(Bytes, Bytes)>, fails: Vec<u64>) -> Self
+        ensures held { ⟦<MemFiles as Files>⟧.held result ≡ Some (content_of held.items) }
+        ensures plan { files_plan result ≡ record { fails = fails; calls = 0; faults = 0 } }
+    {
+        MemFiles {
+            held,
+            calls: FailList::new(fails),
+        }
+    }
+
+    /// The content under a name, None exactly where it isn't held.
+    pub fn content(&self, name: &[u8]) -> Option<&[u8]>
+        ensures { IfSome (⟦<MemFiles as Files>⟧.held self.now) (λ contents. option_copied result ≡ contents name.now) }
+    {
+        find_content(self.held.as_slice(), name)
+    }
+}
+
+impl Files for MemFiles {
+    ghost use Rattle.outside.specs.Plans.{files_plan, IsDue, IsOneCallLater};
+
+    ghost held = { λ f. Some (content_of f.held.items) };
+
+    ghost faults = { λ f. f.calls.faults };
+
+    fn load(&mut self, name: &[u8], most: u64, out: &mut Vec<u8>) -> Result<Loaded, FileError>
+        ensures loaded { Loads (⟦<MemFiles as Files>⟧.held self.old) name.now most result out.new.items }
+        ensures same { ⟦<MemFiles as Files>⟧.held self.new ≡ ⟦<MemFiles as Files>⟧.held self.old }
+        ensures cause { HasFileCause (⟦<MemFiles as Files>⟧.faults self.old) (⟦<MemFiles as Files>⟧.faults self.new) result }
+        ensures planned { IsErrOf result FileError.Failed → IsDue (files_plan self.old) ⊎ IfSome (⟦<MemFiles as Files>⟧.held self.old) (λ contents. contents name.now ≡ None) }
+        ensures due { IsDue (files_plan self.old) → IsErrOf result FileError.Failed }
+        ensures called { IsOneCallLater (files_plan self.old) (files_plan self.new) }
+    {
+        out.clear();
+        self.calls.call()?;
+        match find_content(self.held.as_slice(), name) {
+            None => {
+                self.calls.fault();
+                Err(FileError::Failed)
+            }
+            Some(content) => Ok(put_content(content, most, out)?),
+        }
+    }
+}
+
+/// Files in memory. It never fails, and a name that it doesn't hold has no bytes.
+#[derive(Drop)]
+pub struct SureFiles {
+    held: Vec<(Bytes, Bytes)>,
+}
+
+impl SureFiles {
+    ghost use Rattle.outside.specs.Plans.{sure_entries};
+
+    /// Names and their contents; of two members of one name the first counts. It takes no memory.
+    pub fn new(_alloc: Global, held: Vec<(Bytes, Bytes)>) -> Self
+        ensures held { ⟦<SureFiles as Files>⟧.held result ≡ Some (sure_content_of held.items) }
+        ensures entries { sure_entries result ≡ held.items }
+    {
+        SureFiles { held }
+    }
+
+    /// The content under a name, None exactly where it isn't held.
+    pub fn content(&self, name: &[u8]) -> Option<&[u8]>
+        ensures { option_copied result ≡ content_of (sure_entries self.now) name.now }
+    {
+        find_content(self.held.as_slice(), name)
+    }
+}
+
+impl Files for SureFiles {
+    ghost held = { λ f. Some (sure_content_of f.held.items) };
+
+    ghost faults = { λ _. 0 };
+
+    fn load(&mut self, name: &[u8], most: u64, out: &mut Vec<u8>) -> Result<Loaded, FileError> {
+        out.clear();
+        let content = find_content(self.held.as_slice(), name).unwrap_or(&[]);
+        Ok(put_content(content, most, out)?)
+    }
+}
