@@ -1,0 +1,8 @@
+pub mod Answers
+pub mod Faults
+pub mod Finding
+pub mod Queries
+pub mod Runs
+pub mod Statuses
+pub mod Stored
+pub mod Words

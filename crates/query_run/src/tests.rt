@@ -1,0 +1,331 @@
+use crate::{Status, run};
+use gcl_model::Bytes;
+use outside::{FreeGate, MemFiles, MemSink, MemSource, SureFiles, SureSink, SureSource};
+use std::alloc::{AllocError, Global};
+use std::sync::Wait;
+use std::test::Fail;
+use std::thread::Threads;
+
+const NAMES: [(&[u8], &[u8]); 5] = [
+    (b"a", b"to be or not to be"),
+    (b"b", b""),
+    (b"t", b"<A HREF=\"x\">B</a><br/>caf\xc3\xa9 <3 <b"),
+    (b"w", b"<file!>"),
+    (
+        b"p",
+        b"<speech><speaker>Hamlet</speaker><line>To be, or not to be</line></speech>",
+    ),
+];
+
+fn held(alloc: Global) -> Result<Vec<(Bytes, Bytes)>, AllocError> {
+    let mut held = Vec::new(alloc);
+    for (name, content) in NAMES {
+        held.push((
+            Bytes::copy_of(alloc, name)?,
+            Bytes::copy_of(alloc, content)?,
+        ))?;
+    }
+    Ok(held)
+}
+
+fn list(alloc: Global, words: &[&[u8]]) -> Result<Vec<Bytes>, AllocError> {
+    let mut list = Vec::new(alloc);
+    for word in words {
+        list.push(Bytes::copy_of(alloc, word)?)?;
+    }
+    Ok(list)
+}
+
+// The status of a run over objects that never fail, and what was written.
+fn answered<R: Threads + Wait + Sync + AllocGlobal>(
+    rt: &R,
+    words: &[&[u8]],
+    script: &[u8],
+) -> Result<(Status, Vec<u8>), AllocError> {
+    let alloc = rt.alloc();
+    let words = list(alloc, words)?;
+    let mut files = SureFiles::new(alloc, held(alloc)?);
+    let mut source = SureSource::new(alloc, Bytes::copy_of(alloc, script)?);
+    let mut sink = SureSink::new(alloc);
+    let status = run(
+        rt,
+        alloc,
+        words.as_slice(),
+        &mut files,
+        &mut source,
+        &mut sink,
+        &FreeGate,
+    );
+    Ok((status, sink.written().to_vec(alloc)?))
+}
+
+// The calls that are to fail, of each object.
+#[derive(Clone, Copy)]
+struct Plan<'a> {
+    source: &'a [u64],
+    sink: &'a [u64],
+    files: &'a [u64],
+}
+
+fn failing_at<'a>(source: &'a [u64], sink: &'a [u64], files: &'a [u64]) -> Plan<'a> {
+    Plan {
+        source,
+        sink,
+        files,
+    }
+}
+
+// The status of a run whose objects fail at these calls, and what was written.
+fn failing<R: Threads + Wait + Sync + AllocGlobal>(
+    rt: &R,
+    script: &[u8],
+    plan: &Plan<'_>,
+) -> Result<(Status, Vec<u8>), AllocError> {
+    let alloc = rt.alloc();
+    let mut files = MemFiles::new(alloc, held(alloc)?, plan.files.to_vec(alloc)?);
+    let script = Bytes::copy_of(alloc, script)?;
+    let mut source = MemSource::new(alloc, script, plan.source.to_vec(alloc)?);
+    let mut sink = MemSink::new(alloc, plan.sink.to_vec(alloc)?);
+    let status = run(
+        rt,
+        alloc,
+        &[],
+        &mut files,
+        &mut source,
+        &mut sink,
+        &FreeGate,
+    );
+    Ok((status, sink.written().to_vec(alloc)?))
+}
+
+#[test]
+fn files_are_added_listed_and_deleted(rt: HostRuntime) -> Result<(), Fail> {
+    let cases: [(&str, &[u8], &[u8]); 6] = [
+        (
+            "a word is found",
+            b"add a\nfind \"to\"\n",
+            b"file 0 0 7\n1 1\n5 5\n= 2\n",
+        ),
+        ("no line has no answer", b"", b""),
+        ("an empty line has no answer", b"\n", b""),
+        ("the last line needs no newline", b"files", b"= 0\n"),
+        (
+            "an address is never given twice",
+            b"add a\nadd b\ndel 000\nadd a\nfind \"to\"\n",
+            b"file 0 0 7\nfile 1 8 9\ngone 0\nfile 2 10 17\n11 11\n15 15\n= 2\n",
+        ),
+        (
+            "files are listed",
+            b"add a\r\n  add\tb \nfiles\ndel 0\nfiles\n",
+            b"file 0 0 7\nfile 1 8 9\n0 0 7 a\n1 8 9 b\n= 2\ngone 0\n1 8 9 b\n= 1\n",
+        ),
+    ];
+    for (name, script, output) in cases {
+        let (status, written) = answered(&rt, &[], script)?;
+        assert_eq!(rt; written.as_slice(), output, "{name}");
+        assert_eq!(rt; status, Status::Done, "{name}");
+    }
+    Ok(())
+}
+
+#[test]
+fn tags_and_bytes_past_ascii_are_tokens(rt: HostRuntime) -> Result<(), Fail> {
+    let script = b"add t\nfind \"B\"\nfind \"<a>\"\nfind \"Caf\xc3\xa9\"\nfind \"CAF\xc3\x89\"\n";
+    let output = b"file 0 0 9\n2 2\n8 8\n= 2\n1 1\n= 1\n6 6\n= 1\n= 0\n";
+    let (_, written) = answered(&rt, &[], script)?;
+    assert_eq!(rt; written.as_slice(), output.as_slice());
+    let spelled = b"add w\nfind \"<file!>\"\nfind \"<file>\"\n";
+    let (_, written) = answered(&rt, &[], spelled)?;
+    assert_eq!(rt;
+        written.as_slice(),
+        b"file 0 0 2\n0 0\n= 1\n1 1\n= 1\n".as_slice()
+    );
+    Ok(())
+}
+
+#[test]
+fn lines_are_refused_and_the_run_goes_on(rt: HostRuntime) -> Result<(), Fail> {
+    let cases: [(&[u8], &[u8]); 3] = [
+        (
+            b"add a\ndel 0\nfind \"to\"\ndel 0\n",
+            b"file 0 0 7\ngone 0\n= 0\n! no file 0\n",
+        ),
+        (
+            b"frob\ndel x\nadd\nmerge now\ncount \"to\"\nmerge\nsave a\n",
+            b"! command\n! command\n! command\n! command\n! command\n! command\n! command\n",
+        ),
+        (
+            b"\x00\nfind \"\xff\"\nadd \xff\n",
+            b"! command\n= 0\n! command\n",
+        ),
+    ];
+    for (script, output) in cases {
+        let (status, written) = answered(&rt, &[], script)?;
+        assert_eq!(rt; written.as_slice(), output, "{script:?}");
+        assert_eq!(rt; status, Status::DoneWithRefusals, "{script:?}");
+    }
+    Ok(())
+}
+
+// Queries over the file a, each with its answer.
+const QUERIES: [(&[u8], &[u8]); 15] = [
+    (b"\"to\"..\"be\"", b"1 2\n5 6\n= 2\n"),
+    (b"\"to\"^\"not\"", b"1 4\n4 5\n= 2\n"),
+    (b"(\"be\"..\"to\") > \"not\"", b"2 5\n= 1\n"),
+    (b"(\"be\"..\"to\") /> \"or\"", b"= 0\n"),
+    (b"\"to\" < (\"be\"..\"to\")", b"5 5\n= 1\n"),
+    (b"\"to\" /< (\"be\"..\"to\")", b"1 1\n= 1\n"),
+    (b"[7]", b"0 6\n1 7\n= 2\n"),
+    (b"[8]", b"0 7\n= 1\n"),
+    (b"[9]", b"= 0\n"),
+    (b"(\"to\"^\"not\")+\"be\"", b"2 2\n4 5\n6 6\n= 3\n"),
+    (b"(\"to\"^\"not\") < [3]", b"4 5\n= 1\n"),
+    (b"\"to be\"", b"1 2\n5 6\n= 2\n"),
+    (b"\"to\"..\"be\"^\"not\"", b"1 4\n4 6\n= 2\n"),
+    (b"\"to\" + \"be\" ^ \"not\"", b"1 1\n2 4\n5 5\n= 3\n"),
+    (b"[2] > \"to\" > \"be\"", b"1 2\n5 6\n= 2\n"),
+];
+
+#[test]
+fn queries_are_answered_by_the_algebra(rt: HostRuntime) -> Result<(), Fail> {
+    for (query, output) in QUERIES {
+        let mut script = b"add a\nfind ".to_vec(rt.alloc())?;
+        script.extend_from_slice(query)?;
+        let mut want = b"file 0 0 7\n".to_vec(rt.alloc())?;
+        want.extend_from_slice(output)?;
+        let (status, written) = answered(&rt, &[], script.as_slice())?;
+        assert_eq!(rt; written.as_slice(), want.as_slice(), "{query:?}");
+        assert_eq!(rt; status, Status::Done, "{query:?}");
+    }
+    Ok(())
+}
+
+#[test]
+fn structure_is_found_in_a_play(rt: HostRuntime) -> Result<(), Fail> {
+    let script =
+        b"add p\nfind (\"<line>\"..\"</line>\") < ((\"<speech>\"..\"</speech>\") > ((\"<speaker>\"..\"</speaker>\") > \"hamlet\"))\nfind \"to be\"\n";
+    let (_, written) = answered(&rt, &[], script)?;
+    assert_eq!(rt;
+        written.as_slice(),
+        b"file 0 0 14\n5 12\n= 1\n6 7\n10 11\n= 2\n".as_slice()
+    );
+    let script = b"add a\nadd b\nfind \"<file!>\"..\"</file!>\"\nadd t\nfind \"<BR/>\"\n";
+    let (_, written) = answered(&rt, &[], script)?;
+    assert_eq!(rt;
+        written.as_slice(),
+        b"file 0 0 7\nfile 1 8 9\n0 7\n8 9\n= 2\nfile 2 10 19\n14 15\n= 1\n".as_slice()
+    );
+    Ok(())
+}
+
+// Texts that are no query, each with the place of its first fault and what is wrong there.
+const FAULTS: [(&[u8], &[u8]); 12] = [
+    (b"(\"to\"", b"5: operator or close expected"),
+    (b"\"to\" ..", b"7: operand expected"),
+    (b"\"\"", b"0: empty term"),
+    (b"[0]", b"0: bad width"),
+    (b"", b"0: operand expected"),
+    (b"\"a\" \"b\"", b"4: operator or close expected"),
+    (b"\"a\" . \"b\"", b"4: character"),
+    (b"\"abc", b"0: open quote"),
+    (b"[5", b"0: bad width"),
+    (b"\"a\"^)", b"4: operand expected"),
+    (b"to", b"0: character"),
+    (b"(((((((((((((", b"12: too deep"),
+];
+
+#[test]
+fn a_text_that_is_no_query_is_refused_at_its_place(rt: HostRuntime) -> Result<(), Fail> {
+    for (query, fault) in FAULTS {
+        let mut script = b"find ".to_vec(rt.alloc())?;
+        script.extend_from_slice(query)?;
+        let mut want = b"! query at ".to_vec(rt.alloc())?;
+        want.extend_from_slice(fault)?;
+        want.push(b'\n')?;
+        let (status, written) = answered(&rt, &[], script.as_slice())?;
+        assert_eq!(rt; written.as_slice(), want.as_slice(), "{query:?}");
+        assert_eq!(rt; status, Status::DoneWithRefusals, "{query:?}");
+    }
+    let mut script = b"find \"a\"".to_vec(rt.alloc())?;
+    for _ in 1..257 {
+        script.extend_from_slice(b"+\"a\"")?;
+    }
+    let (_, written) = answered(&rt, &[], script.as_slice())?;
+    assert_eq!(rt;
+        written.as_slice(),
+        b"! query at 1024: too large\n".as_slice()
+    );
+    Ok(())
+}
+
+#[test]
+fn words_give_the_first_address(rt: HostRuntime) -> Result<(), Fail> {
+    let cases: [(&[&[u8]], &[u8], Status); 9] = [
+        (
+            &[b"--first", b"7"],
+            b"file 0 7 14\nfile 1 15 16\n",
+            Status::Done,
+        ),
+        (
+            &[b"--first=007"],
+            b"file 0 7 14\nfile 1 15 16\n",
+            Status::Done,
+        ),
+        (
+            &[b"--first", b"281474976710648"],
+            b"file 0 281474976710648 281474976710655\n! no addresses\n",
+            Status::DoneWithRefusals,
+        ),
+        (&[b"--first", b"281474976710657"], b"", Status::Usage),
+        (&[b"--first", b"1", b"--first", b"1"], b"", Status::Usage),
+        (&[b"--first"], b"", Status::Usage),
+        (&[b"--first="], b"", Status::Usage),
+        (&[b"--"], b"", Status::Usage),
+        (&[b"--help"], b"", Status::Usage),
+    ];
+    for (words, output, want) in cases {
+        let (status, written) = answered(&rt, words, b"add a\nadd b\n")?;
+        assert_eq!(rt; written.as_slice(), output, "{words:?}");
+        assert_eq!(rt; status, want, "{words:?}");
+    }
+    Ok(())
+}
+
+#[test]
+fn a_line_is_long_from_65_537_bytes_on(rt: HostRuntime) -> Result<(), Fail> {
+    let mut script = Vec::new(rt.alloc());
+    script.extend_from_slice(b"find \"a\"")?;
+    for _ in 8..65_536 {
+        script.push(b' ')?;
+    }
+    let (_, whole) = answered(&rt, &[], script.as_slice())?;
+    assert_eq!(rt; whole.as_slice(), b"= 0\n".as_slice());
+    script.push(b' ')?;
+    let (status, long) = answered(&rt, &[], script.as_slice())?;
+    assert_eq!(rt; long.as_slice(), b"! long line\n".as_slice());
+    assert_eq!(rt; status, Status::DoneWithRefusals);
+    Ok(())
+}
+
+#[test]
+fn each_object_fails(rt: HostRuntime) -> Result<(), Fail> {
+    let script = b"add a\nfind \"to\"\n".as_slice();
+    let cases: [(Plan<'_>, Status, &[u8]); 4] = [
+        (failing_at(&[1], &[], &[]), Status::ReadFault, b""),
+        (failing_at(&[2], &[], &[]), Status::ReadFault, b""),
+        (
+            failing_at(&[], &[2], &[]),
+            Status::WriteFault,
+            b"file 0 0 7\n",
+        ),
+        (failing_at(&[], &[], &[1]), Status::FileFault, b""),
+    ];
+    for (plan, want, output) in cases {
+        let (status, written) = failing(&rt, script, &plan)?;
+        assert_eq!(rt; status, want);
+        assert_eq!(rt; written.as_slice(), output);
+    }
+    let (status, _) = failing(&rt, b"add missing", &failing_at(&[], &[], &[]))?;
+    assert_eq!(rt; status, Status::FileFault);
+    Ok(())
+}
