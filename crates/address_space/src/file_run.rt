@@ -49,6 +49,14 @@ impl FileRun {
         &self.files[i]
     }
 
+    /// The files, in order.
+    pub fn as_slice(&self) -> &[FileRecord]
+        ensures value { result.now ≡ self.now }
+        ensures run { IsFileRun self.now }
+    {
+        self.files.as_slice()
+    }
+
     /// Puts a file behind the others.
     pub fn push(&mut self, file: FileRecord) -> Result<(), AllocError>
         requires { IfSome (last_file self.old) (λ last. Precedes last file) }

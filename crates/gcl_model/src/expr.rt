@@ -1,7 +1,7 @@
 use crate::bytes::Bytes;
 use crate::token_list::TokenList;
 
-/// An expression of the algebra of concordance lists (Clarke, Cormack and Burkowski 1995, section 3).
+/// An expression of the algebra of concordance lists (Clarke, Cormack and Burkowski 1995).
 /// Contracts see it by its form (`form_of`): a plain tree of the same kinds.
 #[derive(Drop)]
 pub enum Expr {
