@@ -78,17 +78,27 @@ pub record Chained (j : Joint) (text : List ℕ) (at next : ℕ) (exprs : List E
   pub tree : Part (joined j)
   pub spelled : bare_from text at ≡ spelling tree (joint j ∷ bare_from text next)
   pub all : members tree ≡ forms_from (map form_of exprs)
+  pub can : CanRead (bare_from text next)
   pub later : at < next
   pub within : next ≤ length text
 
-pub chain_starts : (j : Joint) (text : List ℕ) (at next : ℕ) (first : Parsed) → IsParsed (below j) text at first →
+-- behind the joint an operand can be read
+chain_can : (j : Joint) (text : List ℕ) (at next : ℕ) → CanRead (bare_from text at) → (tree : Part (joined j)) → bare_from text at ≡ spelling tree (joint j ∷ bare_from text next) → CanRead (bare_from text next)
+chain_can j text at next can tree spelled =
+    let behind = part_behind tree can.opened can.count (joint j ∷ bare_from text next) can.deep
+    (subst (λ ts. IsFaultless true can.opened can.count ts) spelled can.faultless) in
+    record { opened = can.opened; count = can.count + operands tree; deep = can.deep; faultless = behind.faultless.1 }
+
+pub chain_starts : (j : Joint) (text : List ℕ) (at next : ℕ) (first : Parsed) → CanRead (bare_from text at) → IsParsed (below j) text at first →
     bare_from text first.end ≡ joint j ∷ bare_from text next → first.end < next → next ≤ length text → Chained j text at next (first.expr ∷ [])
-chain_starts j text at next first parsed is lt le =
+chain_starts j text at next first can parsed is lt le =
     let later : at < first.end = parsed.later in
+    let spelled : bare_from text at ≡ spelling (only j parsed.read.tree) (joint j ∷ bare_from text next) = parsed.read.spelled ∙ ap (λ ts. spelling parsed.read.tree ts) is in
     record {
       tree = only j parsed.read.tree;
-      spelled = parsed.read.spelled ∙ ap (λ ts. spelling parsed.read.tree ts) is;
+      spelled = spelled;
       all = ap (λ form. more_forms form no_forms) (sym parsed.read.stands_for);
+      can = chain_can j text at next can (only j parsed.read.tree) spelled;
       later = omega arith;
       within = le;
     }
@@ -104,16 +114,18 @@ members_grow : (j : Joint) (text : List ℕ) (at next : ℕ) (exprs : List Expr)
 members_grow j text at next exprs c last expr is =
     snoc_members j c.tree last ∙ ap (λ forms. forms_and forms (form_of_part last)) c.all ∙ ap (λ form. forms_and (forms_from (map form_of exprs)) form) (sym is) ∙ sym (forms_push exprs expr)
 
-pub chain_goes_on : (j : Joint) (text : List ℕ) (at next place : ℕ) (exprs : List Expr) (member : Parsed) → Chained j text at next exprs → IsParsed (below j) text next member →
+pub chain_goes_on : (j : Joint) (text : List ℕ) (at next place : ℕ) (exprs : List Expr) (member : Parsed) → CanRead (bare_from text at) → Chained j text at next exprs → IsParsed (below j) text next member →
     bare_from text member.end ≡ joint j ∷ bare_from text place → member.end < place → place ≤ length text → Chained j text at place (exprs ++ member.expr ∷ [])
-chain_goes_on j text at next place exprs member c parsed is lt le =
+chain_goes_on j text at next place exprs member can c parsed is lt le =
     let last = parsed.read.tree in
+    let spelled = grown j text at next exprs c (joint j ∷ bare_from text place) last (parsed.read.spelled ∙ ap (λ ts. spelling last ts) is) in
     let later : next < member.end = parsed.later in
     let first : at < next = c.later in
     record {
       tree = snoc j c.tree last;
-      spelled = grown j text at next exprs c (joint j ∷ bare_from text place) last (parsed.read.spelled ∙ ap (λ ts. spelling last ts) is);
+      spelled = spelled;
       all = members_grow j text at next exprs c last member.expr parsed.read.stands_for;
+      can = chain_can j text at place can (snoc j c.tree last) spelled;
       later = omega arith;
       within = le;
     }
@@ -154,13 +166,6 @@ chain_of_one j text at first parsed other = record {
   later = parsed.later;
   within = parsed.within;
 }
-
--- behind the joint an operand can be read
-pub chain_can : (j : Joint) (text : List ℕ) (at next : ℕ) (exprs : List Expr) → CanRead (bare_from text at) → Chained j text at next exprs → CanRead (bare_from text next)
-chain_can j text at next exprs can c =
-    let behind = part_behind c.tree can.opened can.count (joint j ∷ bare_from text next) can.deep
-    (subst (λ ts. IsFaultless true can.opened can.count ts) c.spelled can.faultless) in
-    record { opened = can.opened; count = can.count + operands c.tree; deep = can.deep; faultless = behind.faultless.1 }
 
 -- a query as far as it was read
 pub record QuerySoFar (text : List ℕ) (at : ℕ) (whole : Parsed) : Type 0 where

@@ -1,8 +1,9 @@
 ghost use Rattle.std.specs.Prelude.{◌≡◌, ◌<◌, ◌≤◌, ◌∷◌, length, IfOk, IfNone, IfSome};
+ghost use Rattle.gcl_parser.specs.declared.token.Joint.TheVariants.{OneOf};
 ghost use Rattle.gcl_parser.specs.Grammar.{single, joined as joined_level, below};
 ghost use Rattle.gcl_parser.specs.QueryTokens.{joint as joint_token, containment as containment_token};
 ghost use Rattle.gcl_parser.specs.Scanned.{bare_from};
-ghost use Rattle.gcl_parser.specs.Reading.{CanRead, CanReadInside, IsNotNext, IsNoContainment};
+ghost use Rattle.gcl_parser.specs.Reading.{CanRead, CanReadInside, IsNotNext, IsNoContainment, rank};
 ghost use Rattle.gcl_parser.specs.Parsed.{IsParsed, IsQueryParsed, IsBracketParsed};
 
 use crate::node::{chain_node, containment_node, quoted_node, width_node};
@@ -20,13 +21,23 @@ pub fn query(alloc: Global, text: &[u8], at: usize) -> Result<Parsed, AllocError
 {
     let mut whole = chain(alloc, text, at, Joint::OneOf)?;
     while let Some((containment, next)) = compared(text, whole.end) {
-        let part = chain(alloc, text, next, Joint::OneOf)?;
+        let part = right_side(alloc, text, next)?;
         whole = Parsed {
             expr: containment_node(alloc, containment, whole.expr, part.expr)?,
             end: part.end,
         };
     }
     Ok(whole)
+}
+
+/// What a containment takes on its right: one chain, so that containments group from the left.
+#[cycle(read)]
+fn right_side(alloc: Global, text: &[u8], at: usize) -> Result<Parsed, AllocError>
+    requires within { at ≤ length text.now }
+    requires can { CanRead (bare_from text.now at) }
+    ensures { IfOk result (λ parsed. IsParsed (joined_level OneOf) text.now at parsed) }
+{
+    chain(alloc, text, at, Joint::OneOf)
 }
 
 /// The members that the joint joins, from a place on; one member alone is itself.
@@ -64,10 +75,22 @@ fn member(alloc: Global, text: &[u8], at: usize, joint: Joint) -> Result<Parsed,
     requires can { CanRead (bare_from text.now at) }
     ensures { IfOk result (λ parsed. IsParsed (below joint) text.now at parsed) }
 {
+    match tighter(joint) {
+        None => operand(alloc, text, at),
+        Some(tighter) => chain(alloc, text, at, tighter),
+    }
+}
+
+/// The joint that binds next more than this one. None does where it joins single operands.
+fn tighter(joint: Joint) -> Option<Joint>
+    ensures none { IfNone result (below joint ≡ single) }
+    ensures some { IfSome result (λ tighter. below joint ≡ joined_level tighter) }
+    ensures rank { IfSome result (λ tighter. rank tighter < rank joint) }
+{
     match joint {
-        Joint::FollowedBy => operand(alloc, text, at),
-        Joint::BothOf => chain(alloc, text, at, Joint::FollowedBy),
-        Joint::OneOf => chain(alloc, text, at, Joint::BothOf),
+        Joint::FollowedBy => None,
+        Joint::BothOf => Some(Joint::FollowedBy),
+        Joint::OneOf => Some(Joint::BothOf),
     }
 }
 

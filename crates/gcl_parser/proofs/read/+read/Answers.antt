@@ -4,7 +4,7 @@ use Rattle.gcl_model.specs.Forms.{width}
 use Rattle.gcl_parser.specs.Scanned.{shown}
 use Rattle.gcl_parser.specs.Parsed.{IsParsed, IsBracketParsed}
 use Rattle.gcl_parser.specs.Grammar.{single}
-use Rattle.gcl_parser.proofs.Growing.{Chained, chain_starts, chain_goes_on, chain_ends, chain_of_one, chain_can, query_starts, query_goes_on, query_can, single_read, bracket_read, bracket_closed, not_at_end, bracket_ends}
+use Rattle.gcl_parser.proofs.Growing.{Chained, chain_starts, chain_goes_on, chain_ends, chain_of_one, query_starts, query_goes_on, query_can, single_read, bracket_read, bracket_closed, not_at_end, bracket_ends}
 use Rattle.gcl_parser.proofs.read.+read.Goals as goal
 
 pub bracketed-unreachable-requires : goal.bracketed-unreachable-requires
@@ -27,16 +27,9 @@ chain-returns-in_default t c =
 pub chain-loop-members-init : goal.chain-loop-members-init
 chain-loop-members-init t c =
     let first = c.in_ok-first.first in
-    let starts = chain_starts c.args.joint c.args.text.now c.args.at c.in-Some.next first c.in_ok-first.ensures c.in-Some.ensures.next c.in-Some.ensures.later c.in-Some.ensures.within in
+    let starts = chain_starts c.args.joint c.args.text.now c.args.at c.in-Some.next first c.requires.can c.in_ok-first.ensures c.in-Some.ensures.next c.in-Some.ensures.later c.in-Some.ensures.within in
     let items : c.push.new.self.items ≡ first.expr ∷ [] = search (rules, c.in_ok-push.ensures.items, c.new-members.ensures.items) in
     subst (λ exprs. Chained c.args.joint c.args.text.now c.args.at c.in-Some.next exprs) (sym items) starts
-
-pub chain-member-requires-in-loop-members : goal.chain-member-requires-in-loop-members
-chain-member-requires-in-loop-members t c =
-    let so_far = c.loop-members.invariant in
-    let later : c.args.at < c.loop-members.next = so_far.later in
-    let within : c.loop-members.next ≤ length c.args.text.now = so_far.within in
-    (omega arith, (within, chain_can c.args.joint c.args.text.now c.args.at c.loop-members.next c.loop-members.members.items c.requires.can so_far))
 
 pub chain-returns-in-None : goal.chain-returns-in-None
 chain-returns-in-None t c =
@@ -49,7 +42,7 @@ chain-loop-members-preserved t c =
     let member = c.in_ok-member.member in
     let next = c.loop-members.next in
     let before = c.loop-members.members.items in
-    let grows = chain_goes_on c.args.joint c.args.text.now c.args.at next c.in-Some-joined.place before member c.loop-members.invariant c.in_ok-member.ensures
+    let grows = chain_goes_on c.args.joint c.args.text.now c.args.at next c.in-Some-joined.place before member c.requires.can c.loop-members.invariant c.in_ok-member.ensures
     c.in-Some-joined.ensures.next c.in-Some-joined.ensures.later c.in-Some-joined.ensures.within in
     let items : c.push-in-loop-members.new.self.items ≡ before ++ member.expr ∷ [] = c.in_ok-push-2.ensures.items in
     subst (λ exprs. Chained c.args.joint c.args.text.now c.args.at c.in-Some-joined.place exprs) (sym items) grows
@@ -78,8 +71,8 @@ operand-returns-in-Open t c =
 pub query-loop-containment-init : goal.query-loop-containment-init
 query-loop-containment-init t c = query_starts c.args.text.now c.args.at c.in_ok-whole.whole c.in_ok-whole.ensures
 
-pub query-chain-requires-in-Some : goal.query-chain-requires-in-Some
-query-chain-requires-in-Some t c =
+pub query-right_side-requires : goal.query-right_side-requires
+query-right_side-requires t c =
     let so_far = c.loop-containment.invariant in
     let whole = c.loop-containment.whole in
     let later : c.args.at < whole.end = so_far.later in

@@ -10,6 +10,9 @@ decreases-bracketed l = (length l.text.now - l.at) * 9 + 8
 abbrev pub decreases-query : goal.decreases-query
 decreases-query l = (length l.text.now - l.at) * 9 + 7
 
+abbrev pub decreases-right_side : goal.decreases-right_side
+decreases-right_side l = (length l.text.now - l.at) * 9 + 8
+
 abbrev pub decreases-chain : goal.decreases-chain
 decreases-chain l = (length l.text.now - l.at) * 9 + 2 * rank l.joint
 
