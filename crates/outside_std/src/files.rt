@@ -1,6 +1,7 @@
-ghost use Rattle.std.specs.Prelude.{◌≤◌, [], None};
+ghost use Rattle.std.specs.Prelude.{◌≡◌, ◌≤◌, [], None};
 ghost use Rattle.outside.specs.Contents.{Loads};
 ghost use Rattle.outside.specs.Causes.{Rose};
+ghost use Rattle.outside_std.specs.Loading.{content_left};
 
 use crate::source::read_again;
 use gcl_model::Bytes;
@@ -21,7 +22,9 @@ pub struct StdFiles<'a, R> {
 
 impl<'a, R: rt::Files + AllocGlobal> StdFiles<'a, R> {
     /// The files that `rt` reaches. It takes no memory.
-    pub fn new(rt: &'a R) -> Self {
+    pub fn new(rt: &'a R) -> Self
+        ensures faults { ⟦<StdFiles<'a, R> as Files>⟧.faults result ≡ 0 }
+    {
         StdFiles {
             rt,
             faults: 0,
@@ -49,7 +52,8 @@ impl<'a, R: rt::Files + AllocGlobal> StdFiles<'a, R> {
 
 // Reads up to `most + 1` bytes into an empty buffer.
 fn read_up_to<R: Read>(file: &mut R, most: u64, out: &mut Vec<u8>) -> Result<Loaded, FileError>
-    ensures { Loads None [] most result out.new.items }
+    ensures size { Loads None [] most result out.new.items }
+    ensures bytes { Loads (content_left (R.remaining file.old)) [] most result out.new.items }
 {
     out.clear();
     let mut piece = [0u8; PIECE];

@@ -1,4 +1,4 @@
-ghost use Rattle.std.specs.Prelude.{◌≤◌, IfOk, length};
+ghost use Rattle.std.specs.Prelude.{◌≡◌, ◌≤◌, IfOk, length};
 ghost use Rattle.std.specs.Io.KnownBytes.{WriteAppends};
 
 use outside::{Sink, WriteError};
@@ -14,7 +14,10 @@ pub struct StdSink<W> {
 
 impl<W: Write> StdSink<W> {
     /// Writes to `inner`. It takes no memory.
-    pub fn new(inner: W) -> Self {
+    pub fn new(inner: W) -> Self
+        ensures written { ⟦<StdSink<W> as Sink>⟧.written result ≡ W.contents inner }
+        ensures faults { ⟦<StdSink<W> as Sink>⟧.faults result ≡ 0 }
+    {
         StdSink { inner, faults: 0 }
     }
 }

@@ -1,3 +1,4 @@
+ghost use Rattle.std.specs.Prelude.{◌≡◌};
 ghost use Rattle.std.specs.Io.{ReadsAtMost};
 ghost use Rattle.std.specs.Io.KnownBytes.{ReadConsumes};
 
@@ -14,7 +15,10 @@ pub struct StdSource<R> {
 
 impl<R: Read> StdSource<R> {
     /// Reads from `inner`. It takes no memory.
-    pub fn new(inner: R) -> Self {
+    pub fn new(inner: R) -> Self
+        ensures left { ⟦<StdSource<R> as Source>⟧.left result ≡ R.remaining inner }
+        ensures faults { ⟦<StdSource<R> as Source>⟧.faults result ≡ 0 }
+    {
         StdSource { inner, faults: 0 }
     }
 }

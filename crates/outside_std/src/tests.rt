@@ -17,12 +17,15 @@ fn what_a_sink_took_a_source_hands_out_and_files_load(rt: HostRuntime) -> io::Re
     let name = place.to_str().unwrap_or("").as_bytes();
     let mut files = StdFiles::new(&rt);
     let mut out = Vec::new(rt.alloc());
+    assert_eq!(rt; files.last_fault(), b"".as_slice());
     assert_eq!(rt; files.load(name, 5, &mut out), Ok(Loaded::Whole));
     assert_eq!(rt; out.as_slice(), b"to be".as_slice());
     assert_eq!(rt; files.load(name, 4, &mut out), Ok(Loaded::Long));
     assert_eq!(rt; out.as_slice(), b"to be".as_slice());
     assert_eq!(rt; files.load(b"\xff", 4, &mut out), Err(FileError::Failed));
+    assert_eq!(rt; files.last_fault(), b"\xff".as_slice());
     fs::remove_file(&rt, &place)?;
     assert_eq!(rt; files.load(name, 5, &mut out), Err(FileError::Failed));
+    assert_eq!(rt; files.last_fault(), name);
     Ok(())
 }
