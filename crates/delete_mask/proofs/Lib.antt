@@ -1,0 +1,4 @@
+pub mod MaskLemmas
+pub mod Joining
+pub mod Halving
+mod Worked

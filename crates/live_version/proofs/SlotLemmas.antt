@@ -1,0 +1,36 @@
+-- When a range, an index, dead ranges and files are a slot.
+use Rattle.std.proofs.Common.{◌≡◌, Bool, true, List, [], ◌∷◌, filter, inl, inr, refl, sym, subst}
+use Rattle.std.specs.List.{AllByRecursion}
+use Rattle.std.proofs.lemmas.Bool.{cases_Bool}
+use Rattle.gcl_model.specs.Slots.{SlotRange}
+use Rattle.address_space.specs.Runs.{FileEntry}
+use Rattle.index_shard.specs.Tables.{ShardContent, IsShard, words_of}
+use Rattle.live_version.specs.Contents.{IsSlot, LiesIn, is_of_files, slot_content}
+
+-- what holds of all members holds of those that pass
+pub all_filter : {X : Type 0} (P : X → Type 0) (test : X → Bool) (xs : List X) → AllByRecursion P xs → AllByRecursion P (filter test xs)
+all_filter P test [] all = tt
+all_filter P test (x ∷ xs) all =
+    elim (cases_Bool (test x)) [
+      | inl e ↦ rw e (all.0, all_filter P test xs all.1)
+      | inr e ↦ rw e (all_filter P test xs all.1)
+    ]
+
+-- nothing is dead
+alive_slot : (range : SlotRange) (shard : ShardContent) (files : List FileEntry) → IsShard shard → shard.range ≡ range → AllByRecursion (LiesIn range) files →
+    AllByRecursion (λ w. is_of_files files w.address ≡ true) (words_of shard) → IsSlot (slot_content range shard [] files)
+alive_slot range shard files is indexed lie owned = record {
+  shard = is;
+  indexed = indexed;
+  files = lie;
+  dead = tt;
+  alive = λ p e. refl;
+  owned = all_filter (λ w. is_of_files files w.address ≡ true) (λ w. true) (words_of shard) owned;
+}
+
+pub new_slot : (range : SlotRange) (shard kept : ShardContent) (mask : List SlotRange) (files records : List FileEntry) → IsShard shard → shard.range ≡ range → AllByRecursion (LiesIn range) files →
+    AllByRecursion (λ w. is_of_files files w.address ≡ true) (words_of shard) → kept ≡ shard → mask ≡ [] → records ≡ files → IsSlot (slot_content range kept mask records)
+new_slot range shard kept mask files records is indexed lie owned e f g =
+    subst (λ s. IsSlot (slot_content range s mask records)) (sym e)
+    (subst (λ m. IsSlot (slot_content range shard m records)) (sym f)
+    (subst (λ r. IsSlot (slot_content range shard [] r)) (sym g) (alive_slot range shard files is indexed lie owned)))

@@ -1,0 +1,5 @@
+pub mod Contents
+pub mod Changes
+pub mod StandsFor
+pub mod LookUps
+pub mod Laws

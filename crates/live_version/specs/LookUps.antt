@@ -1,0 +1,13 @@
+-- How many look-ups a search may make, and the words that it is about.
+use Rattle.std.specs.Prelude.{ℕ, ◌+◌, Bool, not, List, length}
+use Rattle.gcl_model.specs.Slots.{SlotRange}
+use Rattle.delete_mask.specs.Masks.{is_dead}
+use Rattle.live_version.specs.Contents.{SlotContent, dead_of}
+
+-- whether the address is in none of the dead ranges
+abbrev pub is_alive : List SlotRange → ℕ → Bool
+is_alive mask p = not (is_dead mask p)
+
+-- one for each slot, and one more for each dead range: 5 for two slots with three dead ranges
+abbrev pub look_ups : List SlotContent → ℕ
+look_ups slots = length slots + length (dead_of slots)

@@ -1,0 +1,32 @@
+//! Versions: the words and files of a collection in at most 32 slots, under deletions and merges.
+//!
+//! Contracts see a `Slot` as a range of addresses, an index, dead ranges and surviving files, and a `Version` as its
+//! numbers and its slots by rising address. The words of a version (`live_of`) are those of its slots' indexes that are
+//! at no dead address.
+//!
+//! The layers above make each version from the one before it, by adding or deleting a file or by putting one slot in
+//! place of several: it then stands for the collection after that step. They use a version as `Leaves`: a look-up is one
+//! among its words, passes a dead range as a whole, and makes at most 32 posting look-ups and one for each deletion. They
+//! read slots and files, and ask which two neighbouring slots together are the narrowest. Where the file at 0 to 7 is
+//! deleted, the next `</file!>` from 0 on is that of the file at 8 to 9.
+#![tactic(auto)]
+
+mod changes;
+mod deletion;
+mod files;
+mod laws;
+mod leaping;
+mod leaves;
+mod pairs;
+mod slot;
+mod slot_list;
+mod version;
+
+pub use laws::a_version_stands_for_one;
+pub use slot::Slot;
+pub use version::Version;
+
+#[cfg(test)]
+mod change_tests;
+#[cfg(test)]
+mod tests;

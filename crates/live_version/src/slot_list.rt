@@ -1,0 +1,80 @@
+ghost use Rattle.std.specs.Prelude.{◌≡◌, ◌++◌, ◌∷◌, [], IfOk, IfSome, OnOk};
+ghost use Rattle.std.specs.Option.{option_to_list};
+ghost use Rattle.address_space.specs.Runs.{IsFileRun, IsPlaced};
+ghost use Rattle.index_shard.specs.Tables.{IsShard};
+ghost use Rattle.live_version.specs.Contents.{IsSlot};
+ghost use Rattle.live_version.specs.Changes.{range_of, slot_of_file};
+
+use crate::slot::Slot;
+use address_space::{FileRecord, FileRun, Range};
+use index_shard::Shard;
+use std::alloc::{AllocError, Global};
+
+/// The slots once more, behind those that are there. Their parts are shared.
+pub(crate) fn push_copies(into: &mut Vec<Slot>, slots: &[Slot]) -> Result<(), AllocError>
+    ensures { OnOk result (into.new.items ≡ into.old.items ++ slots.now) }
+{
+    for slot in slots {
+        into.push(slot.copy()?)?;
+    }
+    Ok(())
+}
+
+/// The slot, if there is one, behind those that are there.
+pub(crate) fn push_option(into: &mut Vec<Slot>, slot: Option<Slot>) -> Result<(), AllocError>
+    ensures ok { OnOk result (into.new.items ≡ into.old.items ++ option_to_list slot) }
+    ensures slot { IfSome slot IsSlot }
+    ensures run { IfSome slot (λ s. IsFileRun s.files) }
+{
+    if let Some(slot) = slot {
+        // any call of the records tells that they are a run
+        let _files = slot.records().as_slice();
+        into.push(slot)?;
+    }
+    Ok(())
+}
+
+/// The slots, and this one behind them.
+pub(crate) fn with_last(alloc: Global, slots: &[Slot], slot: Slot) -> Result<Vec<Slot>, AllocError>
+    ensures { IfOk result (λ list. list.items ≡ slots.now ++ slot ∷ []) }
+{
+    let mut list = Vec::with_capacity(alloc, slots.len() + 1)?;
+    push_copies(&mut list, slots)?;
+    list.push(slot)?;
+    Ok(list)
+}
+
+/// The slot, if there is one, between these.
+pub(crate) fn with_between(
+    alloc: Global,
+    before: &[Slot],
+    slot: Option<Slot>,
+    after: &[Slot],
+) -> Result<Vec<Slot>, AllocError>
+    ensures items { IfOk result (λ list. list.items ≡ before.now ++ option_to_list slot ++ after.now) }
+    ensures slot { OnOk result (IfSome slot IsSlot) }
+{
+    let mut list = Vec::with_capacity(alloc, before.len() + 1 + after.len())?;
+    push_copies(&mut list, before)?;
+    push_option(&mut list, slot)?;
+    push_copies(&mut list, after)?;
+    Ok(list)
+}
+
+/// The slot of one file.
+pub(crate) fn file_slot(alloc: Global, file: FileRecord, shard: Shard) -> Result<Slot, AllocError>
+    requires { shard.range ≡ range_of file }
+    ensures value { IfOk result (λ slot. slot ≡ slot_of_file file shard) }
+    ensures shard { IsShard shard }
+    ensures placed { IsPlaced file }
+{
+    // any call of the index tells that it is one
+    let _terms = shard.term_count();
+    let range = Range {
+        first: file.base,
+        last: file.base + file.len - 1,
+    };
+    let mut files = FileRun::new(alloc);
+    files.push(file)?;
+    Slot::new(alloc, range, shard, files)
+}

@@ -1,0 +1,54 @@
+ghost use Rattle.std.specs.Prelude.{◌≡◌, ℕ, ◌+◌, ◌≤◌, [], ◌∷◌, length, map, IfOk, Some};
+ghost use Rattle.delete_mask.specs.Masks.{AreRangesWithin};
+ghost use Rattle.index_shard.specs.Tables.{words_of};
+ghost use Rattle.live_version.specs.Contents.{ranges_of, files_of, live_of};
+ghost use Rattle.live_version.specs.Changes.{IsSameLive, LiesInside, slots_at, whole_range};
+ghost use Rattle.shard_merge.specs.Parts.{part_of};
+
+use crate::part::Part;
+use crate::records::records_of;
+use crate::terms::merge_parts;
+use address_space::Range;
+use live_version::{Slot, Version};
+use std::alloc::{AllocError, Global};
+
+/// One slot in place of `count` slots from place `at` on. Each posting and each record is gone through once.
+pub fn merge(alloc: Global, version: &Version, at: usize, count: usize) -> Result<Slot, AllocError>
+    requires some { 1 ≤ count }
+    requires within { at + count ≤ length version.now.slots }
+    ensures range { IfOk result (λ slot. whole_range (ranges_of (slots_at at count version.now.slots)) ≡ Some slot.range) }
+    ensures words { IfOk result (λ slot. words_of slot.shard ≡ live_of (slots_at at count version.now.slots)) }
+    ensures files { IfOk result (λ slot. slot.files ≡ files_of (slots_at at count version.now.slots)) }
+    ensures mask { IfOk result (λ slot. slot.mask ≡ []) }
+    ensures inside { IfOk result (λ slot. LiesInside slot.range (whole_range (ranges_of (slots_at at count version.now.slots)))) }
+    ensures same { IfOk result (λ slot. IsSameLive (slots_at at count version.now.slots) (slot ∷ [])) }
+{
+    let slots = &version.slots()[at..at + count];
+    let range = range_of(slots);
+    let files = records_of(alloc, slots)?;
+    let mut parts = parts_of(alloc, slots)?;
+    let shard = merge_parts(alloc, range, parts.as_mut_slice())?;
+    Slot::new(alloc, range, shard, files)
+}
+
+/// From the first address of the first slot to the last address of the last one.
+fn range_of(slots: &[Slot]) -> Range
+    requires some { 1 ≤ length slots.now }
+    requires apart { (low : ℕ) × (end : ℕ) × AreRangesWithin low end (ranges_of slots.now) }
+    ensures { whole_range (ranges_of slots.now) ≡ Some result }
+{
+    Range {
+        first: slots[0].range().first,
+        last: slots[slots.len() - 1].range().last,
+    }
+}
+
+fn parts_of<'a>(alloc: Global, slots: &'a [Slot]) -> Result<Vec<Part<'a>>, AllocError>
+    ensures { IfOk result (λ parts. parts.items ≡ map part_of slots.now) }
+{
+    let mut parts = Vec::with_capacity(alloc, slots.len())?;
+    for slot in slots {
+        parts.push(Part::new(slot.shard(), slot.mask()))?;
+    }
+    Ok(parts)
+}
