@@ -1,13 +1,12 @@
 -- A containment by its kind and its two operands: its form, its list, its cost.
-use Rattle.std.proofs.Common.{◌≡◌, ℕ, ◌+◌, ◌*◌, ◌<◌, ◌≤◌, ◌^◌, min, List, length, Option, Some, None, IfSome, refl, sym, ap, ◌∙◌, subst, arith, filter}
+use Rattle.std.proofs.Common.{◌≡◌, ℕ, ◌<◌, ◌≤◌, ◌^◌, Option, Some, None, IfSome, refl, sym, ap, ◌∙◌, subst, arith, filter}
 use Rattle.gcl_model.specs.Extents.{Extent}
 use Rattle.gcl_model.specs.Texts.{Text, IsText}
-use Rattle.gcl_model.specs.Forms.{Form, containing, contained_in, not_containing, not_contained_in}
+use Rattle.gcl_model.specs.Forms.{Form}
 use Rattle.gcl_model.specs.WellFormed.{IsWellFormed}
 use Rattle.gcl_model.specs.Meaning.{concordance}
 use Rattle.gcl_model.specs.Cost.{cost, turns_cost}
 use Rattle.gcl_contain.proofs.Nodes.{containing_list, contained_in_list, not_containing_list, not_contained_in_list}
-use Rattle.gcl_eval.specs.OfTerms.{IsOfTerms}
 use Rattle.gcl_eval.specs.Containments.{contain_form, loop_of}
 use Rattle.gcl_eval.specs.Directions.{access_of}
 use Rattle.gcl_eval.specs.declared.containment.Containment.{Containment}
@@ -16,19 +15,18 @@ use Rattle.gcl_eval.specs.declared.direction.Access.{Access}
 use Rattle.gcl_eval.specs.declared.direction.Direction.{Direction}
 use Rattle.gcl_eval.specs.declared.direction.Direction.TheVariants.{Forward, Backward}
 use Rattle.gcl_eval.proofs.Found.{access_gives, member_of_text}
-use Rattle.gcl_eval.proofs.OperandLemmas.{IsOperand}
 use Rattle.gcl_eval.proofs.Containments.{IsKept, IsWithin}
 
--- both operands can be evaluated
+-- both operands are well formed
 pub record AreBothOperands (a b : Form) : Type 0 where
-  pub first : IsOperand a
-  pub second : IsOperand b
+  pub first : IsWellFormed a
+  pub second : IsWellFormed b
 
-parts : (containment : Containment) (a b : Form) → IsWellFormed (contain_form containment a b) → IsOfTerms (contain_form containment a b) → AreBothOperands a b
-parts Containing a b w t = record { first = record { well_formed = w.0; of_terms = t.0 }; second = record { well_formed = w.1; of_terms = t.1 } }
-parts ContainedIn a b w t = record { first = record { well_formed = w.0; of_terms = t.0 }; second = record { well_formed = w.1; of_terms = t.1 } }
-parts NotContaining a b w t = record { first = record { well_formed = w.0; of_terms = t.0 }; second = record { well_formed = w.1; of_terms = t.1 } }
-parts NotContainedIn a b w t = record { first = record { well_formed = w.0; of_terms = t.0 }; second = record { well_formed = w.1; of_terms = t.1 } }
+parts : (containment : Containment) (a b : Form) → IsWellFormed (contain_form containment a b) → AreBothOperands a b
+parts Containing a b w = record { first = w.0; second = w.1 }
+parts ContainedIn a b w = record { first = w.0; second = w.1 }
+parts NotContaining a b w = record { first = w.0; second = w.1 }
+parts NotContainedIn a b w = record { first = w.0; second = w.1 }
 
 kept : (containment : Containment) (text : Text) (a b : Form) (direction : Direction) → concordance text (contain_form containment a b) ≡ filter ((loop_of direction containment).keeps (concordance text b)) (concordance text a)
 kept Containing text a b Forward = containing_list text a b
@@ -47,8 +45,8 @@ costs NotContaining text bound a b = refl
 costs NotContainedIn text bound a b = refl
 
 module _ (containment : Containment) (e a b : Form) (is : e ≡ contain_form containment a b) where
-  pub both_operands : IsWellFormed e → IsOfTerms e → AreBothOperands a b
-  both_operands w t = parts containment a b (subst IsWellFormed is w) (subst IsOfTerms is t)
+  pub both_operands : IsWellFormed e → AreBothOperands a b
+  both_operands w = parts containment a b (subst IsWellFormed is w)
 
   pub contain_kept : (text : Text) → IsKept containment (concordance text a) (concordance text b) (concordance text e)
   contain_kept text = λ direction. ap (concordance text) is ∙ kept containment text a b direction

@@ -1,15 +1,13 @@
 -- The eight loops of the containments: what a loop keeps from member to member, and how many turns it takes.
-use Rattle.std.proofs.Common.{◌≡◌, ℕ, ◌+◌, ◌*◌, ◌<◌, ◌≤◌, ◌^◌, Bool, true, leb, min, List, length, Option, Some, None, IfSome, inl, inr, refl, sym, ap, ◌∙◌, arith, le_refl, filter, find}
+use Rattle.std.proofs.Common.{◌≡◌, ℕ, ◌+◌, ◌*◌, ◌<◌, ◌≤◌, ◌^◌, Bool, leb, min, List, length, Option, Some, None, IfSome, inl, inr, sym, ap, ◌∙◌, arith, le_refl, filter, find}
 use Rattle.std.proofs.Math.Nat.{mul-le-mul_left}
 use Rattle.std.proofs.lemmas.Bool.{true≢false, leb-true, le-leb, cases_lt}
 use Rattle.gcl_model.specs.Extents.{Extent, IsRising}
 use Rattle.gcl_model.specs.Access.{find_last}
 use Rattle.gcl_model.specs.Turns.{accept, go_to, finish}
-use Rattle.gcl_model.proofs.Covers.{Has}
 use Rattle.gcl_model.proofs.Minimal.{has_filter, same_truth}
-use Rattle.gcl_contain.specs.Kinds.{Kind}
 use Rattle.gcl_contain.specs.Laws.{ForwardIsRight, BackwardIsRight}
-use Rattle.gcl_contain.proofs.Accesses.{IsPlace, IsFirst, IsLast, start_is_place, end_is_place, found_first, found_last}
+use Rattle.gcl_contain.proofs.Accesses.{IsPlace, start_is_place, end_is_place, found_first, found_last}
 use Rattle.gcl_contain.proofs.Right.{containing_is_right, contained_in_is_right, not_containing_is_right, not_contained_in_is_right, containing_back_is_right, contained_in_back_is_right, not_containing_back_is_right, not_contained_in_back_is_right}
 use Rattle.gcl_contain.proofs.Loops.{IsPassed, IsPassedBack, passed_none, passed_none_back, right_forward, right_backward, forward_none, forward_accept, forward_finish, forward_goes_on, backward_none, backward_accept, backward_finish, backward_goes_on, starts_forward, starts_backward, enters_forward, enters_forward_none, enters_backward, enters_backward_none, arrives_forward, arrives_backward}
 use Rattle.gcl_contain.proofs.Advance.{containing_goes, contained_in_goes, not_containing_goes, not_contained_in_goes, containing_back_goes, contained_in_back_goes, not_containing_back_goes, not_contained_in_back_goes}

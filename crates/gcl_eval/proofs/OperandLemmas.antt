@@ -4,25 +4,19 @@ use denote.Param.Weighed.{most, most-append}
 use Rattle.gcl_model.specs.declared.expr.Expr.{Expr, Both, One, Seq, size-Expr}
 use Rattle.gcl_model.specs.Extents.{Extent}
 use Rattle.gcl_model.specs.Texts.{Text}
-use Rattle.gcl_model.specs.Forms.{Form, both, one, seq}
+use Rattle.gcl_model.specs.Forms.{both, one, seq}
 use Rattle.gcl_model.specs.FormOf.{form_of}
-use Rattle.gcl_model.specs.WellFormed.{IsWellFormed}
+use Rattle.gcl_model.specs.WellFormed.{IsWellFormed, AreWellFormed}
 use Rattle.gcl_model.specs.Meaning.{concordance}
 use Rattle.gcl_model.specs.Cost.{cost}
 use Rattle.gcl_model.proofs.FormLemmas.{form_of-Both, form_of-One, form_of-Seq}
-use Rattle.gcl_eval.specs.OfTerms.{IsOfTerms}
-use Rattle.gcl_eval.specs.Operands.{operand_forms, operand_lists, operand_costs, chain_form, chain_list, AreOperands, IsChain}
+use Rattle.gcl_eval.specs.Operands.{operand_forms, operand_lists, operand_costs, chain_form, chain_list, IsChain}
 use Rattle.gcl_eval.specs.Directions.{beside, access_of}
 use Rattle.gcl_eval.specs.declared.chain.Chain.{Chain}
 use Rattle.gcl_eval.specs.declared.chain.Chain.TheVariants.{BothOf, OneOf, FollowedBy}
 use Rattle.gcl_eval.specs.declared.direction.Direction.{Direction}
 use Rattle.gcl_eval.specs.declared.direction.Direction.TheVariants.{Forward, Backward}
 use Rattle.gcl_eval.specs.declared.direction.Access.{Access}
-
--- an operand can be evaluated
-pub record IsOperand (form : Form) : Type 0 where
-  pub well_formed : IsWellFormed form
-  pub of_terms : IsOfTerms form
 
 lists_at_end : (text : Text) (x : Expr) (others : List Expr) → operand_lists text (others ++ x ∷ []) ≡ operand_lists text others ++ concordance text (form_of x) ∷ []
 lists_at_end text x [] = refl
@@ -42,22 +36,22 @@ pub costs_beside : (direction : Direction) (text : Text) (bound : ℕ) (exprs : 
 costs_beside Forward text bound exprs x others e = ap (operand_costs text bound) e
 costs_beside Backward text bound exprs x others e = ap (operand_costs text bound) e ∙ costs_at_end text bound x others
 
--- an operand and the others can be evaluated
+-- an operand and the others are well formed
 pub record AreParts (x : Expr) (others : List Expr) : Type 0 where
-  pub operand : IsOperand (form_of x)
-  pub rest : AreOperands (operand_forms others)
+  pub operand : IsWellFormed (form_of x)
+  pub rest : AreWellFormed (operand_forms others)
 
-parts_at_end : (x : Expr) (others : List Expr) → AreOperands (operand_forms (others ++ x ∷ [])) → AreParts x others
-parts_at_end x [] a = record { operand = record { well_formed = a.well_formed.0; of_terms = a.of_terms.0 }; rest = record { well_formed = tt; of_terms = tt } }
+parts_at_end : (x : Expr) (others : List Expr) → AreWellFormed (operand_forms (others ++ x ∷ [])) → AreParts x others
+parts_at_end x [] a = record { operand = a.0; rest = tt }
 parts_at_end x (y ∷ others) a =
-    let later = parts_at_end x others record { well_formed = a.well_formed.1; of_terms = a.of_terms.1 } in
-    record { operand = later.operand; rest = record { well_formed = (a.well_formed.0, later.rest.well_formed); of_terms = (a.of_terms.0, later.rest.of_terms) } }
+    let later = parts_at_end x others a.1 in
+    record { operand = later.operand; rest = (a.0, later.rest) }
 
-pub parts_beside : (direction : Direction) (exprs : List Expr) (x : Expr) (others : List Expr) → exprs ≡ beside direction x others → AreOperands (operand_forms exprs) → AreParts x others
+pub parts_beside : (direction : Direction) (exprs : List Expr) (x : Expr) (others : List Expr) → exprs ≡ beside direction x others → AreWellFormed (operand_forms exprs) → AreParts x others
 parts_beside Forward exprs x others e a =
-    let b = subst (λ es. AreOperands (operand_forms es)) e a in
-    record { operand = record { well_formed = b.well_formed.0; of_terms = b.of_terms.0 }; rest = record { well_formed = b.well_formed.1; of_terms = b.of_terms.1 } }
-parts_beside Backward exprs x others e a = parts_at_end x others (subst (λ es. AreOperands (operand_forms es)) e a)
+    let b = subst (λ es. AreWellFormed (operand_forms es)) e a in
+    record { operand = b.0; rest = b.1 }
+parts_beside Backward exprs x others e a = parts_at_end x others (subst (λ es. AreWellFormed (operand_forms es)) e a)
 
 -- neither an operand nor the others lie deeper than all of them
 pub record AreNoDeeper (exprs : List Expr) (x : Expr) (others : List Expr) : Type 0 where
@@ -80,10 +74,10 @@ one_form e v exprs is same = ap form_of is ∙ form_of-One v ∙ ap (λ es. one 
 pub seq_form : (e : Expr) (v : Vec Expr Global) (exprs : List Expr) → e ≡ Seq v → exprs ≡ v.items → form_of e ≡ chain_form FollowedBy (operand_forms exprs)
 seq_form e v exprs is same = ap form_of is ∙ form_of-Seq v ∙ ap (λ es. seq (operand_forms es)) (sym same)
 
-chain_parts : (chain : Chain) (exprs : List Expr) → IsWellFormed (chain_form chain (operand_forms exprs)) → IsOfTerms (chain_form chain (operand_forms exprs)) → IsChain (operand_forms exprs)
-chain_parts BothOf exprs w c = record { several = w.0; operands = record { well_formed = w.1; of_terms = c } }
-chain_parts OneOf exprs w c = record { several = w.0; operands = record { well_formed = w.1; of_terms = c } }
-chain_parts FollowedBy exprs w c = record { several = w.0; operands = record { well_formed = w.1; of_terms = c } }
+chain_parts : (chain : Chain) (exprs : List Expr) → IsWellFormed (chain_form chain (operand_forms exprs)) → IsChain (operand_forms exprs)
+chain_parts BothOf exprs w = record { several = w.0; operands = w.1 }
+chain_parts OneOf exprs w = record { several = w.0; operands = w.1 }
+chain_parts FollowedBy exprs w = record { several = w.0; operands = w.1 }
 
 chain_cost : (chain : Chain) (text : Text) (bound : ℕ) (exprs : List Expr) → cost text bound (chain_form chain (operand_forms exprs)) ≡ 4 * operand_costs text bound exprs
 chain_cost BothOf text bound exprs = refl
@@ -91,8 +85,8 @@ chain_cost OneOf text bound exprs = refl
 chain_cost FollowedBy text bound exprs = refl
 
 module _ (chain : Chain) (e : Expr) (exprs : List Expr) (form : form_of e ≡ chain_form chain (operand_forms exprs)) where
-  pub chain_operands : IsWellFormed (form_of e) → IsOfTerms (form_of e) → IsChain (operand_forms exprs)
-  chain_operands w c = chain_parts chain exprs (subst IsWellFormed form w) (subst IsOfTerms form c)
+  pub chain_operands : IsWellFormed (form_of e) → IsChain (operand_forms exprs)
+  chain_operands w = chain_parts chain exprs (subst IsWellFormed form w)
 
   pub chain_answer : (text : Text) (access : Access) (k : ℕ) (o : Option Extent) → o ≡ access_of access (chain_list text chain exprs) k → o ≡ access_of access (concordance text (form_of e)) k
   chain_answer text access k o is = is ∙ ap (λ f. access_of access (concordance text f) k) (sym form)

@@ -2,7 +2,7 @@
 use Rattle.std.specs.Prelude.{◌≡◌, List, [], ◌∷◌, Some, None, codes}
 use Rattle.std.proofs.Common.{refl}
 use Rattle.gcl_model.specs.Extents.{Extent, extent}
-use Rattle.gcl_model.specs.Texts.{Text, Word}
+use Rattle.gcl_model.specs.Texts.{Text}
 use Rattle.gcl_model.specs.Forms.{Form, term, both, seq, contained_in, no_forms, more_forms}
 use Rattle.gcl_model.specs.Cost.{cost}
 use Rattle.gcl_eval.specs.Directions.{access_of, passed, resume}

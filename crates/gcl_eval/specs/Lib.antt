@@ -1,4 +1,3 @@
-pub mod OfTerms
 pub mod Operands
 pub mod Directions
 pub mod Sources

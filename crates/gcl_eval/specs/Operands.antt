@@ -8,7 +8,6 @@ use Rattle.gcl_model.specs.FormOf.{form_of, forms_from}
 use Rattle.gcl_model.specs.Meaning.{operands, concordance}
 use Rattle.gcl_model.specs.Cost.{costs}
 use Rattle.gcl_model.specs.WellFormed.{AreWellFormed}
-use Rattle.gcl_eval.specs.OfTerms.{AreOfTerms}
 use Rattle.gcl_eval.specs.declared.chain.Chain.{Chain}
 use Rattle.gcl_eval.specs.declared.chain.Chain.TheVariants.{BothOf, OneOf, FollowedBy}
 
@@ -30,12 +29,7 @@ chain_form FollowedBy = seq
 abbrev pub chain_list : Text → Chain → List Expr → List Extent
 chain_list text chain exprs = concordance text (chain_form chain (operand_forms exprs))
 
--- each of them can be evaluated
-pub record AreOperands (forms : Forms) : Type 0 where
-  pub well_formed : AreWellFormed forms
-  pub of_terms : AreOfTerms forms
-
--- and there are two of them or more
+-- there are two of them or more, each well formed
 pub record IsChain (forms : Forms) : Type 0 where
   pub several : 2 ≤ forms_count forms
-  pub operands : AreOperands forms
+  pub operands : AreWellFormed forms

@@ -2,10 +2,9 @@ ghost use Rattle.std.specs.Prelude.{◌≡◌, ◌+◌, ◌*◌, ◌<◌, ◌≤
 ghost use Rattle.gcl_model.specs.FormOf.{form_of};
 ghost use Rattle.gcl_model.specs.Meaning.{concordance};
 ghost use Rattle.gcl_model.specs.Cost.{cost};
-ghost use Rattle.gcl_model.specs.WellFormed.{IsWellFormed};
-ghost use Rattle.gcl_eval.specs.OfTerms.{IsOfTerms};
+ghost use Rattle.gcl_model.specs.WellFormed.{IsWellFormed, AreWellFormed};
 ghost use Rattle.gcl_eval.specs.Containments.{IsContainment};
-ghost use Rattle.gcl_eval.specs.Operands.{operand_forms, operand_lists, operand_costs, chain_form, chain_list, AreOperands, IsChain};
+ghost use Rattle.gcl_eval.specs.Operands.{operand_forms, operand_lists, operand_costs, chain_form, chain_list, IsChain};
 ghost use Rattle.gcl_eval.specs.Directions.{access_of, own_access, other_access, opposite, farthest, best, walk, passed};
 ghost use Rattle.gcl_eval.specs.Sources.{IsSpanOf};
 ghost use Rattle.gcl_eval.specs.declared.chain.Chain.TheVariants.{BothOf, OneOf, FollowedBy};
@@ -13,7 +12,9 @@ ghost use Rattle.gcl_eval.specs.declared.chain.Chain.TheVariants.{BothOf, OneOf,
 use crate::chain::Chain;
 use crate::containment::operands;
 use crate::direction::{Access, Direction};
+use crate::phrase::phrase_access;
 use crate::term::term_access;
+use crate::width::width_access;
 use gcl_contain::Turn;
 use gcl_model::{Expr, Interval, Leaves, Ledger, Span, Steps};
 
@@ -28,7 +29,6 @@ pub(crate) fn access<L: Leaves, S: Ledger>(
     steps: &mut Steps<S>,
 ) -> Option<Interval>
     requires well_formed { IsWellFormed (form_of expr.now) }
-    requires of_terms { IsOfTerms (form_of expr.now) }
     requires source { IsSpanOf (L.text leaves.now) span }
     requires below { k < 2 ^ 62 }
     ensures answer { result ≡ access_of access (concordance (L.text leaves.now) (form_of expr.now)) k }
@@ -37,6 +37,8 @@ pub(crate) fn access<L: Leaves, S: Ledger>(
 {
     match expr {
         Expr::Term(token) => term_access(token, access, leaves, k, steps),
+        Expr::Phrase(tokens) => phrase_access(tokens, access, leaves, k, steps),
+        Expr::Width(width) => width_access(*width, access, span, k),
         Expr::Both(operands) => chain_access(
             Chain::BothOf,
             operands,
@@ -60,7 +62,6 @@ pub(crate) fn access<L: Leaves, S: Ledger>(
         Expr::ContainedIn(_, _) => contain(expr, access, leaves, span, k, steps),
         Expr::NotContaining(_, _) => contain(expr, access, leaves, span, k, steps),
         Expr::NotContainedIn(_, _) => contain(expr, access, leaves, span, k, steps),
-        _ => unreachable!(),
     }
 }
 
@@ -76,7 +77,6 @@ fn contain<L: Leaves, S: Ledger>(
 ) -> Option<Interval>
     requires containment { IsContainment (form_of expr.now) }
     requires well_formed { IsWellFormed (form_of expr.now) }
-    requires of_terms { IsOfTerms (form_of expr.now) }
     requires source { IsSpanOf (L.text leaves.now) span }
     requires below { k < 2 ^ 62 }
     ensures answer { result ≡ access_of wanted (concordance (L.text leaves.now) (form_of expr.now)) k }
@@ -232,7 +232,7 @@ fn farthest<L: Leaves, S: Ledger>(
     k: u64,
     steps: &mut Steps<S>,
 ) -> Option<u64>
-    requires operands { AreOperands (operand_forms operands.now) }
+    requires operands { AreWellFormed (operand_forms operands.now) }
     requires source { IsSpanOf (L.text leaves.now) span }
     requires below { k < 2 ^ 62 }
     ensures answer { result ≡ farthest direction (operand_lists (L.text leaves.now) operands.now) k k }
@@ -312,7 +312,7 @@ fn walk<L: Leaves, S: Ledger>(
     start: Interval,
     steps: &mut Steps<S>,
 ) -> Option<Interval>
-    requires operands { AreOperands (operand_forms operands.now) }
+    requires operands { AreWellFormed (operand_forms operands.now) }
     requires source { IsSpanOf (L.text leaves.now) span }
     requires within { start.end < 2 ^ 48 }
     ensures answer { result ≡ walk direction (operand_lists (L.text leaves.now) operands.now) start }

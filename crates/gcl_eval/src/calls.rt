@@ -4,7 +4,6 @@ ghost use Rattle.gcl_model.specs.Meaning.{concordance};
 ghost use Rattle.gcl_model.specs.Access.{first_start, first_end, last_end, last_start};
 ghost use Rattle.gcl_model.specs.Cost.{cost};
 ghost use Rattle.gcl_model.specs.WellFormed.{IsWellFormed};
-ghost use Rattle.gcl_eval.specs.OfTerms.{IsOfTerms};
 
 use crate::access::access;
 use crate::direction::Access;
@@ -18,7 +17,6 @@ pub fn first_start<L: Leaves, S: Ledger>(
     steps: &mut Steps<S>,
 ) -> Option<Interval>
     requires well_formed { IsWellFormed (form_of expr.now) }
-    requires of_terms { IsOfTerms (form_of expr.now) }
     requires below { k < 2 ^ 62 }
     ensures answer { result ≡ first_start (concordance (L.text leaves.now) (form_of expr.now)) k }
     ensures cost { steps.new ≤ steps.old + cost (L.text leaves.now) (L.most leaves.now) (form_of expr.now) }
@@ -34,7 +32,6 @@ pub fn first_end<L: Leaves, S: Ledger>(
     steps: &mut Steps<S>,
 ) -> Option<Interval>
     requires well_formed { IsWellFormed (form_of expr.now) }
-    requires of_terms { IsOfTerms (form_of expr.now) }
     requires below { k < 2 ^ 62 }
     ensures answer { result ≡ first_end (concordance (L.text leaves.now) (form_of expr.now)) k }
     ensures cost { steps.new ≤ steps.old + cost (L.text leaves.now) (L.most leaves.now) (form_of expr.now) }
@@ -50,7 +47,6 @@ pub fn last_end<L: Leaves, S: Ledger>(
     steps: &mut Steps<S>,
 ) -> Option<Interval>
     requires well_formed { IsWellFormed (form_of expr.now) }
-    requires of_terms { IsOfTerms (form_of expr.now) }
     requires below { k < 2 ^ 62 }
     ensures answer { result ≡ last_end (concordance (L.text leaves.now) (form_of expr.now)) k }
     ensures cost { steps.new ≤ steps.old + cost (L.text leaves.now) (L.most leaves.now) (form_of expr.now) }
@@ -66,7 +62,6 @@ pub fn last_start<L: Leaves, S: Ledger>(
     steps: &mut Steps<S>,
 ) -> Option<Interval>
     requires well_formed { IsWellFormed (form_of expr.now) }
-    requires of_terms { IsOfTerms (form_of expr.now) }
     requires below { k < 2 ^ 62 }
     ensures answer { result ≡ last_start (concordance (L.text leaves.now) (form_of expr.now)) k }
     ensures cost { steps.new ≤ steps.old + cost (L.text leaves.now) (L.most leaves.now) (form_of expr.now) }

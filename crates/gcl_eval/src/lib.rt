@@ -1,7 +1,6 @@
 //! Whole expressions, evaluated by leaping from answer to answer, with no list of an operand ever made.
 //!
-//! Contracts see an expression by its form and its concordance list over the text of the leaves. All its leaves are
-//! terms: neither a phrase nor a width stands in it. Crates above use the four accesses of that list (`first_start`,
+//! Contracts see an expression by its form and its concordance list over the text of the leaves. Crates above use the four accesses of that list (`first_start`,
 //! `first_end`, `last_end`, `last_start`), which take no memory and make no more look-ups than the cost of the
 //! expression, and `count` and `list`, within that cost for each member and once more. The first member of
 //! `("to"^"not")+"be"` that ends at 3 or later in `<file!> to be or not to be </file!>` is (4, 5).
@@ -12,12 +11,14 @@ mod calls;
 mod chain;
 mod containment;
 mod direction;
+#[cfg(test)]
+mod leaf_tests;
 mod members;
-mod of_terms;
+mod phrase;
 mod term;
 #[cfg(test)]
 mod tests;
+mod width;
 
 pub use calls::{first_end, first_start, last_end, last_start};
 pub use members::{count, list};
-pub use of_terms::is_of_terms;

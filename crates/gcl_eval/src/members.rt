@@ -3,7 +3,6 @@ ghost use Rattle.gcl_model.specs.FormOf.{form_of};
 ghost use Rattle.gcl_model.specs.Meaning.{concordance};
 ghost use Rattle.gcl_model.specs.Cost.{cost};
 ghost use Rattle.gcl_model.specs.WellFormed.{IsWellFormed};
-ghost use Rattle.gcl_eval.specs.OfTerms.{IsOfTerms};
 
 use crate::access::access;
 use crate::direction::Access;
@@ -13,7 +12,6 @@ use std::alloc::{AllocError, Global};
 /// The number of members.
 pub fn count<L: Leaves, S: Ledger>(expr: &Expr, leaves: &L, steps: &mut Steps<S>) -> u64
     requires well_formed { IsWellFormed (form_of expr.now) }
-    requires of_terms { IsOfTerms (form_of expr.now) }
     ensures value { result ≡ length (concordance (L.text leaves.now) (form_of expr.now)) }
     ensures cost { steps.new ≤ steps.old + (result + 1) * cost (L.text leaves.now) (L.most leaves.now) (form_of expr.now) }
 {
@@ -36,7 +34,6 @@ pub fn list<L: Leaves, S: Ledger>(
     steps: &mut Steps<S>,
 ) -> Result<IntervalList, AllocError>
     requires well_formed { IsWellFormed (form_of expr.now) }
-    requires of_terms { IsOfTerms (form_of expr.now) }
     ensures ok { IfOk result (λ members. members ≡ take most (concordance (L.text leaves.now) (form_of expr.now))) }
     ensures cost { steps.new ≤ steps.old + (length (take most (concordance (L.text leaves.now) (form_of expr.now))) + 1) * cost (L.text leaves.now) (L.most leaves.now) (form_of expr.now) }
 {

@@ -2,7 +2,6 @@ ghost use Rattle.std.specs.Prelude.{◌≡◌, ◌<◌, ◌≤◌, ◌^◌, map,
 ghost use Rattle.gcl_model.specs.Forms.{forms_count};
 ghost use Rattle.gcl_model.specs.FormOf.{form_of, forms_from};
 ghost use Rattle.gcl_model.specs.WellFormed.{IsWellFormed, AreWellFormed};
-ghost use Rattle.gcl_eval.specs.OfTerms.{IsOfTerms, AreOfTerms};
 
 use crate::chain::Chain;
 use crate::containment::Containment;
@@ -16,9 +15,8 @@ use std::sync::ledger;
 use std::sync::ledger::Blank;
 use std::test::Fail;
 
-fn term(alloc: Global, word: &str) -> Result<Expr, AllocError>
+pub(crate) fn term(alloc: Global, word: &str) -> Result<Expr, AllocError>
     ensures well_formed { IfOk result (λ expr. IsWellFormed (form_of expr)) }
-    ensures of_terms { IfOk result (λ expr. IsOfTerms (form_of expr)) }
 {
     Ok(Expr::Term(Bytes::copy_of(alloc, word.as_bytes())?))
 }
@@ -26,9 +24,7 @@ fn term(alloc: Global, word: &str) -> Result<Expr, AllocError>
 fn node(chain: Chain, operands: Vec<Expr>) -> Expr
     requires several { 2 ≤ forms_count (forms_from (map form_of operands.items)) }
     requires well_formed { AreWellFormed (forms_from (map form_of operands.items)) }
-    requires of_terms { AreOfTerms (forms_from (map form_of operands.items)) }
     ensures well_formed { IsWellFormed (form_of result) }
-    ensures of_terms { IsOfTerms (form_of result) }
 {
     match chain {
         Chain::BothOf => Expr::Both(operands),
@@ -37,13 +33,10 @@ fn node(chain: Chain, operands: Vec<Expr>) -> Expr
     }
 }
 
-fn pair(alloc: Global, chain: Chain, a: Expr, b: Expr) -> Result<Expr, AllocError>
+pub(crate) fn pair(alloc: Global, chain: Chain, a: Expr, b: Expr) -> Result<Expr, AllocError>
     requires a_well_formed { IsWellFormed (form_of a) }
-    requires a_of_terms { IsOfTerms (form_of a) }
     requires b_well_formed { IsWellFormed (form_of b) }
-    requires b_of_terms { IsOfTerms (form_of b) }
     ensures well_formed { IfOk result (λ expr. IsWellFormed (form_of expr)) }
-    ensures of_terms { IfOk result (λ expr. IsOfTerms (form_of expr)) }
 {
     let mut operands = Vec::new(alloc);
     operands.push(a)?;
@@ -53,7 +46,6 @@ fn pair(alloc: Global, chain: Chain, a: Expr, b: Expr) -> Result<Expr, AllocErro
 
 fn words(alloc: Global, chain: Chain, words: [&str; 3]) -> Result<Expr, AllocError>
     ensures well_formed { IfOk result (λ expr. IsWellFormed (form_of expr)) }
-    ensures of_terms { IfOk result (λ expr. IsOfTerms (form_of expr)) }
 {
     let mut operands = Vec::new(alloc);
     operands.push(term(alloc, words[0])?)?;
@@ -62,20 +54,21 @@ fn words(alloc: Global, chain: Chain, words: [&str; 3]) -> Result<Expr, AllocErr
     Ok(node(chain, operands))
 }
 
-fn two(alloc: Global, chain: Chain, a: &str, b: &str) -> Result<Expr, AllocError>
+pub(crate) fn two(alloc: Global, chain: Chain, a: &str, b: &str) -> Result<Expr, AllocError>
     ensures well_formed { IfOk result (λ expr. IsWellFormed (form_of expr)) }
-    ensures of_terms { IfOk result (λ expr. IsOfTerms (form_of expr)) }
 {
     pair(alloc, chain, term(alloc, a)?, term(alloc, b)?)
 }
 
-fn contain(alloc: Global, containment: Containment, a: Expr, b: Expr) -> Result<Expr, AllocError>
+pub(crate) fn contain(
+    alloc: Global,
+    containment: Containment,
+    a: Expr,
+    b: Expr,
+) -> Result<Expr, AllocError>
     requires a_well_formed { IsWellFormed (form_of a) }
-    requires a_of_terms { IsOfTerms (form_of a) }
     requires b_well_formed { IsWellFormed (form_of b) }
-    requires b_of_terms { IsOfTerms (form_of b) }
     ensures well_formed { IfOk result (λ expr. IsWellFormed (form_of expr)) }
-    ensures of_terms { IfOk result (λ expr. IsOfTerms (form_of expr)) }
 {
     let a = Box::new(alloc, a)?;
     let b = Box::new(alloc, b)?;
@@ -96,7 +89,6 @@ fn agrees<R: Abort, S: Ledger>(
     steps: &mut Steps<S>,
 )
     requires well_formed { IsWellFormed (form_of expr.now) }
-    requires of_terms { IsOfTerms (form_of expr.now) }
 {
     for k in 0..14u64 {
         let from = members.iter().copied().find(|m| m.start >= k);
@@ -128,7 +120,6 @@ fn lists<R: Abort, S: Ledger>(
     members: &[Interval],
 ) -> Result<(), AllocError>
     requires well_formed { IsWellFormed (form_of expr.now) }
-    requires of_terms { IsOfTerms (form_of expr.now) }
 {
     for most in 0..members.len() {
         let front = list(alloc, expr, text, most as u64, steps)?;
@@ -140,7 +131,7 @@ fn lists<R: Abort, S: Ledger>(
 }
 
 /// The members are these, by the plain list too, and all accesses, the count and each front of the list follow.
-fn has<R: Abort, S: Ledger>(
+pub(crate) fn has<R: Abort, S: Ledger>(
     rt: &R,
     alloc: Global,
     text: &PlainText,
@@ -149,7 +140,6 @@ fn has<R: Abort, S: Ledger>(
     want: &[Interval],
 ) -> Result<(), AllocError>
     requires well_formed { IsWellFormed (form_of expr) }
-    requires of_terms { IsOfTerms (form_of expr) }
 {
     let members = slow_list(alloc, &expr, text)?;
     assert_eq!(rt; members.as_slice(), want);
@@ -159,7 +149,7 @@ fn has<R: Abort, S: Ledger>(
 }
 
 /// `to be or not to be` between the tokens of a file's boundary, at 0 to 7.
-fn hamlet(alloc: Global) -> Result<TokenList, AllocError> {
+pub(crate) fn hamlet(alloc: Global) -> Result<TokenList, AllocError> {
     let mut tokens = TokenList::new(alloc);
     for word in ["<file!>", "to", "be", "or", "not", "to", "be", "</file!>"] {
         tokens.push(Bytes::copy_of(alloc, word.as_bytes())?)?;
@@ -167,7 +157,7 @@ fn hamlet(alloc: Global) -> Result<TokenList, AllocError> {
     Ok(tokens)
 }
 
-fn letters(alloc: Global) -> Result<TokenList, AllocError> {
+pub(crate) fn letters(alloc: Global) -> Result<TokenList, AllocError> {
     let mut tokens = TokenList::new(alloc);
     for word in ["a", "b", "a", "c", "b", "a", "b"] {
         tokens.push(Bytes::copy_of(alloc, word.as_bytes())?)?;
@@ -175,7 +165,7 @@ fn letters(alloc: Global) -> Result<TokenList, AllocError> {
     Ok(tokens)
 }
 
-fn interval(start: u64, end: u64) -> Interval
+pub(crate) fn interval(start: u64, end: u64) -> Interval
     requires { start ≤ end }
 {
     Interval::new(start, end)
@@ -354,7 +344,113 @@ fn chains_of_letters<R: Abort, S: Ledger>(
     )
 }
 
-fn over_both_texts<B: ledger::Ledger, R: Abort>(
+/// `<doc> a a b <doc> a </doc> b </doc>` at 2 to 10: a word twice in a row, and tags within tags.
+fn tagged(alloc: Global) -> Result<TokenList, AllocError> {
+    let mut tokens = TokenList::new(alloc);
+    for word in [
+        "<doc>", "a", "a", "b", "<doc>", "a", "</doc>", "b", "</doc>",
+    ] {
+        tokens.push(Bytes::copy_of(alloc, word.as_bytes())?)?;
+    }
+    Ok(tokens)
+}
+
+fn chains_of_tags<R: Abort, S: Ledger>(
+    rt: &R,
+    alloc: Global,
+    text: &PlainText,
+    steps: &mut Steps<S>,
+) -> Result<(), AllocError> {
+    let inner = [interval(6, 8)];
+    let tags = [
+        interval(2, 2),
+        interval(6, 6),
+        interval(8, 8),
+        interval(10, 10),
+    ];
+    let a_a = [interval(3, 4), interval(4, 7)];
+    let b_a = [interval(5, 7)];
+    let a_and_b = [interval(4, 5), interval(5, 7), interval(7, 9)];
+    for (chain, a, b, want) in [
+        (Chain::FollowedBy, "<doc>", "</doc>", inner.as_slice()),
+        (Chain::FollowedBy, "</doc>", "<doc>", &tags[..0]),
+        (Chain::OneOf, "</doc>", "<doc>", tags.as_slice()),
+        (Chain::FollowedBy, "a", "a", a_a.as_slice()),
+        (Chain::FollowedBy, "b", "a", b_a.as_slice()),
+        (Chain::BothOf, "a", "b", a_and_b.as_slice()),
+    ] {
+        has(rt, alloc, text, steps, two(alloc, chain, a, b)?, want)?;
+    }
+    let a_a = two(alloc, Chain::FollowedBy, "a", "a")?;
+    let and_b = pair(alloc, Chain::BothOf, a_a, term(alloc, "b")?)?;
+    has(
+        rt,
+        alloc,
+        text,
+        steps,
+        and_b,
+        &[interval(3, 5), interval(4, 7)],
+    )
+}
+
+fn containments_of_tags<R: Abort, S: Ledger>(
+    rt: &R,
+    alloc: Global,
+    text: &PlainText,
+    steps: &mut Steps<S>,
+) -> Result<(), AllocError> {
+    let both = [interval(3, 4), interval(4, 7)];
+    let near = [interval(3, 4)];
+    let far = [interval(4, 7)];
+    for (containment, want) in [
+        (Containment::Containing, far.as_slice()),
+        (Containment::ContainedIn, &both[..0]),
+        (Containment::NotContaining, near.as_slice()),
+        (Containment::NotContainedIn, both.as_slice()),
+    ] {
+        let a_a = two(alloc, Chain::FollowedBy, "a", "a")?;
+        let expr = contain(alloc, containment, a_a, term(alloc, "b")?)?;
+        has(rt, alloc, text, steps, expr, want)?;
+    }
+    let words = [interval(3, 3), interval(4, 4), interval(7, 7)];
+    let outside = [interval(3, 3), interval(4, 4)];
+    let inside = [interval(7, 7)];
+    for (containment, want) in [
+        (Containment::Containing, &words[..0]),
+        (Containment::ContainedIn, inside.as_slice()),
+        (Containment::NotContaining, words.as_slice()),
+        (Containment::NotContainedIn, outside.as_slice()),
+    ] {
+        let tags = two(alloc, Chain::FollowedBy, "<doc>", "</doc>")?;
+        let expr = contain(alloc, containment, term(alloc, "a")?, tags)?;
+        has(rt, alloc, text, steps, expr, want)?;
+    }
+    Ok(())
+}
+
+/// A list holds and is held by itself.
+fn a_list_with_itself<R: Abort, S: Ledger>(
+    rt: &R,
+    alloc: Global,
+    text: &PlainText,
+    steps: &mut Steps<S>,
+) -> Result<(), AllocError> {
+    let inner = [interval(6, 8)];
+    for (containment, want) in [
+        (Containment::Containing, inner.as_slice()),
+        (Containment::ContainedIn, inner.as_slice()),
+        (Containment::NotContaining, &inner[..0]),
+        (Containment::NotContainedIn, &inner[..0]),
+    ] {
+        let tags = two(alloc, Chain::FollowedBy, "<doc>", "</doc>")?;
+        let same = two(alloc, Chain::FollowedBy, "<doc>", "</doc>")?;
+        let expr = contain(alloc, containment, tags, same)?;
+        has(rt, alloc, text, steps, expr, want)?;
+    }
+    Ok(())
+}
+
+fn over_each_text<B: ledger::Ledger, R: Abort>(
     rt: &R,
     alloc: Global,
     blank: Blank,
@@ -375,12 +471,18 @@ fn over_both_texts<B: ledger::Ledger, R: Abort>(
     let tokens = letters(alloc)?;
     assert_eq!(rt; tokens.len(), 7);
     let text = of_tokens(alloc, 3, &tokens)?;
-    chains_of_letters(rt, alloc, &text, &mut steps)
+    chains_of_letters(rt, alloc, &text, &mut steps)?;
+    let tokens = tagged(alloc)?;
+    assert_eq!(rt; tokens.len(), 9);
+    let text = of_tokens(alloc, 2, &tokens)?;
+    chains_of_tags(rt, alloc, &text, &mut steps)?;
+    containments_of_tags(rt, alloc, &text, &mut steps)?;
+    a_list_with_itself(rt, alloc, &text, &mut steps)
 }
 
 #[test]
 fn each_access_is_that_of_the_members(rt: HostRuntime) -> Result<(), Fail> {
-    over_both_texts::<Brand, HostRuntime>(&rt, rt.alloc(), Blank::new(1))?;
+    over_each_text::<Brand, HostRuntime>(&rt, rt.alloc(), Blank::new(1))?;
     Ok(())
 }
 
@@ -394,7 +496,6 @@ fn counted<B: ledger::Ledger>(
     requires parts { blank.parts ≡ B.parts }
     requires some { 0 < blank.parts }
     requires well_formed { IsWellFormed (form_of expr.now) }
-    requires of_terms { IsOfTerms (form_of expr.now) }
 {
     let mut steps = Steps::<Tally<B>>::open(blank);
     let found = first_start(expr, text, 0, &mut steps);
@@ -415,12 +516,15 @@ fn both_of_two_terms_takes_four_look_ups(rt: HostRuntime) -> Result<(), Fail> {
 }
 
 /// How many members there are, and how many look-ups counted them.
-fn counted_members<B: ledger::Ledger>(expr: &Expr, text: &PlainText, blank: Blank) -> (u64, u64)
+pub(crate) fn counted_members<B: ledger::Ledger>(
+    expr: &Expr,
+    text: &PlainText,
+    blank: Blank,
+) -> (u64, u64)
     requires name { blank.name ≡ B.name }
     requires parts { blank.parts ≡ B.parts }
     requires some { 0 < blank.parts }
     requires well_formed { IsWellFormed (form_of expr.now) }
-    requires of_terms { IsOfTerms (form_of expr.now) }
 {
     let mut steps = Steps::<Tally<B>>::open(blank);
     let members = count(expr, text, &mut steps);

@@ -1,5 +1,5 @@
 use Rattle.std.proofs.Common.{◌+◌, Some, None, drop, ap, sym, ◌∙◌, arith, rules}
-use Rattle.gcl_model.specs.Forms.{term}
+use Rattle.gcl_model.specs.Forms.{term, phrase, width}
 use Rattle.gcl_model.specs.FormOf.{form_of}
 use Rattle.gcl_model.specs.Meaning.{concordance}
 use Rattle.gcl_eval.specs.Operands.{operand_forms, operand_lists, chain_form, chain_list}
@@ -11,7 +11,6 @@ use Rattle.gcl_eval.proofs.ChainRules.{back_is_as_far}
 use Rattle.gcl_eval.proofs.OperandLemmas.{costs_beside, parts_beside, depth_beside, both_form, one_form, seq_form, chain_answer}
 use Rattle.gcl_eval.proofs.ChainSteps.{next_item, walk_ends, walk_next, farthest_next, best_next, best_all, farther_below, both_far, both_near, seq_found, seq_far, seq_near, joins, own_within, other_ends}
 use Rattle.gcl_eval.proofs.Containments.{goes_below}
-use Rattle.gcl_eval.proofs.ContainExprs.{is_containing, is_contained_in, is_not_containing, is_not_contained_in}
 use Rattle.gcl_eval.proofs.ContainForms.{both_operands, access_spans, spans_below}
 use Rattle.gcl_eval.proofs.ContainSteps.{node_enters, node_enters_none, node_accepts, node_finishes, node_ends, node_goes_on, node_more_turns, fewer_left, none_within, starts_within, stops_within, ends_within, goes_within}
 use Rattle.gcl_eval.proofs.access.+access.Goals as goal
@@ -46,6 +45,16 @@ access-returns-in-Seq-clause-within g t c =
 pub access-returns-in-Term-clause-within : goal.access-returns-in-Term-clause-within
 access-returns-in-Term-clause-within g t c =
     access_within c.args.access (g.L.Leaves.text c.args.leaves.now) (term c.in-Term.token) c.args.k c.term_access.result c.requires.source.sound c.term_access.ensures.answer
+
+pub access-returns-in-Phrase-clause-within : goal.access-returns-in-Phrase-clause-within
+access-returns-in-Phrase-clause-within g t c =
+    access_within c.args.access (g.L.Leaves.text c.args.leaves.now) (phrase c.in-Phrase.tokens) c.args.k c.phrase_access.result c.requires.source.sound c.phrase_access.ensures.answer
+
+pub access-returns-in-Width-clause-within : goal.access-returns-in-Width-clause-within
+access-returns-in-Width-clause-within g t c =
+    let text = g.L.Leaves.text c.args.leaves.now in
+    access_within c.args.access text (width c.in-Width.width) c.args.k c.width_access.result c.requires.source.sound
+    (c.width_access.ensures text record { first_is = sym c.requires.source.first; next_is = sym c.requires.source.next })
 
 pub other-returns-in_err-from-clause-answer : goal.other-returns-in_err-from-clause-answer
 other-returns-in_err-from-clause-answer g t c =
@@ -264,7 +273,7 @@ walk-loop-operand-preserved g t c =
 
 pub contain-access-requires : goal.contain-access-requires
 contain-access-requires g t c =
-    let parts = both_operands c.operands-containment.result.0 (form_of c.args.expr.now) (form_of c.operands-containment.result.1.now) (form_of c.operands-containment.result.2.now) c.operands-containment.ensures.form c.requires.well_formed c.requires.of_terms in
+    let parts = both_operands c.operands-containment.result.0 (form_of c.args.expr.now) (form_of c.operands-containment.result.1.now) (form_of c.operands-containment.result.2.now) c.operands-containment.ensures.form c.requires.well_formed in
     search rules
 
 pub contain-returns-in_err-member-clause-answer : goal.contain-returns-in_err-member-clause-answer
@@ -287,7 +296,7 @@ contain-loop-next-init g t c =
 
 pub contain-access-answer-requires : goal.contain-access-answer-requires
 contain-access-answer-requires g t c =
-    let parts = both_operands c.operands-containment.result.0 (form_of c.args.expr.now) (form_of c.operands-containment.result.1.now) (form_of c.operands-containment.result.2.now) c.operands-containment.ensures.form c.requires.well_formed c.requires.of_terms in
+    let parts = both_operands c.operands-containment.result.0 (form_of c.args.expr.now) (form_of c.operands-containment.result.1.now) (form_of c.operands-containment.result.2.now) c.operands-containment.ensures.form c.requires.well_formed in
     let below = c.question-asked.ensures.below in
     search rules
 
@@ -316,7 +325,7 @@ contain-returns-in-Finish-clause-cost g t c =
 
 pub contain-access-requires-in-GoTo : goal.contain-access-requires-in-GoTo
 contain-access-requires-in-GoTo g t c =
-    let parts = both_operands c.operands-containment.result.0 (form_of c.args.expr.now) (form_of c.operands-containment.result.1.now) (form_of c.operands-containment.result.2.now) c.operands-containment.ensures.form c.requires.well_formed c.requires.of_terms in
+    let parts = both_operands c.operands-containment.result.0 (form_of c.args.expr.now) (form_of c.operands-containment.result.1.now) (form_of c.operands-containment.result.2.now) c.operands-containment.ensures.form c.requires.well_formed in
     let spans = access_spans c.question-asked.result.0 (g.L.Leaves.text c.args.leaves.now) (form_of c.operands-containment.result.2.now) c.question-asked.result.1 c.access-answer.result c.requires.source.sound c.access-answer.ensures.answer in
     let below = goes_below c.direction-direction.result c.operands-containment.result.0 c.loop-next.member c.access-answer.result c.in-GoTo.next spans c.in-GoTo.ensures in
     search rules

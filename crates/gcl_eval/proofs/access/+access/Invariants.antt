@@ -4,7 +4,8 @@ use Rattle.gcl_model.specs.declared.expr.Expr.{size-Expr}
 use Rattle.gcl_model.specs.FormOf.{form_of}
 use Rattle.gcl_model.specs.Meaning.{concordance}
 use Rattle.gcl_model.specs.Cost.{cost}
-use Rattle.gcl_eval.specs.Operands.{operand_forms, operand_lists, operand_costs, AreOperands}
+use Rattle.gcl_model.specs.WellFormed.{AreWellFormed}
+use Rattle.gcl_eval.specs.Operands.{operand_forms, operand_lists, operand_costs}
 use Rattle.gcl_eval.specs.Directions.{access_of, farthest, best, walk}
 use Rattle.gcl_eval.proofs.Containments.{IsAt, turns}
 use Rattle.gcl_eval.proofs.access.+access.Given as goal
@@ -16,7 +17,7 @@ invariant-farthest-loop-operand g l =
     let bound = g.L.Leaves.most l.leaves in
     let rest = drop l.operand-index l.operands in
     record {
-      operands : AreOperands (operand_forms rest);
+      operands : AreWellFormed (operand_forms rest);
       answer : farthest l.direction (operand_lists text rest) l.k l.side ≡ farthest l.direction (operand_lists text l.operands) l.k l.k;
       below : l.side < 2 ^ 62;
       cost : l.steps + operand_costs text bound rest ≤ l.fn.steps + operand_costs text bound l.operands;
@@ -28,7 +29,7 @@ invariant-one-loop-operand g l =
     let bound = g.L.Leaves.most l.leaves in
     let rest = drop l.operand-index l.operands in
     record {
-      operands : AreOperands (operand_forms rest);
+      operands : AreWellFormed (operand_forms rest);
       answer : best l.direction (operand_lists text rest) l.k l.best ≡ best l.direction (operand_lists text l.operands) l.k None;
       cost : l.steps + operand_costs text bound rest ≤ l.fn.steps + operand_costs text bound l.operands;
     }
@@ -38,7 +39,7 @@ invariant-walk-loop-operand g l =
     let text = g.L.Leaves.text l.leaves in
     let bound = g.L.Leaves.most l.leaves in
     record {
-      operands : AreOperands (operand_forms l.rest);
+      operands : AreWellFormed (operand_forms l.rest);
       answer : walk l.direction (operand_lists text l.rest) l.answer ≡ walk l.direction (operand_lists text l.operands) l.fn.start;
       depth : most size-Expr l.rest ≤ most size-Expr l.operands;
       within : l.answer.end < 2 ^ 48;
