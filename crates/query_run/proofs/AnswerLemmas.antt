@@ -1,5 +1,5 @@
 -- The answers to commands, by their lines.
-use Rattle.std.proofs.Common.{◌≡◌, ℕ, ◌+◌, ◌≤◌, ◌<◌, Bool, true, false, List, [], ◌∷◌, ◌++◌, map, length, refl, sym, ap, ◌∙◌, rules, arith, append_assoc, Option, None, Some, IfSome, subst, nat_lt, suc}
+use Rattle.std.proofs.Common.{◌≡◌, ℕ, ◌+◌, Bool, true, false, List, [], ◌∷◌, ◌++◌, map, take, length, refl, sym, ap, ◌∙◌, arith, append_assoc, Option, None, Some, nat_lt}
 use Rattle.std.specs.Prelude.{◌^◌}
 use Rattle.std.specs.List.{list_any}
 use Rattle.std.proofs.lemmas.Bool.Decides.{nat_tests}
@@ -7,18 +7,15 @@ use Rattle.std.proofs.lemmas.List.{append-nil, length-append}
 use Rattle.std.proofs.lemmas.List.Folds.{list_any-append}
 use Rattle.std.proofs.lemmas.Grind.{flat_map-append}
 use Rattle.outside.specs.Contents.{Contents, BeginsContent}
-use Rattle.gcl_model.specs.Extents.{Extent, extent}
-use Rattle.gcl_model.specs.Texts.{places}
-use Rattle.gcl_model.specs.Forms.{Form, term}
+use Rattle.gcl_model.specs.Extents.{Extent}
+use Rattle.gcl_model.specs.Forms.{Form}
 use Rattle.gcl_model.specs.Meaning.{concordance}
-use Rattle.gcl_model.specs.Collections.{File, Collection, text_of, words_of, width_of, IsSound}
-use Rattle.gcl_model.specs.Tokens.{tokens_of}
-use Rattle.gcl_model.proofs.Places.{point}
+use Rattle.gcl_model.specs.Collections.{File, Collection, text_of, width_of}
 use Rattle.script_lang.specs.Lines.{Line}
 use Rattle.script_lang.specs.Commands.{command_of}
-use Rattle.script_lang.specs.Answers.{interval_line, total_line, record_line, is_refusal}
+use Rattle.script_lang.specs.Answers.{interval_line, total_line, is_refusal}
 use Rattle.script_lang.specs.declared.commands.Command.{Command}
-use Rattle.script_lang.specs.declared.commands.Command.TheVariants.{Add, Find}
+use Rattle.script_lang.specs.declared.commands.Command.TheVariants.{Add}
 use Rattle.script_lang.specs.declared.refusals.Refusal.TheVariants.{LongLine, Query, TooLong}
 use Rattle.gcl_parser.specs.declared.fault.QueryFault.{QueryFault}
 use Rattle.gcl_parser.specs.Grammar.{IsQueryWithin}
@@ -26,11 +23,9 @@ use Rattle.gcl_parser.specs.Refusal.{refused}
 use Rattle.gcl_parser.proofs.Derives.{not_refused}
 use Rattle.gcl_parser.proofs.OneForm.{one_form}
 use Rattle.script_lang.proofs.AnswerLemmas.{interval_line-plain, total_line-plain, record_line-plain}
-use Rattle.address_space.proofs.WordLemmas.{words_are_text}
-use Rattle.query_run.specs.Answers.{text_of_lines, refusal_lines, list_lines, record_lines, files_lines, find_lines, find_lines_by, add_lines, after_add, reply, leaves, answer, next, Says, IsReply, IsAnswer}
-use Rattle.query_run.specs.Finding.{place_text}
-use Rattle.query_run.proofs.FindLemmas.{place_count}
-use Rattle.query_run.proofs.TermPlaces.{concordance-term}
+use Rattle.query_run.specs.Answers.{text_of_lines, refusal_lines, list_lines, record_lines, files_lines, asked_lines, query_lines, query_lines_by, reply, leaves, Says, IsReply, IsAnswer}
+use Rattle.query_run.specs.declared.queries.Asked.{Asked}
+use Rattle.query_run.specs.declared.queries.Asked.TheVariants.{All, First, Number}
 
 -- lines, and then one more
 pub one_more : (lines : List (List ℕ)) (last old mid new : List ℕ) → mid ≡ old ++ text_of_lines lines → new ≡ mid ++ last ++ 10 ∷ [] → new ≡ old ++ text_of_lines (lines ++ last ∷ [])
@@ -60,55 +55,50 @@ files_said c old mid new is_mid is_new = record {
   refusal_is = sym (last_plain (record_lines c.files) (length c.files) (records_plain c.files));
 }
 
-lines_of_points : (ps : List ℕ) → map (λ p. interval_line (extent p p)) ps ≡ map interval_line (map point ps)
-lines_of_points [] = refl
-lines_of_points (p ∷ ps) = ap (λ lines. interval_line (extent p p) ∷ lines) (lines_of_points ps)
+-- what is asked of a list is no refusal
+asked_plain : (asked : Asked) (list : List Extent) → list_any is_refusal (asked_lines asked list) ≡ false
+asked_plain All list = list_plain list
+asked_plain (First most) list = list_plain (take most list)
+asked_plain Number list = rw (total_line-plain (length list)) refl
 
-count_of_points : (ps : List ℕ) → length ps ≡ length (map point ps)
-count_of_points [] = refl
-count_of_points (p ∷ ps) = ap suc (count_of_points ps)
+-- the first members, a line each, and then their number
+pub list_said : (list : List Extent) (old mid new : List ℕ) → mid ≡ old ++ text_of_lines (map interval_line list) → new ≡ mid ++ total_line (length list) ++ 10 ∷ [] → new ≡ old ++ text_of_lines (list_lines list)
+list_said list old mid new is_mid is_new = one_more (map interval_line list) (total_line (length list)) old mid new is_mid is_new
 
--- the places of a token in the words of the files are its concordance list
-pub found_text : (c : Collection) (token old mid new : List ℕ) (count : ℕ) → IsSound c → count ≡ place_count (words_of c) token → mid ≡ old ++ place_text (words_of c) token →
-    new ≡ mid ++ total_line count ++ 10 ∷ [] → new ≡ old ++ text_of_lines (list_lines (concordance (text_of c) (term token)))
-found_text c token old mid new count sound is_count is_mid is_new =
-    let ps = places (words_of c) token in
-    let list : concordance (text_of c) (term token) ≡ map point ps = concordance-term (text_of c) token (words_are_text c sound) in
-    let counted : count ≡ length (map point ps) = is_count ∙ count_of_points ps in
-    let said : mid ≡ old ++ text_of_lines (map interval_line (map point ps)) = is_mid ∙ ap (λ lines. old ++ text_of_lines lines) (lines_of_points ps) in
-    let all : new ≡ old ++ text_of_lines (list_lines (map point ps)) =
-    one_more (map interval_line (map point ps)) (total_line (length (map point ps))) old mid new said (is_new ∙ ap (λ n. mid ++ total_line n ++ 10 ∷ []) counted) in
-    all ∙ ap (λ l. old ++ text_of_lines (list_lines l)) (sym list)
+-- the number alone
+pub number_said : (list : List Extent) (old new : List ℕ) (count : ℕ) → count ≡ length list → new ≡ old ++ total_line count ++ 10 ∷ [] → new ≡ old ++ text_of_lines (asked_lines Number list)
+number_said list old new count is said =
+    said ∙ ap (λ n. old ++ total_line n ++ 10 ∷ []) is ∙ append_assoc old (total_line (length list)) (10 ∷ []) ∙ ap (λ text. old ++ text) (sym (append-nil (total_line (length list) ++ 10 ∷ [])))
 
 -- without a fault the lines of a query are those of the one form that it stands for
-list_of_form : (c : Collection) (query : List ℕ) (form : Form) (fault : Option QueryFault) (is : refused query ≡ fault) → fault ≡ None → IsQueryWithin query form →
-    find_lines_by c query fault is ≡ list_lines (concordance (text_of c) form)
-list_of_form c query form (Some fault) is none within = absurd cc
-list_of_form c query form None is none within =
-    ap (λ f. list_lines (concordance (text_of c) f)) (one_form query (not_refused query is).0 form (not_refused query is).1.is within.is)
+lines_of_form : (asked : Asked) (c : Collection) (query : List ℕ) (form : Form) (fault : Option QueryFault) (is : refused query ≡ fault) → fault ≡ None → IsQueryWithin query form →
+    query_lines_by asked c query fault is ≡ asked_lines asked (concordance (text_of c) form)
+lines_of_form asked c query form (Some fault) is none within = absurd cc
+lines_of_form asked c query form None is none within =
+    ap (λ f. asked_lines asked (concordance (text_of c) f)) (one_form query (not_refused query is).0 form (not_refused query is).1.is within.is)
 
-fault_lines : (c : Collection) (query : List ℕ) (wrong : QueryFault) (fault : Option QueryFault) (is : refused query ≡ fault) → fault ≡ Some wrong →
-    find_lines_by c query fault is ≡ refusal_lines (Query wrong)
-fault_lines c query wrong (Some fault) is some = let same : fault ≡ wrong = cc in ap (λ f. refusal_lines (Query f)) same
-fault_lines c query wrong None is some = absurd cc
+fault_lines : (asked : Asked) (c : Collection) (query : List ℕ) (wrong : QueryFault) (fault : Option QueryFault) (is : refused query ≡ fault) → fault ≡ Some wrong →
+    query_lines_by asked c query fault is ≡ refusal_lines (Query wrong)
+fault_lines asked c query wrong (Some fault) is some = let same : fault ≡ wrong = cc in ap (λ f. refusal_lines (Query f)) same
+fault_lines asked c query wrong None is some = absurd cc
 
 pub no_fault : (fault : Option QueryFault) → ((wrong : QueryFault) → fault ≡ Some wrong → ⊥) → fault ≡ None
 no_fault None none = refl
 no_fault (Some wrong) none = absurd (none wrong refl)
 
-pub find_said : (c : Collection) (query : List ℕ) (form : Form) (old new : List ℕ) → refused query ≡ None → IsQueryWithin query form →
-    new ≡ old ++ text_of_lines (list_lines (concordance (text_of c) form)) → Says (find_lines c query) old new false
-find_said c query form old new none within is =
-    let lines : find_lines c query ≡ list_lines (concordance (text_of c) form) = list_of_form c query form (refused query) refl none within in
+pub query_said : (asked : Asked) (c : Collection) (query : List ℕ) (form : Form) (old new : List ℕ) → refused query ≡ None → IsQueryWithin query form →
+    new ≡ old ++ text_of_lines (asked_lines asked (concordance (text_of c) form)) → Says (query_lines asked c query) old new false
+query_said asked c query form old new none within is =
+    let lines : query_lines asked c query ≡ asked_lines asked (concordance (text_of c) form) = lines_of_form asked c query form (refused query) refl none within in
     record {
       text = is ∙ ap (λ l. old ++ text_of_lines l) (sym lines);
-      refusal_is = sym (ap (list_any is_refusal) lines ∙ list_plain (concordance (text_of c) form));
+      refusal_is = sym (ap (list_any is_refusal) lines ∙ asked_plain asked (concordance (text_of c) form));
     }
 
-pub find_refused : (c : Collection) (query : List ℕ) (wrong : QueryFault) (old new : List ℕ) (refusal : Bool) → refused query ≡ Some wrong →
-    Says (refusal_lines (Query wrong)) old new refusal → Says (find_lines c query) old new refusal
-find_refused c query wrong old new refusal is said =
-    let lines : find_lines c query ≡ refusal_lines (Query wrong) = fault_lines c query wrong (refused query) refl is in
+pub query_refused : (asked : Asked) (c : Collection) (query : List ℕ) (wrong : QueryFault) (old new : List ℕ) (refusal : Bool) → refused query ≡ Some wrong →
+    Says (refusal_lines (Query wrong)) old new refusal → Says (query_lines asked c query) old new refusal
+query_refused asked c query wrong old new refusal is said =
+    let lines : query_lines asked c query ≡ refusal_lines (Query wrong) = fault_lines asked c query wrong (refused query) refl is in
     record {
       text = said.text ∙ ap (λ l. old ++ text_of_lines l) (sym lines);
       refusal_is = said.refusal_is ∙ ap (list_any is_refusal) (sym lines);
@@ -147,14 +137,4 @@ other_line contents c after line command old text refusal short is empty replied
   after_is = rw short (replied.after_is ∙ ap (leaves contents c) is);
   text_is = replied.says.text ∙ ap (λ front. front ++ text_of_lines replied.lines) empty;
   refusal_is = replied.says.refusal_is;
-}
-
--- what was said of a query is the reply to its command
-pub find_replied : (contents : Contents) (c : Collection) (command : Command) (query asked old new : List ℕ) (refusal : Bool) → command ≡ Find query → asked ≡ query →
-    Says (find_lines c asked) old new refusal → IsReply contents c c command old new refusal
-find_replied contents c command query asked old new refusal is same said = record {
-  lines = find_lines c asked;
-  is = ap (reply contents c) is ∙ ap (λ q. Some (find_lines c q)) (sym same);
-  after_is = sym (ap (leaves contents c) is);
-  says = said;
 }

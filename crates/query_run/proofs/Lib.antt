@@ -1,9 +1,7 @@
 -- Lemmas.
 pub mod AnswerLemmas
-pub mod FindLemmas
+pub mod LookUps
 pub mod RunLemmas
 pub mod ShortLemmas
 pub mod StoreLemmas
-pub mod TermPlaces
-pub mod TextLemmas
 pub mod Writing

@@ -1,10 +1,9 @@
 -- A concordance list has fewer members than there are addresses.
 use Rattle.std.proofs.Common.{◌≡◌, ℕ, ◌+◌, ◌-◌, ◌≤◌, ◌<◌, List, [], ◌∷◌, length, take, arith}
-use Rattle.std.specs.Prelude.{◌^◌}
 use Rattle.std.specs.List.{AllByRecursion}
 use Rattle.std.proofs.lemmas.List.{take_all}
 use Rattle.gcl_model.specs.Extents.{Extent, IsRising, IsAhead}
-use Rattle.gcl_model.specs.Texts.{Text, IsText}
+use Rattle.gcl_model.specs.Texts.{Text}
 use Rattle.gcl_model.specs.Forms.{Form}
 use Rattle.gcl_model.specs.Meaning.{concordance, denotes}
 use Rattle.gcl_model.proofs.Meanings.{IsOf, each_of_text, concordance_rises}

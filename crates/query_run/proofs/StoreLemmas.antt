@@ -1,12 +1,13 @@
 -- What is kept of a collection stays so.
-use Rattle.std.proofs.Common.{◌≡◌, ℕ, ◌+◌, ◌-◌, ◌*◌, ◌≤◌, ◌<◌, Bool, true, false, not, List, [], ◌∷◌, ◌++◌, length, drop, filter, refl, sym, ap, ◌∙◌, arith, suc, zero, inl, inr}
+use Rattle.std.proofs.Common.{◌≡◌, ℕ, ◌+◌, ◌-◌, ◌≤◌, ◌<◌, Bool, true, false, not, List, [], ◌∷◌, ◌++◌, length, drop, get_or, filter, refl, ap, ◌∙◌, arith, suc, zero, inl, inr}
 use Rattle.std.specs.Prelude.{◌==◌, ◌^◌}
-use Rattle.std.specs.List.{AllByRecursion, list_any, remove, position_or_len}
+use Rattle.std.specs.List.{list_any, prefix_len}
+use Rattle.std.specs.List.Sorted.{IsPartitionPoint, IsNonDecreasingBy}
 use Rattle.std.proofs.lemmas.Bool.{cases_Bool}
 use Rattle.std.proofs.lemmas.List.{length-append, length-drop}
 use Rattle.gcl_model.specs.Names.{is_name}
 use Rattle.gcl_model.specs.Tokens.{tokens_of}
-use Rattle.gcl_model.specs.Collections.{File, Collection, AreFilesFrom, IsSound, width_of, with_file, without_file, has_file}
+use Rattle.gcl_model.specs.Collections.{File, Collection, AreFilesFrom, width_of, with_file, without_file, has_file}
 use Rattle.word_tokens.specs.Lexemes.{part_of}
 use Rattle.word_tokens.proofs.PartLemmas.{part_of_fits, tokens_of-part}
 use Rattle.word_tokens.proofs.TokenLemmas.{tokens_are_tokens}
@@ -78,3 +79,39 @@ added_by_fields first next next_id dels files name content base next' name' toke
     let before : Collection = record { first = first; next = next; next_id = next_id; dels = dels; files = files } in
     let room : next + width_of (tokens_of content) ≤ 2 ^ 48 = omega (arith, is_next, fits) in
     rw (is_files, is_next, is_base, same_name, is_tokens) (added before name content stored named room)
+
+-- a partition point is the length of the front
+pub prefix_len_at_point : (p : File → Bool) (files : List File) (n : ℕ) → n ≤ length files → IsPartitionPoint (λ file. p file ≡ true) (λ file. p file ≡ false) files n → n ≡ prefix_len p files
+prefix_len_at_point p [] n le point = omega arith
+prefix_len_at_point p (file ∷ files) zero le point = let fails : p file ≡ false = point.1 0 file (omega arith) (omega arith) in rw fails refl
+prefix_len_at_point p (file ∷ files) (suc n) le point =
+    let passes : p file ≡ true = point.0 0 file (omega arith) (omega arith) in
+    let rest : n ≡ prefix_len p files = prefix_len_at_point p files n (omega arith) (λ k d ge lt. point.0 (suc k) d (omega arith) (omega arith), λ k d ge lt. point.1 (suc k) d (omega arith) (omega arith)) in
+    rw passes (omega arith)
+
+-- files begin and end in order
+stands_from : (c : Collection) (at id : ℕ) (files : List File) → AreFilesFrom c at id files → (j : ℕ) (d : File) → j < length files → at ≤ (get_or files j d).base
+stands_from c at id [] all j d lt = absurd (omega arith)
+stands_from c at id (file ∷ files) all zero d lt = all.0
+stands_from c at id (file ∷ files) all (suc j) d lt =
+    let from : at ≤ file.base = all.0 in
+    let rest = stands_from c (file.base + width_of file.tokens) (file.id + 1) files all.5 j d (omega arith) in
+    omega arith
+
+pub bases_rise : (c : Collection) (at id : ℕ) (files : List File) → AreFilesFrom c at id files → IsNonDecreasingBy (λ (file : File). file.base) files
+bases_rise c at id [] all i j d le lt = absurd (omega arith)
+bases_rise c at id (file ∷ files) all zero zero d le lt = omega arith
+bases_rise c at id (file ∷ files) all zero (suc j) d le lt =
+    let rest = stands_from c (file.base + width_of file.tokens) (file.id + 1) files all.5 j d (omega arith) in
+    omega arith
+bases_rise c at id (file ∷ files) all (suc i) zero d le lt = absurd (omega arith)
+bases_rise c at id (file ∷ files) all (suc i) (suc j) d le lt = bases_rise c (file.base + width_of file.tokens) (file.id + 1) files all.5 i j d (omega arith) (omega arith)
+
+pub ends_rise : (c : Collection) (at id : ℕ) (files : List File) → AreFilesFrom c at id files → IsNonDecreasingBy (λ (file : File). file.base + width_of file.tokens) files
+ends_rise c at id [] all i j d le lt = absurd (omega arith)
+ends_rise c at id (file ∷ files) all zero zero d le lt = omega arith
+ends_rise c at id (file ∷ files) all zero (suc j) d le lt =
+    let rest = stands_from c (file.base + width_of file.tokens) (file.id + 1) files all.5 j d (omega arith) in
+    omega arith
+ends_rise c at id (file ∷ files) all (suc i) zero d le lt = absurd (omega arith)
+ends_rise c at id (file ∷ files) all (suc i) (suc j) d le lt = ends_rise c (file.base + width_of file.tokens) (file.id + 1) files all.5 i j d (omega arith) (omega arith)

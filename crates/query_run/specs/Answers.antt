@@ -1,5 +1,5 @@
 -- The answer to a line, in the state that the lines before it leave.
-use Rattle.std.specs.Prelude.{◌≡◌, ℕ, ◌+◌, ◌-◌, ◌^◌, Bool, nat_lt, List, [], ◌∷◌, ◌++◌, length, map, flat_map, unwrap_or, Option, None, Some, IsSome, refl, ⊤, if◌then◌else◌}
+use Rattle.std.specs.Prelude.{◌≡◌, ℕ, ◌+◌, ◌-◌, ◌^◌, Bool, nat_lt, List, [], ◌∷◌, ◌++◌, length, map, take, flat_map, unwrap_or, Option, None, Some, IsSome, refl, ⊤, if◌then◌else◌}
 use Rattle.std.specs.Option.{option_map}
 use Rattle.std.specs.List.{list_any}
 use Rattle.outside.specs.Contents.{Contents}
@@ -18,6 +18,8 @@ use Rattle.script_lang.specs.declared.refusals.Refusal.TheVariants.{Command as N
 use Rattle.gcl_parser.specs.declared.fault.QueryFault.{QueryFault}
 use Rattle.gcl_parser.specs.Refusal.{refused}
 use Rattle.query_run.specs.Queries.{expression_of}
+use Rattle.query_run.specs.declared.queries.Asked.{Asked}
+use Rattle.query_run.specs.declared.queries.Asked.TheVariants.{All, First, Number}
 
 -- a longer line is no command
 abbrev pub line_most : ℕ
@@ -55,13 +57,19 @@ after_del c id = if has_file c id then without_file c id else c
 abbrev pub list_lines : List Extent → List (List ℕ)
 list_lines list = map interval_line list ++ total_line (length list) ∷ []
 
--- the first fault of the query, or the concordance list of its expression
-abbrev pub find_lines_by : Collection → (query : List ℕ) → (fault : Option QueryFault) → refused query ≡ fault → List (List ℕ)
-find_lines_by c query (Some fault) is = refusal_lines (Query fault)
-find_lines_by c query None is = list_lines (concordance (text_of c) (expression_of query is))
+-- all of a list, its first members, or their number alone
+abbrev pub asked_lines : Asked → List Extent → List (List ℕ)
+asked_lines All list = list_lines list
+asked_lines (First most) list = list_lines (take most list)
+asked_lines Number list = total_line (length list) ∷ []
 
-abbrev pub find_lines : Collection → List ℕ → List (List ℕ)
-find_lines c query = find_lines_by c query (refused query) refl
+-- the first fault of the query, or what is asked of the concordance list of its expression
+abbrev pub query_lines_by : Asked → Collection → (query : List ℕ) → (fault : Option QueryFault) → refused query ≡ fault → List (List ℕ)
+query_lines_by asked c query (Some fault) is = refusal_lines (Query fault)
+query_lines_by asked c query None is = asked_lines asked (concordance (text_of c) (expression_of query is))
+
+abbrev pub query_lines : Asked → Collection → List ℕ → List (List ℕ)
+query_lines asked c query = query_lines_by asked c query (refused query) refl
 
 abbrev pub entry_of : File → FileEntry
 entry_of file = record { id = file.id; base = file.base; len = width_of file.tokens; name = file.name }
@@ -78,9 +86,9 @@ abbrev pub reply : Contents → Collection → Command → Option (List (List �
 reply contents c Blank = Some []
 reply contents c (Add name) = option_map (add_lines c) (contents name)
 reply contents c (Del id) = Some (del_lines c id)
-reply contents c (Find query) = Some (find_lines c query)
-reply contents c (Count query) = Some (refusal_lines NoCommand)
-reply contents c (Top n query) = Some (refusal_lines NoCommand)
+reply contents c (Find query) = Some (query_lines All c query)
+reply contents c (Count query) = Some (query_lines Number c query)
+reply contents c (Top n query) = Some (query_lines (First n) c query)
 reply contents c Files = Some (files_lines c)
 reply contents c Merge = Some (refusal_lines NoCommand)
 reply contents c Shards = Some (refusal_lines NoCommand)

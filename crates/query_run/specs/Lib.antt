@@ -1,6 +1,5 @@
 pub mod Answers
 pub mod Faults
-pub mod Finding
 pub mod Queries
 pub mod Runs
 pub mod Statuses

@@ -1,32 +1,23 @@
 ghost use Rattle.std.specs.Prelude.{◌≡◌, ◌≤◌, ◌^◌, ◌++◌, true, Some, map, IfOk, OnOk, IfSome, length};
 ghost use Rattle.gcl_model.specs.Names.{is_name};
-ghost use Rattle.gcl_model.specs.Collections.{text_of};
-ghost use Rattle.gcl_model.specs.FormOf.{form_of};
-ghost use Rattle.gcl_model.specs.WellFormed.{IsWellFormed};
-ghost use Rattle.gcl_model.specs.Meaning.{concordance};
-ghost use Rattle.script_lang.specs.Answers.{interval_line};
 ghost use Rattle.outside.specs.Causes.{HasFileCause};
 ghost use Rattle.script_lang.specs.declared.commands.Command.TheVariants.{Add};
-ghost use Rattle.query_run.specs.Answers.{refusal_lines, add_lines, after_add, del_lines, after_del, find_lines, files_lines, list_lines, record_lines, text_of_lines, Says, IsReply, IsAnswer};
+ghost use Rattle.query_run.specs.Answers.{refusal_lines, add_lines, after_add, del_lines, after_del, files_lines, record_lines, text_of_lines, Says, IsReply, IsAnswer};
 ghost use Rattle.script_lang.specs.Commands.{IsNamed};
 
-use crate::finding::put_found;
-use crate::leaping::members;
+use crate::queries::{Asked, answer_query};
 use crate::store::{AddFault, Store};
-use crate::text::plain_text;
-use gcl_model::{Expr, Interval};
-use gcl_parser::{ParseFault, parse};
 use outside::{FileError, Files, Loaded};
 use script_lang::{
-    Command, Refusal, command, put_file, put_gone, put_interval, put_record, put_refusal, put_total,
+    Command, Refusal, command, put_file, put_gone, put_record, put_refusal, put_total,
 };
 use std::alloc::{AllocError, Global};
 
 /// A longer file is not added.
 pub const FILE_MOST: u64 = 1 << 26;
 
-// Appends a refusal.
-fn refuse(out: &mut Vec<u8>, refusal: &Refusal) -> Result<bool, AllocError>
+/// Appends a refusal.
+pub(crate) fn refuse(out: &mut Vec<u8>, refusal: &Refusal) -> Result<bool, AllocError>
     ensures { IfOk result (Says (refusal_lines refusal.now) out.old.items out.new.items) }
 {
     put_refusal(out, refusal)?;
@@ -89,49 +80,6 @@ fn delete(out: &mut Vec<u8>, store: &mut Store, id: u64) -> Result<bool, AllocEr
     Ok(false)
 }
 
-// Appends a line for each interval.
-fn put_intervals(out: &mut Vec<u8>, list: &[Interval]) -> Result<(), AllocError>
-    ensures { OnOk result (out.new.items ≡ out.old.items ++ text_of_lines (map interval_line list.now)) }
-{
-    for interval in list {
-        put_interval(out, *interval)?;
-    }
-    Ok(())
-}
-
-// Appends the concordance list of an expression. That of a term is its places, which takes no list.
-fn put_list(alloc: Global, out: &mut Vec<u8>, store: &Store, expr: &Expr) -> Result<(), AllocError>
-    requires { IsWellFormed (form_of expr.now) }
-    ensures { OnOk result (out.new.items ≡ out.old.items ++ text_of_lines (list_lines (concordance (text_of store.now) (form_of expr.now)))) }
-{
-    if let Expr::Term(token) = expr {
-        put_found(out, store, token.as_slice())?;
-        return Ok(());
-    }
-    let text = plain_text(alloc, store)?;
-    let list = members(alloc, expr, &text)?;
-    put_intervals(out, list.as_slice())?;
-    put_total(out, list.len() as u64)?;
-    Ok(())
-}
-
-// Appends the answer to a query.
-fn find(alloc: Global, out: &mut Vec<u8>, store: &Store, query: &[u8]) -> Result<bool, AllocError>
-    ensures { IfOk result (Says (find_lines store.now query.now) out.old.items out.new.items) }
-{
-    match parse(alloc, query) {
-        Ok(expr) => {
-            put_list(alloc, out, store, &expr)?;
-            Ok(false)
-        }
-        Err(ParseFault::Query(fault)) => {
-            let refused = refuse(out, &Refusal::Query(fault))?;
-            Ok(refused)
-        }
-        Err(ParseFault::NoMemory) => Err(AllocError),
-    }
-}
-
 // Appends a line for each surviving file.
 fn put_records(out: &mut Vec<u8>, store: &Store) -> Result<(), AllocError>
     ensures { OnOk result (out.new.items ≡ out.old.items ++ text_of_lines (record_lines store.now.files)) }
@@ -169,15 +117,14 @@ fn answer_command<F: Files>(
         Command::Blank => Ok(false),
         Command::Add(name) => add(alloc, out, files, store, name.as_slice()),
         Command::Del(id) => Ok(delete(out, store, id)?),
-        Command::Find(query) => Ok(find(alloc, out, store, query.as_slice())?),
+        Command::Find(query) => Ok(answer_query(alloc, out, store, Asked::All, &query)?),
+        Command::Count(query) => Ok(answer_query(alloc, out, store, Asked::Number, &query)?),
+        Command::Top(most, query) => {
+            Ok(answer_query(alloc, out, store, Asked::First(most), &query)?)
+        }
         Command::Files => Ok(list_files(out, store)?),
-        Command::Count(_)
-        | Command::Top(_, _)
-        | Command::Merge
-        | Command::Shards
-        | Command::Save(_)
-        | Command::Load(_)
-        | Command::Wrong => Ok(refuse(out, &Refusal::Command)?),
+        Command::Merge | Command::Shards | Command::Save(_) | Command::Load(_) | Command::Wrong =>
+            Ok(refuse(out, &Refusal::Command)?),
     }
 }
 

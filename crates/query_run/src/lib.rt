@@ -2,21 +2,21 @@
 //!
 //! Contracts see the words, the files, the source and the sink that are lent to `run`. Where these tell what they
 //! hold, the bytes written are the output of the script, which `specs/Answers.antt` defines: the answers to its lines,
-//! each in the collection that the lines before it leave, and to a `find` the concordance list of its query over the
-//! words of the surviving files. Every other status has its cause in a clause.
+//! each in the collection that the lines before it leave, and to a query the concordance list of its expression over
+//! the words of the surviving files, or its first members, or their number. Every other status has its cause in a clause.
 //!
 //! Over the file `a`, `to be or not to be`, the script `add a`, `find "to"` is answered `file 0 0 7`, `1 1`, `5 5`,
 //! `= 2`.
 #![tactic(auto)]
 
 mod answers;
-mod finding;
 mod leaping;
+mod look_up;
+mod queries;
 mod read;
 mod run_fault;
 mod status;
 mod store;
-mod text;
 mod top;
 mod words;
 mod write;
@@ -24,5 +24,7 @@ mod write;
 pub use status::Status;
 pub use top::run;
 
+#[cfg(test)]
+mod leaping_tests;
 #[cfg(test)]
 mod tests;

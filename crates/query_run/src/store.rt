@@ -1,11 +1,12 @@
-ghost use Rattle.std.specs.Prelude.{◌≡◌, ◌==◌, ◌+◌, ◌-◌, ◌≤◌, ◌<◌, ◌^◌, ◌++◌, [], ◌∷◌, true, false, not, filter, length, IfOk, IsErrOf, OnErr, OnOk};
-ghost use Rattle.std.specs.List.{list_any};
+ghost use Rattle.std.specs.Prelude.{◌≡◌, ◌==◌, ◌+◌, ◌-◌, ◌≤◌, ◌<◌, ◌^◌, ◌++◌, [], ◌∷◌, ℕ, List, true, false, not, nat_le, filter, length, IfOk, IsErrOf, OnErr, OnOk};
+ghost use Rattle.std.specs.List.{AllByRecursion, list_any, prefix_len};
+ghost use Rattle.gcl_model.specs.Texts.{next_place, previous_place};
 ghost use Rattle.gcl_model.specs.Tokens.{tokens_of};
 ghost use Rattle.gcl_model.specs.Names.{is_name};
 ghost use Rattle.gcl_model.specs.Slots.{slot_range};
-ghost use Rattle.gcl_model.specs.Collections.{width_of, empty_from, with_file, without_file, has_file};
+ghost use Rattle.gcl_model.specs.Collections.{IsToken, width_of, words_of, empty_from, with_file, without_file, has_file};
 ghost use Rattle.query_run.specs.Answers.{entry_of};
-ghost use Rattle.query_run.specs.Stored.{IsStored};
+ghost use Rattle.query_run.specs.Stored.{IsStored, words_of_files};
 ghost use Rattle.query_run.specs.declared.store.AddFault.TheVariants.{NoAddresses, NoMemory};
 
 use address_space::{AddressesSpent, FileId, FileRecord, Range, place};
@@ -23,13 +24,14 @@ pub struct StoredFile {
 
 impl Model for StoredFile {
     ghost use Rattle.std.specs.Prelude.{◌≡◌};
-    ghost use Rattle.gcl_model.specs.Collections.{File, width_of};
+    ghost use Rattle.gcl_model.specs.Collections.{File};
+    ghost use Rattle.query_run.specs.Stored.{IsFileOf};
 
     ghost Value = { File };
 
     ghost view = { λ f. record { id = f.record.id; name = f.record.name; base = f.record.base; tokens = f.tokens } };
 
-    ghost invariant = { λ f. f.record.len ≡ width_of f.tokens };
+    ghost invariant = { λ f. IsFileOf f.record.len f.tokens };
 }
 
 impl StoredFile {
@@ -50,9 +52,17 @@ impl StoredFile {
 
     /// Its tokens without the two of its boundary.
     pub fn tokens(&self) -> &TokenText
-        ensures { result.now ≡ self.now.tokens }
+        ensures value { result.now ≡ self.now.tokens }
+        ensures are_tokens { AllByRecursion IsToken self.now.tokens }
     {
         &self.tokens
+    }
+
+    /// The first address behind it.
+    fn next(&self) -> u64
+        ensures { result ≡ self.now.base + width_of self.now.tokens }
+    {
+        self.record.base + self.record.len
     }
 
     fn has_id(&self, id: u64) -> bool
@@ -152,14 +162,58 @@ impl Store {
     }
 
     /// The addresses that were given, from the first one up to the next.
-    pub fn span(&self) -> Span
+    pub fn addresses(&self) -> Span
         ensures first { result.first ≡ self.now.first }
         ensures next { result.next ≡ self.now.next }
+        ensures stored { IsStored self.now }
     {
         Span {
             first: self.first,
             next: self.next,
         }
+    }
+
+    // How many of the files lie before `k` as a whole.
+    fn count_ended(&self, k: u64) -> usize
+        ensures count { result ≡ prefix_len (λ file. nat_le (file.base + width_of file.tokens) k) self.now.files }
+        ensures bound { result ≤ length self.now.files }
+        ensures stored { IsStored self.now }
+    {
+        self.files.as_slice().partition_point(
+            |file: &StoredFile| -> bool
+                ensures { result ≡ nat_le (file.now.base + width_of file.now.tokens) k }
+            { file.next() <= k },
+        )
+    }
+
+    // How many of the files begin at `k` or before it.
+    fn count_begun(&self, k: u64) -> usize
+        ensures count { result ≡ prefix_len (λ file. nat_le file.base k) self.now.files }
+        ensures stored { IsStored self.now }
+    {
+        self.files.as_slice().partition_point(
+            |file: &StoredFile| -> bool
+                ensures { result ≡ nat_le file.now.base k }
+            { file.base() <= k },
+        )
+    }
+
+    /// The files that have a word at `k` or behind it.
+    pub fn files_from(&self, k: u64) -> &[StoredFile]
+        ensures places { (term : List ℕ) → next_place (words_of_files result.now) term k ≡ next_place (words_of self.now) term k }
+        ensures stored { IsStored self.now }
+    {
+        let ended = self.count_ended(k);
+        &self.files.as_slice()[ended..]
+    }
+
+    /// The files that have a word at `k` or before it.
+    pub fn files_upto(&self, k: u64) -> &[StoredFile]
+        ensures places { (term : List ℕ) → previous_place (words_of_files result.now) term k ≡ previous_place (words_of self.now) term k }
+        ensures stored { IsStored self.now }
+    {
+        let begun = self.count_begun(k);
+        &self.files.as_slice()[..begun]
     }
 
     /// The surviving files.

@@ -151,7 +151,7 @@ fn lines_are_refused_and_the_run_goes_on(rt: HostRuntime) -> Result<(), Fail> {
             b"file 0 0 7\ngone 0\n= 0\n! no file 0\n",
         ),
         (
-            b"frob\ndel x\nadd\nmerge now\ncount \"to\"\nmerge\nsave a\n",
+            b"frob\ndel x\nadd\nmerge now\ntop \"to\"\nmerge\nsave a\n",
             b"! command\n! command\n! command\n! command\n! command\n! command\n! command\n",
         ),
         (
@@ -168,7 +168,7 @@ fn lines_are_refused_and_the_run_goes_on(rt: HostRuntime) -> Result<(), Fail> {
 }
 
 // Queries over the file a, each with its answer.
-const QUERIES: [(&[u8], &[u8]); 15] = [
+pub(crate) const QUERIES: [(&[u8], &[u8]); 15] = [
     (b"\"to\"..\"be\"", b"1 2\n5 6\n= 2\n"),
     (b"\"to\"^\"not\"", b"1 4\n4 5\n= 2\n"),
     (b"(\"be\"..\"to\") > \"not\"", b"2 5\n= 1\n"),
@@ -196,6 +196,31 @@ fn queries_are_answered_by_the_algebra(rt: HostRuntime) -> Result<(), Fail> {
         let (status, written) = answered(&rt, &[], script.as_slice())?;
         assert_eq!(rt; written.as_slice(), want.as_slice(), "{query:?}");
         assert_eq!(rt; status, Status::Done, "{query:?}");
+    }
+    Ok(())
+}
+
+#[test]
+fn a_list_is_counted_and_its_front_is_listed(rt: HostRuntime) -> Result<(), Fail> {
+    let cases: [(&[u8], &[u8]); 10] = [
+        (b"find \"to be\"", b"1 2\n5 6\n= 2\n"),
+        (b"count \"to be\"", b"= 2\n"),
+        (b"top 1 \"to be\"", b"1 2\n= 1\n"),
+        (b"top 0 \"to be\"", b"= 0\n"),
+        (b"top 9 \"to be\"", b"1 2\n5 6\n= 2\n"),
+        (b"top 999999999999999999 [8]", b"0 7\n= 1\n"),
+        (b"count [1]", b"= 8\n"),
+        (b"count (\"be\"..\"to\") > \"or not\"", b"= 1\n"),
+        (b"count \"to", b"! query at 0: open quote\n"),
+        (b"top 2", b"! query at 0: operand expected\n"),
+    ];
+    for (line, output) in cases {
+        let mut script = b"add a\n".to_vec(rt.alloc())?;
+        script.extend_from_slice(line)?;
+        let mut want = b"file 0 0 7\n".to_vec(rt.alloc())?;
+        want.extend_from_slice(output)?;
+        let (_, written) = answered(&rt, &[], script.as_slice())?;
+        assert_eq!(rt; written.as_slice(), want.as_slice(), "{line:?}");
     }
     Ok(())
 }

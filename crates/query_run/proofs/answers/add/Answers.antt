@@ -1,4 +1,4 @@
-use Rattle.std.proofs.Common.{◌^◌, Ok, subst, rules}
+use Rattle.std.proofs.Common.{◌^◌, Ok, subst}
 use Rattle.outside.specs.Contents.{Loads}
 use Rattle.outside.specs.declared.files.Loaded.{Loaded}
 use Rattle.outside.specs.declared.faults.FileError.{FileError}

@@ -1,4 +1,3 @@
-use Rattle.std.proofs.Common.{rules}
 use Rattle.query_run.proofs.AnswerLemmas.{long_line, other_line}
 use Rattle.query_run.proofs.RunLemmas.{IfSome-given, IfSome-at}
 use Rattle.query_run.proofs.answers.answer_line.Goals as goal

@@ -1,6 +1,5 @@
-use Rattle.std.proofs.Common.{◌≡◌, ◌+◌, subst, rules, true}
-use Rattle.gcl_model.specs.Collections.{Collection, has_file, without_file}
-use Rattle.query_run.specs.Stored.{IsStored}
+use Rattle.std.proofs.Common.{◌≡◌, rules, true}
+use Rattle.gcl_model.specs.Collections.{Collection, has_file}
 use Rattle.query_run.proofs.StoreLemmas.{deleted}
 use Rattle.query_run.proofs.store.Store.delete.Goals as goal
 

@@ -1,0 +1,20 @@
+use Rattle.std.proofs.Common.{leb, ◌∙◌, ap, rules}
+use Rattle.std.specs.List.{prefix_len}
+use Rattle.std.proofs.lemmas.List.Sorted.{IsPartitionPoint-from_clause, IsPartitionedBy-leb}
+use Rattle.gcl_model.specs.Collections.{File, Collection}
+use Rattle.query_run.proofs.StoreLemmas.{prefix_len_at_point, bases_rise}
+use Rattle.query_run.proofs.store.Store.count_begun.Goals as goal
+
+pub returns-clause-count : goal.returns-clause-count
+returns-clause-count c =
+    let s = c.self.inside in
+    let k = c.args.k in
+    let before : Collection = record { first = s.first; next = s.next; next_id = s.next_id; dels = s.dels; files = s.files.items } in
+    let p = λ (file : File). leb file.base k in
+    let xs = c.as_slice.result.now in
+    let rise = bases_rise before s.first 0 s.files.items c.self.invariant.sound.files in
+    let point = IsPartitionPoint-from_clause p xs c.partition_point.result c.partition_point.ensures.partitioned
+    (rw c.as_slice.ensures.value (IsPartitionedBy-leb (λ (file : File). file.base) s.files.items k rise)) (λ a r f called. search rules) in
+    prefix_len_at_point p xs c.partition_point.result c.partition_point.ensures.bound point
+    ∙ ap (prefix_len p) c.as_slice.ensures.value
+    ∙ ap (λ (v : Collection). prefix_len p v.files) c.self.view_is
