@@ -6,8 +6,8 @@ set -eu
 here=$(cd "$(dirname "$0")/.." && pwd)
 work=$(mktemp -d)
 trap 'rm -rf "$work"' EXIT
-program=$here/crates/shard_measure/out/shard_measure
-(cd "$here/crates/shard_measure" && rt run -- tokens data/a) > "$work/log" 2>&1 || { cat "$work/log" >&2; exit 1; }
+program=$here/crates/measure/out/measure
+(cd "$here/crates/measure" && rt run -- tokens data/a) > "$work/log" 2>&1 || { cat "$work/log" >&2; exit 1; }
 python3 - "$work" <<'P'
 import random, sys
 random.seed(7)

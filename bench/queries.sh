@@ -1,0 +1,49 @@
+#!/usr/bin/env bash
+# Queries over texts of 1, 2, 4 and 5 MB with a common word, a rare one and small elements: the intervals, the look-ups and the seconds of
+# each beside those of adding the text, so that the growth can be read; and over 5 MB the memory of a run that counts beside that of
+# one that only adds (target 1.05). It makes its texts.
+set -eu
+here=$(cd "$(dirname "$0")/.." && pwd)
+work=$(mktemp -d)
+trap 'rm -rf "$work"' EXIT
+"$here/gclq" </dev/null
+program=$here/crates/gclq/out/gclq
+counter=$here/crates/measure/out/measure
+(cd "$here/crates/measure" && rt run -- tokens data/a) > "$work/log" 2>&1 || { cat "$work/log" >&2; exit 1; }
+python3 - "$work" <<'P'
+import random, sys
+random.seed(11)
+words = ["the", "of", "and", "to", "be"] * 400 + ["w%d" % n for n in range(5000)]
+for size in (1, 2, 4, 5):
+    with open(f"{sys.argv[1]}/t{size}", "w") as out:
+        written = 0
+        while written < size * 1_000_000:
+            line = "<l>" + " ".join(random.choices(words, k=20)) + "</l>\n"
+            # a word that comes once in a hundred thousand bytes
+            if written // 100_000 != (written + len(line)) // 100_000:
+                line = "<l>rare " + line[3:]
+            out.write(line)
+            written += len(line)
+P
+cd "$work"
+# prints seconds and kilobytes of a run over a script
+measure() { python3 -c '
+import resource, subprocess, sys, time
+best = 1e9
+for _ in range(3):
+    begin = time.time()
+    subprocess.run(sys.argv[1:2], stdin=open(sys.argv[2]), check=True, stdout=subprocess.DEVNULL)
+    best = min(best, time.time() - begin)
+print(best, resource.getrusage(resource.RUSAGE_CHILDREN).ru_maxrss)' "$program" "$1"; }
+run() { printf 'add t%s\n%s\n' "$1" "$2" > script; measure script; }
+for size in 1 2 4 5; do
+  read -r added kept <<< "$(run "$size" "")"
+  printf '%s MB, added in %.3f s\n' "$size" "$added"
+  for query in '"the" ^ "rare"' '("<l>".."</l>") > "of the"' '"the"' '("the" ^ "rare") < [5]'; do
+    counted=$("$counter" count "t$size" "$query")
+    read -r listed _ <<< "$(run "$size" "find $query")"
+    read -r number memory <<< "$(run "$size" "count $query")"
+    awk -v a="$added" -v f="$listed" -v n="$number" -v q="$query" -v c="$counted" 'BEGIN { printf "    %-28s %-40s find %.3f s, count %.3f s\n", q, c, f - a, n - a }'
+  done
+done
+awk -v m="$memory" -v k="$kept" 'BEGIN { printf "memory of the last count to that of adding 5 MB: %.2f (target 1.05)\n", m / k }'
