@@ -1,9 +1,11 @@
+pub mod Lists
 pub mod FormLemmas
 pub mod Covers
 pub mod Minimal
 pub mod Meanings
 pub mod Reach
 pub mod Places
+pub mod WordLists
 pub mod Nodes
 pub mod Parts
 pub mod Grouping

@@ -1,11 +1,11 @@
 -- Worked examples of collections and of slots, computed.
-use Rattle.std.specs.Prelude.{◌≡◌, ℕ, ◌+◌, suc, zero, List, [], ◌∷◌, refl, codes, true, false, Some, None, length}
+use Rattle.std.specs.Prelude.{◌≡◌, ℕ, ◌+◌, suc, zero, List, [], ◌∷◌, refl, codes, true, false, Some, None}
 use Rattle.gcl_model.specs.Extents.{extent}
 use Rattle.gcl_model.specs.Forms.{term, seq, width, more_forms, no_forms}
 use Rattle.gcl_model.specs.Tokens.{tokens_of}
 use Rattle.gcl_model.specs.Collections.{Collection, empty_from, with_file, without_file, has_file, text_of, word_at, file_start, file_end}
 use Rattle.gcl_model.specs.Meaning.{concordance}
-use Rattle.gcl_model.specs.Slots.{SlotRange, slot_range, pair_widths, least_pair, join_at, slots_after_add, slots_after_merge, slots_after_open}
+use Rattle.gcl_model.specs.Slots.{SlotRange, slot_range, tail_count, slots_after_add, slots_after_merge, slots_after_open}
 
 -- the tokens of the file a
 abbrev a : List (List ℕ)
@@ -50,30 +50,52 @@ added_again = refl
 abbrev three_slots : List SlotRange
 three_slots = slot_range 0 7 ∷ slot_range 8 9 ∷ slot_range 10 17 ∷ []
 
-pub widths_of_pairs : pair_widths three_slots ≡ 10 ∷ 10 ∷ []
-widths_of_pairs = refl
+-- so many slots of two addresses are added, from an address on
+abbrev added_from : ℕ → ℕ → List SlotRange → List SlotRange
+added_from zero p ranges = ranges
+added_from (suc n) p ranges = added_from n (p + 2) (slots_after_add ranges (slot_range p (p + 1)))
 
--- the leftmost on a tie
-pub the_leftmost_pair : least_pair three_slots ≡ 0
-the_leftmost_pair = refl
+-- equal widths become one, and an equality of four times does too
+pub two_pairs_are_one : slots_after_add (slot_range 0 1 ∷ []) (slot_range 2 3) ≡ slot_range 0 3 ∷ []
+two_pairs_are_one = refl
 
-pub the_narrowest_pair : least_pair (slot_range 0 7 ∷ slot_range 8 19 ∷ slot_range 20 21 ∷ slot_range 22 23 ∷ []) ≡ 2
-the_narrowest_pair = refl
+pub four_times_is_joined : slots_after_add (slot_range 0 7 ∷ []) (slot_range 8 9) ≡ slot_range 0 9 ∷ []
+four_times_is_joined = refl
+
+pub more_than_four_times_is_not : slots_after_add (slot_range 0 8 ∷ []) (slot_range 9 10) ≡ slot_range 0 8 ∷ slot_range 9 10 ∷ []
+more_than_four_times_is_not = refl
+
+-- the joined slot is compared anew with the one before it: of the widths 44, 10 and 2, and one more of 2, all become one
+pub joining_goes_on : slots_after_add (slot_range 0 43 ∷ slot_range 44 53 ∷ slot_range 54 55 ∷ []) (slot_range 56 57) ≡ slot_range 0 57 ∷ []
+joining_goes_on = refl
 
 -- a joined slot keeps the hole between the two
-pub joined_over_a_hole : join_at 1 (slot_range 0 1 ∷ slot_range 4 5 ∷ slot_range 8 9 ∷ []) ≡ slot_range 0 1 ∷ slot_range 4 9 ∷ []
+pub joined_over_a_hole : slots_after_add (slot_range 0 1 ∷ []) (slot_range 8 9) ≡ slot_range 0 9 ∷ []
 joined_over_a_hole = refl
 
--- so many slots of two addresses, from an address on
-abbrev pairs_from : ℕ → ℕ → List SlotRange
-pairs_from zero p = []
-pairs_from (suc n) p = slot_range p (p + 1) ∷ pairs_from n (p + 2)
+-- the widths go 2, 4, 6, 8, 10, and then 10 and 2
+pub five_pairs : added_from 5 0 [] ≡ slot_range 0 9 ∷ []
+five_pairs = refl
 
-pub an_add_appends : length (slots_after_add (pairs_from 31 0) (slot_range 62 63)) ≡ 32
-an_add_appends = refl
+pub six_pairs : added_from 6 0 [] ≡ slot_range 0 9 ∷ slot_range 10 11 ∷ []
+six_pairs = refl
 
-pub an_add_to_a_full_list : slots_after_add (pairs_from 32 0) (slot_range 64 65) ≡ slot_range 0 3 ∷ slots_after_add (pairs_from 30 4) (slot_range 64 65)
-an_add_to_a_full_list = refl
+-- the widths are 62 and 4
+pub thirty_three_pairs : added_from 33 0 [] ≡ slot_range 0 61 ∷ slot_range 62 65 ∷ []
+thirty_three_pairs = refl
+
+-- of the widths 20, 2 and 2 the last two are joined, of 10, 2 and 2 all three, and of 10 and 2 none
+pub the_tail_of_three : tail_count (slot_range 0 19 ∷ slot_range 20 21 ∷ slot_range 22 23 ∷ []) ≡ 2
+the_tail_of_three = refl
+
+pub the_whole_tail : tail_count (slot_range 0 9 ∷ slot_range 10 11 ∷ slot_range 12 13 ∷ []) ≡ 3
+the_whole_tail = refl
+
+pub the_tail_of_two : tail_count (slot_range 0 9 ∷ slot_range 10 11 ∷ []) ≡ 1
+the_tail_of_two = refl
+
+pub the_tail_of_one : tail_count (slot_range 0 1 ∷ []) ≡ 1
+the_tail_of_one = refl
 
 pub a_merge_leaves_one : slots_after_merge three_slots (two_files.files) ≡ slot_range 0 17 ∷ []
 a_merge_leaves_one = refl

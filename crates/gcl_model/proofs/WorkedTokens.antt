@@ -1,8 +1,8 @@
 -- Worked examples of the tokens of a text and of names, computed.
 use Rattle.std.specs.Prelude.{◌≡◌, refl, true, false, [], ◌∷◌, codes}
 use Rattle.std.specs.List.{list_all}
-use Rattle.gcl_model.specs.Tokens.{tokens_of}
-use Rattle.gcl_model.specs.Names.{is_plain_byte, begins_with_space, ends_with_space}
+use Rattle.gcl_model.specs.Tokens.{tokens_of, starts_with_byte, ends_with_byte}
+use Rattle.gcl_model.specs.Names.{is_plain_byte}
 
 pub two_words_and_a_tag : tokens_of (codes "a<b>c") ≡ codes "a" ∷ codes "<b>" ∷ codes "c" ∷ []
 two_words_and_a_tag = refl
@@ -49,8 +49,8 @@ a_name_may_hold_spaces = refl
 pub a_name_has_no_control_byte : list_all is_plain_byte (97 ∷ 9 ∷ []) ≡ false
 a_name_has_no_control_byte = refl
 
-pub a_space_in_front : begins_with_space (codes " a") ≡ true
+pub a_space_in_front : starts_with_byte 32 (codes " a") ≡ true
 a_space_in_front = refl
 
-pub a_space_behind : ends_with_space (codes "a ") ≡ true
+pub a_space_behind : ends_with_byte 32 (codes "a ") ≡ true
 a_space_behind = refl

@@ -1,10 +1,11 @@
 -- Collections of files at addresses, and the steps that change them.
-use Rattle.std.specs.Prelude.{◌≡◌, ℕ, ◌+◌, ◌-◌, ◌*◌, ◌^◌, ◌≤◌, Bool, true, not, ◌==◌, nat_le, List, [], ◌∷◌, ◌++◌, length, filter, flat_map, codes, Option, None, if◌then◌else◌}
+use Rattle.std.specs.Prelude.{◌≡◌, ℕ, ◌+◌, ◌-◌, ◌*◌, ◌≤◌, Bool, true, not, ◌==◌, nat_le, List, [], ◌∷◌, ◌++◌, length, filter, flat_map, codes, Option, None, if◌then◌else◌}
 use Rattle.std.specs.List.{AllByRecursion, list_any, slice_get}
 use Rattle.std.specs.Option.{option_or}
 use Rattle.gcl_model.specs.Texts.{Text, Word}
 use Rattle.gcl_model.specs.Tokens.{tokens_of}
 use Rattle.gcl_model.specs.Names.{is_name}
+use Rattle.gcl_model.specs.Limits.{address_end}
 
 -- a file: its number, its name, its first address, and its tokens without the two of its boundary
 pub record File : Type 0 where
@@ -30,10 +31,6 @@ file_end = codes "</file!>"
 -- the tokens of a file, between its boundary tokens
 abbrev pub with_boundaries : List (List ℕ) → List (List ℕ)
 with_boundaries tokens = file_start ∷ (tokens ++ file_end ∷ [])
-
--- the tokens of a file's bytes, between its boundary tokens
-abbrev pub file_text : List ℕ → List (List ℕ)
-file_text bytes = with_boundaries (tokens_of bytes)
 
 -- how many addresses a file of these tokens has
 abbrev pub width_of : List (List ℕ) → ℕ
@@ -71,9 +68,9 @@ IsToken token = tokens_of token ≡ token ∷ []
 abbrev pub empty_from : ℕ → Collection
 empty_from first = record { first = first; next = first; next_id = 0; dels = 0; files = [] }
 
--- a file with this name and these tokens may be added: its addresses fit below 2^48
+-- a file with this name and these tokens may be added: its addresses fit below the end of addresses
 pub record CanAdd (c : Collection) (name : List ℕ) (tokens : List (List ℕ)) : Type 0 where
-  pub fits : c.next + width_of tokens ≤ 2 ^ 48
+  pub fits : c.next + width_of tokens ≤ address_end
   pub named : is_name name ≡ true
   pub are_tokens : AllByRecursion IsToken tokens
 
@@ -115,5 +112,5 @@ AreFilesFrom c at id (file ∷ files) =
 -- the files stand in rising ids at rising addresses, and the holes between them are as wide as the missing ids need
 pub record IsSound (c : Collection) : Type 0 where
   pub ordered : c.first ≤ c.next
-  pub in_range : c.next ≤ 2 ^ 48
+  pub in_range : c.next ≤ address_end
   pub files : AreFilesFrom c c.first 0 c.files

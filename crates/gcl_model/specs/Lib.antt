@@ -1,3 +1,4 @@
+pub mod Limits
 pub mod Extents
 pub mod Access
 pub mod Texts
@@ -13,3 +14,4 @@ pub mod Tokens
 pub mod Names
 pub mod Collections
 pub mod Slots
+pub mod Steps

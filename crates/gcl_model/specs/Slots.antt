@@ -1,6 +1,5 @@
 -- The address ranges of the slots of a collection's index, and how each change divides them.
-use Rattle.std.specs.Prelude.{ℕ, zero, suc, ◌+◌, ◌-◌, ◌==◌, nat_le, List, [], ◌∷◌, ◌++◌, length, if◌then◌else◌}
-use Rattle.std.specs.List.{list_all, position_or_len}
+use Rattle.std.specs.Prelude.{ℕ, ◌+◌, ◌-◌, ◌*◌, ◌<◌, ◌≤◌, nat_le, List, [], ◌∷◌, ◌++◌, map, reverse, if◌then◌else◌}
 use Rattle.gcl_model.specs.Collections.{File, width_of}
 
 -- the addresses from first to last, both included
@@ -11,46 +10,36 @@ pub record SlotRange : Type 0 where
 abbrev pub slot_range : ℕ → ℕ → SlotRange
 slot_range p q = record { first = p; last = q }
 
--- how many slots there may be
-abbrev pub most_slots : ℕ
-most_slots = 32
-
--- how many addresses a slot has
+-- how many addresses a slot has: of 8 to 9 it is 2
 abbrev pub slot_width : SlotRange → ℕ
 slot_width range = range.last - range.first + 1
 
--- from the first address of the one to the last of the other
+-- from the first address of the one to the last of the other: of 0 to 7 and 10 to 11 it is 0 to 11
 abbrev pub joined : SlotRange → SlotRange → SlotRange
 joined a b = slot_range a.first b.last
 
--- the summed widths of each slot and its neighbour
-abbrev pub pair_widths : List SlotRange → List ℕ
-pair_widths [] = []
-pair_widths (a ∷ []) = []
-pair_widths (a ∷ b ∷ ranges) = (slot_width a + slot_width b) ∷ pair_widths (b ∷ ranges)
+-- The last slot with those before it, the nearest of them first: as long as four times its width is at least the width of the one
+-- before it, the two become one
+abbrev pub settled : SlotRange → List SlotRange → List SlotRange
+settled last [] = last ∷ []
+settled last (before ∷ earlier) = if nat_le (slot_width before) (4 * slot_width last) then settled (joined before last) earlier else last ∷ before ∷ earlier
 
--- where the leftmost of the least numbers stands
-abbrev pub least_place : List ℕ → ℕ
-least_place numbers = position_or_len (λ n. list_all (λ m. nat_le n m) numbers) numbers
-
--- the neighbouring pair of least summed width, the leftmost on a tie, by the place of its first slot
-abbrev pub least_pair : List SlotRange → ℕ
-least_pair ranges = least_place (pair_widths ranges)
-
--- the slot at this place and the next one become one
-abbrev pub join_at : ℕ → List SlotRange → List SlotRange
-join_at i [] = []
-join_at i (a ∷ []) = a ∷ []
-join_at zero (a ∷ b ∷ ranges) = joined a b ∷ ranges
-join_at (suc i) (a ∷ b ∷ ranges) = a ∷ join_at i (b ∷ ranges)
-
--- room for one slot more: where there are 32, the narrowest pair is joined
-abbrev pub with_room : List SlotRange → List SlotRange
-with_room ranges = if length ranges == most_slots then join_at (least_pair ranges) ranges else ranges
-
--- after a file was added at these addresses
+-- after a file was added at these addresses: a slot of its own, and then the last slots become one as far as the rule goes
 abbrev pub slots_after_add : List SlotRange → SlotRange → List SlotRange
-slots_after_add ranges range = with_room ranges ++ range ∷ []
+slots_after_add ranges range = reverse (settled range (reverse ranges))
+
+-- how many slots the rule makes one, the last one counted: 1 where it makes none
+abbrev pub joined_count : SlotRange → List SlotRange → ℕ
+joined_count last [] = 1
+joined_count last (before ∷ earlier) = if nat_le (slot_width before) (4 * slot_width last) then joined_count (joined before last) earlier + 1 else 1
+
+-- how many slots at the end of a list the rule makes one: of the widths 20, 2 and 2 two, and 0 where there is no slot
+abbrev pub tail_count : List SlotRange → ℕ
+tail_count ranges = tail_of (reverse ranges)
+  where
+    tail_of : List SlotRange → ℕ
+    tail_of [] = 0
+    tail_of (last ∷ earlier) = joined_count last earlier
 
 -- the one range from the first slot to the last
 abbrev pub spanned : SlotRange → List SlotRange → SlotRange
@@ -67,14 +56,21 @@ slots_after_merge (a ∷ ranges) (file ∷ files) = spanned a ranges ∷ []
 abbrev pub file_range : File → SlotRange
 file_range file = slot_range file.base (file.base + width_of file.tokens - 1)
 
--- after an image with these files was opened: from the base of the first file to the last address of the last
 abbrev pub ranges_spanned : List SlotRange → List SlotRange
 ranges_spanned [] = []
 ranges_spanned (a ∷ ranges) = spanned a ranges ∷ []
 
-abbrev pub file_ranges : List File → List SlotRange
-file_ranges [] = []
-file_ranges (file ∷ files) = file_range file ∷ file_ranges files
-
+-- after an image with these files was opened: from the base of the first file to the last address of the last
 abbrev pub slots_after_open : List File → List SlotRange
-slots_after_open files = ranges_spanned (file_ranges files)
+slots_after_open files = ranges_spanned (map file_range files)
+
+-- the ranges rise from low on without a common address, and end before end
+abbrev pub AreRangesWithin : ℕ → ℕ → List SlotRange → Type 0
+AreRangesWithin low end [] = Unit {0}
+AreRangesWithin low end (range ∷ ranges) = (low ≤ range.first) × (range.first ≤ range.last) × (range.last < end) × AreRangesWithin (range.last + 1) end ranges
+
+-- each slot but the last is more than four times as wide as the next: the widths 10 and 2 are so, and 8 and 2 are not
+abbrev pub AreTiered : List SlotRange → Type 0
+AreTiered [] = Unit {0}
+AreTiered (a ∷ []) = Unit {0}
+AreTiered (a ∷ b ∷ ranges) = (4 * slot_width b < slot_width a) × AreTiered (b ∷ ranges)

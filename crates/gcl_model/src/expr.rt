@@ -9,7 +9,7 @@ pub enum Expr {
     Term(Bytes),
     /// The intervals whose addresses hold these tokens in order; two tokens or more.
     Phrase(TokenList),
-    /// Every interval of this many addresses, 1 to 2^48.
+    /// Every interval of this many addresses, 1 to `ADDRESS_END`.
     Width(u64),
     /// The least intervals in which an interval of each operand is nested; two operands or more.
     Both(Vec<Expr>),

@@ -10,21 +10,25 @@
 #![tactic(auto)]
 
 mod bytes;
+mod counted_leaves;
 mod expr;
 mod interval;
 mod interval_list;
 mod laws;
 mod leaves;
+mod questions;
 mod span;
 mod steps;
 mod token_list;
 
 pub use bytes::Bytes;
+pub use counted_leaves::{CountedLeaves, LentLeaves};
 pub use expr::Expr;
 pub use interval::Interval;
 pub use interval_list::IntervalList;
 pub use laws::{chains_group, concordances_rise};
 pub use leaves::Leaves;
+pub use questions::{Question, counted, uncounted};
 pub use span::{ADDRESS_END, Span};
 pub use steps::{Ledger, NoLedger, Steps, Tally};
 pub use token_list::TokenList;

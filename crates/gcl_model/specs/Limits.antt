@@ -1,0 +1,46 @@
+-- Every limit, by its name.
+use Rattle.std.specs.Prelude.{ℕ, ◌^◌}
+
+-- addresses are below this, and no width is greater
+abbrev pub address_end : ℕ
+address_end = 2 ^ 56
+
+-- positions that are asked of an expression are below this; each address has room to go on from it
+abbrev pub far : ℕ
+far = 2 ^ 62
+
+-- numbers of versions, editions and ids are below this
+abbrev pub number_end : ℕ
+number_end = 2 ^ 63
+
+-- how many slots a version has at most, also while the last ones are not made one yet
+abbrev pub most_slots : ℕ
+most_slots = 32
+
+-- how many slots are left at most once the last ones are made one
+abbrev pub most_tiers : ℕ
+most_tiers = 28
+
+-- how many bytes a name has at most
+abbrev pub most_name : ℕ
+most_name = 65536
+
+-- how many bytes a line has at most, without its newline
+abbrev pub most_line : ℕ
+most_line = 65536
+
+-- how many bytes a file has at most
+abbrev pub most_file : ℕ
+most_file = 2 ^ 26
+
+-- how many bytes a script has at most
+abbrev pub most_script : ℕ
+most_script = 2 ^ 32
+
+-- how many quoted texts and widths a query has at most
+abbrev pub most_operands : ℕ
+most_operands = 256
+
+-- how many brackets of a query are open at once at most
+abbrev pub most_brackets : ℕ
+most_brackets = 12

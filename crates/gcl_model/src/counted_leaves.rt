@@ -1,0 +1,85 @@
+ghost use Rattle.std.specs.Prelude.{◌≡◌, ◌+◌, ◌≤◌};
+ghost use Rattle.gcl_model.specs.Texts.{next_place, previous_place};
+
+use crate::leaves::Leaves;
+use crate::span::Span;
+use crate::steps::{Ledger, Steps};
+use std::marker::PhantomData;
+
+/// Leaves of which only the caller has the counter. Code that goes over this trait can make no counter of its own, so each of its
+/// look-ups is counted on the one that it was lent: an evaluator is written over it, and its public calls go through `LentLeaves`.
+pub trait CountedLeaves {
+    ghost use Rattle.std.specs.Prelude.{ℕ};
+    ghost use Rattle.gcl_model.specs.Texts.{Text, IsText};
+
+    /// What look-ups are counted on.
+    type Counter;
+
+    /// The addresses and the words at them, in rising address.
+    ghost text: { Self → Text };
+
+    /// How many look-ups a call may make.
+    ghost most: { Self → ℕ };
+
+    /// How many look-ups were counted.
+    ghost count: { Self.Counter → ℕ };
+
+    /// The least address from `k` on that holds the term.
+    fn next(&self, term: &[u8], k: u64, counter: &mut Self::Counter) -> Option<u64>
+        ensures answer { result ≡ next_place (text self.now).words term.now k }
+        ensures sound { IsText (text self.now) }
+        ensures counted { count counter.old ≤ count counter.new }
+        ensures cost { count counter.new ≤ count counter.old + most self.now };
+
+    /// The greatest address up to `k` that holds the term.
+    fn prev(&self, term: &[u8], k: u64, counter: &mut Self::Counter) -> Option<u64>
+        ensures answer { result ≡ previous_place (text self.now).words term.now k }
+        ensures sound { IsText (text self.now) }
+        ensures counted { count counter.old ≤ count counter.new }
+        ensures cost { count counter.new ≤ count counter.old + most self.now };
+
+    /// The addresses, and what holds of the words.
+    fn span(&self) -> Span
+        ensures first { result.first ≡ (text self.now).first }
+        ensures next { result.next ≡ (text self.now).next }
+        ensures sound { IsText (text self.now) };
+}
+
+/// Any leaves, with the counters of one kind of ledger.
+pub struct LentLeaves<'a, L: Leaves, S: Ledger> {
+    leaves: &'a L,
+    ledger: PhantomData<S>,
+}
+
+impl<'a, L: Leaves, S: Ledger> LentLeaves<'a, L, S> {
+    pub fn new(leaves: &'a L) -> Self
+        ensures { result.leaves.now ≡ leaves.now }
+    {
+        LentLeaves {
+            leaves,
+            ledger: PhantomData,
+        }
+    }
+}
+
+impl<L: Leaves, S: Ledger> CountedLeaves for LentLeaves<'_, L, S> {
+    type Counter = Steps<S>;
+
+    ghost text = { λ lent. L.text lent.leaves.now };
+
+    ghost most = { λ lent. L.most lent.leaves.now };
+
+    ghost count = { λ steps. steps };
+
+    fn next(&self, term: &[u8], k: u64, steps: &mut Steps<S>) -> Option<u64> {
+        self.leaves.next(term, k, steps)
+    }
+
+    fn prev(&self, term: &[u8], k: u64, steps: &mut Steps<S>) -> Option<u64> {
+        self.leaves.prev(term, k, steps)
+    }
+
+    fn span(&self) -> Span {
+        self.leaves.span()
+    }
+}
