@@ -6,11 +6,8 @@ pub mod Meanings
 pub mod Reach
 pub mod Places
 pub mod WordLists
-pub mod Nodes
 pub mod Parts
 pub mod Grouping
-pub mod Turns
-pub mod OneOf
 pub mod Other
 mod WorkedMeaning
 mod WorkedTokens

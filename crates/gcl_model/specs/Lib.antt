@@ -8,7 +8,6 @@ pub mod WellFormed
 pub mod Meaning
 pub mod Laws
 pub mod Rules
-pub mod Turns
 pub mod Cost
 pub mod Tokens
 pub mod Names

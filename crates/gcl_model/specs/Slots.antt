@@ -1,5 +1,5 @@
 -- The address ranges of the slots of a collection's index, and how each change divides them.
-use Rattle.std.specs.Prelude.{ℕ, ◌+◌, ◌-◌, ◌*◌, ◌<◌, ◌≤◌, nat_le, List, [], ◌∷◌, ◌++◌, map, reverse, if◌then◌else◌}
+use Rattle.std.specs.Prelude.{ℕ, ◌+◌, ◌-◌, ◌*◌, ◌<◌, ◌≤◌, nat_le, List, [], ◌∷◌, map, reverse, if◌then◌else◌}
 use Rattle.gcl_model.specs.Collections.{File, width_of}
 
 -- the addresses from first to last, both included

@@ -19,6 +19,8 @@ mod leaves;
 mod questions;
 mod span;
 mod steps;
+#[cfg(test)]
+mod tests;
 mod token_list;
 
 pub use bytes::Bytes;
