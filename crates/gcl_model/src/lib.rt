@@ -1,12 +1,14 @@
 //! Intervals, expressions and what they denote.
 //!
 //! This crate holds what a reader must believe: the definitions in `specs/`, from the tokens of bytes up to the
-//! concordance list of an expression over a text, each computed on worked examples. The code has the types that
-//! every crate shares. Contracts see an `Interval` as a pair of numbers, an `Expr` as a plain tree, the three lists
-//! as lists, and `Steps` as one number.
+//! concordance list of an expression over a text, each computed on worked examples, and every limit by its name. The
+//! code has the types that every crate shares. Contracts see an `Interval` as a pair of numbers, an `Expr` as a plain
+//! tree, the three lists as lists, and `Steps` as one number.
 //!
 //! The layers above use the definitions, the laws (`concordances_rise`, `chains_group`), and `Leaves`: words at
-//! addresses that are looked up one at a time. Over `1 to, 2 be, 5 to` the next `to` from 2 on stands at 5.
+//! addresses that are looked up one at a time. Over `1 to, 2 be, 5 to` the next `to` from 2 on stands at 5. An
+//! evaluator goes over `CountedLeaves`, where it can make no counter of its own; whoever has no counter asks a
+//! `Question`.
 #![tactic(auto)]
 
 mod bytes;
