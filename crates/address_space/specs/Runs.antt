@@ -1,6 +1,7 @@
 -- The files of a collection by their ids, addresses and names, in order.
-use Rattle.std.specs.Prelude.{ℕ, ◌+◌, ◌≤◌, ◌<◌, ◌^◌, List, [], ◌∷◌, Option, None, Some}
+use Rattle.std.specs.Prelude.{ℕ, ◌+◌, ◌≤◌, ◌<◌, List, [], ◌∷◌, Option, None, Some}
 use Rattle.std.specs.List.{AllByRecursion}
+use Rattle.gcl_model.specs.Limits.{address_end}
 
 -- a file: its id, its first address, how many addresses it has, and its name
 pub record FileEntry : Type 0 where
@@ -9,10 +10,10 @@ pub record FileEntry : Type 0 where
   pub len : ℕ
   pub name : List ℕ
 
--- a file has its two boundary tokens at least, and its addresses are below 2^48
+-- a file has its two boundary tokens at least, and its addresses are below the limit of addresses
 pub record IsPlaced (file : FileEntry) : Type 0 where
   pub bounded : 2 ≤ file.len
-  pub in_range : file.base + file.len ≤ 2 ^ 48
+  pub in_range : file.base + file.len ≤ address_end
 
 -- the second file has a later id and lies behind the first: of (id 0, 0 to 7) and (id 2, 10 to 11) it does
 pub record Precedes (first second : FileEntry) : Type 0 where

@@ -1,6 +1,6 @@
 ghost use Rattle.gcl_model.specs.Laws.{StartIsSound, AddingKeepsSoundness, DeletingKeepsSoundness, WordsAreText, WordsAreAtAddresses};
 
-/// The collection that begins at an address of at most 2^48 is sound.
+/// The collection that begins at an address up to `ADDRESS_END` is sound.
 pub fn start_is_sound()
     ensures { StartIsSound }
 {}

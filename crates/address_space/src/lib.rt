@@ -1,7 +1,7 @@
 //! Files at addresses: their ids, their ranges of addresses and their names.
 //!
 //! Contracts see a `Range` as its first and last address, a `FileRecord` as a plain record of its four parts, and a
-//! `FileRun` as a list of these, by rising id and address. Addresses are below 2^48.
+//! `FileRun` as a list of these, by rising id and address. Addresses are below 2^56.
 //!
 //! The layers above use `place`, which gives a file the next addresses or says that they are spent, `is_name`, which
 //! says what a file may be called, the kept order of a `FileRun`, and the laws that adding and deleting files keep a

@@ -1,7 +1,8 @@
 ghost use Rattle.std.specs.Prelude.{◌≡◌};
 ghost use Rattle.std.specs.List.{list_all};
 ghost use Rattle.std.specs.Str.{is_utf8};
-ghost use Rattle.gcl_model.specs.Names.{is_name, is_plain_byte, begins_with_space, ends_with_space};
+ghost use Rattle.gcl_model.specs.Names.{is_name, is_plain_byte};
+ghost use Rattle.gcl_model.specs.Tokens.{starts_with_byte, ends_with_byte};
 
 use bstr::ByteSlice;
 
@@ -21,8 +22,8 @@ fn all_plain(bytes: &[u8]) -> bool
     bytes.iter().all(|b| *b >= 32 && *b != 127)
 }
 
-fn begins_with_space(bytes: &[u8]) -> bool
-    ensures { result ≡ begins_with_space bytes.now }
+fn starts_with_space(bytes: &[u8]) -> bool
+    ensures { result ≡ starts_with_byte 32 bytes.now }
 {
     match bytes {
         [first, ..] => *first == b' ',
@@ -31,7 +32,7 @@ fn begins_with_space(bytes: &[u8]) -> bool
 }
 
 fn ends_with_space(bytes: &[u8]) -> bool
-    ensures { result ≡ ends_with_space bytes.now }
+    ensures { result ≡ ends_with_byte 32 bytes.now }
 {
     match bytes {
         [.., last] => *last == b' ',
@@ -47,6 +48,6 @@ pub fn is_name(bytes: &[u8]) -> bool
         && bytes.len() <= NAME_MOST
         && is_utf8(bytes)
         && all_plain(bytes)
-        && !begins_with_space(bytes)
+        && !starts_with_space(bytes)
         && !ends_with_space(bytes)
 }

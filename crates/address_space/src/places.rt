@@ -1,4 +1,5 @@
-ghost use Rattle.std.specs.Prelude.{◌≡◌, ◌+◌, ◌-◌, ◌≤◌, ◌<◌, ◌^◌, ◌↔◌, IfOk, IfErr, IsErr};
+ghost use Rattle.std.specs.Prelude.{◌≡◌, ◌+◌, ◌-◌, ◌≤◌, ◌<◌, ◌↔◌, IfOk, IfErr, IsErr};
+ghost use Rattle.gcl_model.specs.Limits.{address_end};
 ghost use Rattle.gcl_model.specs.Slots.{slot_range};
 
 use crate::range::Range;
@@ -11,13 +12,13 @@ pub struct AddressesSpent {
     pub need: u64,
 }
 
-/// The next addresses, as many as are needed: three from 7 on are 7 to 9. Err where they would not all be below 2^48.
+/// The next addresses, as many as are needed: three from 7 on are 7 to 9. Err where they would not all be below `ADDRESS_END`.
 pub fn place(next: u64, need: u64) -> Result<Range, AddressesSpent>
-    requires start { next ≤ 2 ^ 48 }
+    requires start { next ≤ address_end }
     requires some { 1 ≤ need }
-    requires most { need ≤ 2 ^ 48 }
+    requires most { need ≤ address_end }
     ensures ok { IfOk result (λ range. range ≡ slot_range next (next + need - 1)) }
-    ensures spent { IsErr result ↔ (2 ^ 48 < next + need) }
+    ensures spent { IsErr result ↔ (address_end < next + need) }
     ensures err { IfErr result (λ spent. (spent.next ≡ next) × (spent.need ≡ need)) }
 {
     let end = next + need;

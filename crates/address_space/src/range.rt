@@ -8,14 +8,15 @@ pub struct Range {
 }
 
 impl Model for Range {
-    ghost use Rattle.std.specs.Prelude.{◌≤◌, ◌<◌, ◌^◌};
+    ghost use Rattle.std.specs.Prelude.{◌≤◌, ◌<◌};
+    ghost use Rattle.gcl_model.specs.Limits.{address_end};
     ghost use Rattle.gcl_model.specs.Slots.{SlotRange, slot_range};
 
     ghost Value = { SlotRange };
 
     ghost view = { λ r. slot_range r.first r.last };
 
-    ghost invariant = { λ r. (r.first ≤ r.last) × (r.last < 2 ^ 48) };
+    ghost invariant = { λ r. (r.first ≤ r.last) × (r.last < address_end) };
 
     ghost inverse = { λ r. record { first = r.first; last = r.last } };
 }
