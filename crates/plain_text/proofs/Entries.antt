@@ -44,15 +44,6 @@ pub prefix_len-words_in : (test : ℕ → Bool) (bytes : List ℕ) (start : ℕ)
 prefix_len-words_in test bytes start [] = refl
 prefix_len-words_in test bytes start (e ∷ es) = ap (λ n. cond (test e.address) (1 + n) 0) (prefix_len-words_in test bytes e.end es)
 
--- a partition point is the length of the front that passes
-pub prefix_len_at_point : (p : Entry → Bool) (entries : List Entry) (n : ℕ) → n ≤ length entries → IsPartitionPoint (λ e. p e ≡ true) (λ e. p e ≡ false) entries n → n ≡ prefix_len p entries
-prefix_len_at_point p [] n le point = omega arith
-prefix_len_at_point p (e ∷ es) zero le point = let fails : p e ≡ false = point.1 0 e (le_refl 0) (omega arith) in rw fails refl
-prefix_len_at_point p (e ∷ es) (suc n) le point =
-    let passes : p e ≡ true = point.0 0 e (le_refl 0) (omega arith) in
-    let rest : n ≡ prefix_len p es = prefix_len_at_point p es n (omega arith) (λ k d ge lt. point.0 (suc k) d (omega arith) (omega arith), λ k d ge lt. point.1 (suc k) d (omega arith) (omega arith)) in
-    rw passes (omega arith)
-
 stands_from : (next low : ℕ) (bytes : List ℕ) (start : ℕ) (entries : List Entry) → AreRisingBelow next low (words_in bytes start entries) → (j : ℕ) (d : Entry) → j < length entries → low ≤ (get_or entries j d).address
 stands_from next low bytes start [] r j d lt = absurd (omega arith)
 stands_from next low bytes start (e ∷ es) r zero d lt = r.0

@@ -5,6 +5,8 @@ use Rattle.std.specs.Option.{option_map}
 use Rattle.std.proofs.lemmas.Bool.{leb-false, le-leb, lt-leb, ltb-true, ltb-false, cases_Bool}
 use Rattle.gcl_model.specs.Access.{find_last, later_or}
 use Rattle.gcl_model.specs.Texts.{Word, AreRisingBelow, is_word, holds, next_place, previous_place}
+use Rattle.gcl_model.proofs.Lists.{later_or-none}
+use Rattle.gcl_model.proofs.WordLists.{none_previous}
 use Rattle.plain_text.specs.Puts.{word}
 use Rattle.plain_text.specs.Holders.{first_holder, last_holder}
 
@@ -44,29 +46,15 @@ next_place_by_count next low (w ∷ ws) token k r =
     ge_self : w.address ≤ w.address
     ge_self = omega arith
 
-none_upto : (next low : ℕ) (words : List Word) (token : List ℕ) (k : ℕ) → AreRisingBelow next low words → k < low → previous_place words token k ≡ None
-none_upto next low [] token k r lt = refl
-none_upto next low (w ∷ ws) token k r lt =
-    let from : low ≤ w.address = r.0 in
-    let rest : previous_place ws token k ≡ None = none_upto next (w.address + 1) ws token k r.2 (omega arith) in
-    elim (cases_Bool (bytes_eq w.token token)) [
-      | inl t ↦ let far : leb w.address k ≡ false = lt-leb w.address k (omega arith) in rw (t, rest, far) refl
-      | inr f ↦ rw f rest
-    ]
-
 map_later : (o p : Option Word) → option_map (λ (w : Word). w.address) (later_or o p) ≡ later_or (option_map (λ (w : Word). w.address) o) (option_map (λ (w : Word). w.address) p)
 map_later None p = refl
 map_later (Some w) p = refl
-
-later_none : (o : Option ℕ) → later_or o None ≡ o
-later_none None = refl
-later_none (Some p) = refl
 
 take_first : (w : Word) (ws : List Word) (token : List ℕ) (k : ℕ) → leb w.address k ≡ true → previous_place (w ∷ ws) token k ≡ later_or (previous_place ws token k) (last_holder (w ∷ []) token)
 take_first w ws token k le =
     elim (cases_Bool (bytes_eq w.token token)) [
       | inl t ↦ rw (t, le) refl
-      | inr f ↦ rw f (sym (later_none (previous_place ws token k)))
+      | inr f ↦ rw f (sym (later_or-none (previous_place ws token k)))
     ]
 
 pub last_holder-cons : (w : Word) (ws : List Word) (token : List ℕ) → last_holder (w ∷ ws) token ≡ later_or (last_holder ws token) (last_holder (w ∷ []) token)
@@ -81,7 +69,7 @@ previous_place_by_count next low (w ∷ ws) token k r =
       | inl t ↦ take_first w ws token k t ∙ ap (λ o. later_or o (last_holder (w ∷ []) token)) (previous_place_by_count next (w.address + 1) ws token k r.2)
           ∙ sym (last_holder-cons w (take n ws) token)
           ∙ ap (λ front. last_holder front token) (sym (take_past w ws n) ∙ ap (λ m. take m (w ∷ ws)) (sym (ap (λ b. cond b (1 + n) 0) t)))
-      | inr f ↦ let gt : k < w.address = leb-false w.address k f in rw f (none_upto next w.address (w ∷ ws) token k (ge_self, r.1, r.2) gt)
+      | inr f ↦ let gt : k < w.address = leb-false w.address k f in rw f (none_previous next w.address (w ∷ ws) token k (ge_self, r.1, r.2) gt)
     ]
   where
     ge_self : w.address ≤ w.address

@@ -10,37 +10,30 @@ impl Leaves for PlainText {
 
     ghost most = { λ _. 1 };
 
-    fn next<L: Ledger>(&self, term: &[u8], k: u64, steps: &mut Steps<L>) -> Option<u64> {
-        self.look_forward(term, k, steps)
-    }
-
-    fn prev<L: Ledger>(&self, term: &[u8], k: u64, steps: &mut Steps<L>) -> Option<u64> {
-        self.look_backward(term, k, steps)
-    }
-
-    fn span(&self) -> Span {
-        self.addresses()
-    }
-}
-
-impl PlainText {
-    // One look-up, and so one step.
-    fn look_forward<L: Ledger>(&self, term: &[u8], k: u64, steps: &mut Steps<L>) -> Option<u64>
+    fn next<L: Ledger>(&self, term: &[u8], k: u64, steps: &mut Steps<L>) -> Option<u64>
         ensures answer { result ≡ next_place self.now.words term.now k }
         ensures sound { IsText self.now }
         ensures step { steps.new ≡ steps.old + 1 }
+        ensures counted { steps.old ≤ steps.new }
+        ensures cost { steps.new ≤ steps.old + 1 }
     {
         steps.tick();
         first_from(self, self.count_before(k), term)
     }
 
-    fn look_backward<L: Ledger>(&self, term: &[u8], k: u64, steps: &mut Steps<L>) -> Option<u64>
+    fn prev<L: Ledger>(&self, term: &[u8], k: u64, steps: &mut Steps<L>) -> Option<u64>
         ensures answer { result ≡ previous_place self.now.words term.now k }
         ensures sound { IsText self.now }
         ensures step { steps.new ≡ steps.old + 1 }
+        ensures counted { steps.old ≤ steps.new }
+        ensures cost { steps.new ≤ steps.old + 1 }
     {
         steps.tick();
         last_below(self, self.count_upto(k), term)
+    }
+
+    fn span(&self) -> Span {
+        self.addresses()
     }
 }
 

@@ -1,4 +1,5 @@
-ghost use Rattle.std.specs.Prelude.{◌≡◌, ◌+◌, ◌^◌, ◌≤◌, length, IfOk};
+ghost use Rattle.std.specs.Prelude.{◌≡◌, ◌+◌, ◌≤◌, length, IfOk};
+ghost use Rattle.gcl_model.specs.Limits.{address_end};
 ghost use Rattle.plain_text.specs.Puts.{text_from};
 
 use crate::text::PlainText;
@@ -7,7 +8,7 @@ use std::alloc::{AllocError, Global};
 
 /// The tokens at consecutive addresses from `first` on. The span has exactly these addresses.
 pub fn of_tokens(alloc: Global, first: u64, tokens: &TokenList) -> Result<PlainText, AllocError>
-    requires { first + length tokens.now ≤ 2 ^ 48 }
+    requires { first + length tokens.now ≤ address_end }
     ensures { IfOk result (λ text. text ≡ text_from first tokens.now) }
 {
     let next = first + tokens.len() as u64;

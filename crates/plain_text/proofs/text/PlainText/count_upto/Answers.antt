@@ -3,7 +3,8 @@ use Rattle.std.specs.List.{prefix_len}
 use Rattle.std.proofs.lemmas.List.Sorted.{IsPartitionPoint-from_clause, IsPartitionedBy-leb}
 use Rattle.gcl_model.specs.Texts.{Word}
 use Rattle.plain_text.specs.declared.entry.Entry.{Entry}
-use Rattle.plain_text.proofs.Entries.{prefix_len_at_point, prefix_len-words_in, entries_rise}
+use Rattle.gcl_model.proofs.Lists.{prefix_len_at_point}
+use Rattle.plain_text.proofs.Entries.{prefix_len-words_in, entries_rise}
 use Rattle.plain_text.proofs.text.PlainText.count_upto.Goals as goal
 
 pub returns-clause-count : goal.returns-clause-count
