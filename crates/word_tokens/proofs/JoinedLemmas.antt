@@ -6,10 +6,6 @@ use Rattle.std.proofs.lemmas.Bool.{eqb-true}
 use Rattle.gcl_model.specs.Tokens.{tokens_of}
 use Rattle.word_tokens.specs.Joined.{ends_from, cut_from, AreJoined}
 
-pub length-ends_from : (from : ℕ) (tokens : List (List ℕ)) → length (ends_from from tokens) ≡ length tokens
-length-ends_from from [] = refl
-length-ends_from from (token ∷ tokens) = ap suc (length-ends_from (from + length token) tokens)
-
 pub length-cut_from : (from : ℕ) (ends bytes : List ℕ) → length (cut_from from ends bytes) ≡ length ends
 length-cut_from from [] bytes = refl
 length-cut_from from (end ∷ ends) bytes = ap suc (length-cut_from end ends (drop (end - from) bytes))

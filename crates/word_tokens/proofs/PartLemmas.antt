@@ -8,6 +8,7 @@ use Rattle.std.proofs.lemmas.List.Sums.{prefix_len-le-length}
 use Rattle.std.proofs.Math.ListN.{drop_of_length-le}
 use Rattle.gcl_model.specs.Tokens.{Part, close_token, ends_with_byte, first_part, is_tag_byte, is_word_byte, name_at, open_token, part_or_separator, starts_with_byte, tag_behind, tag_tokens, tag_with_name, tokens_of}
 use Rattle.gcl_model.specs.Collections.{IsToken}
+use Rattle.gcl_model.proofs.Lists.{all_append, all_weaker}
 use Rattle.gcl_model.proofs.Parts.{tokens_of-cons}
 use Rattle.word_tokens.specs.Lexemes.{part_of}
 use Rattle.word_tokens.proofs.FrontLemmas.{length-take_while}
@@ -118,14 +119,8 @@ pub tokens_of-part : (text : List ℕ) → tokens_of text ≡ (part_of text).tok
 tokens_of-part [] = refl
 tokens_of-part (b ∷ bytes) = tokens_of-cons b bytes
 
--- what holds of the tokens of each part of a text of at most n bytes holds of all its tokens
-pub all_append : (P : List ℕ → Type 0) (xs ys : List (List ℕ)) → AllByRecursion P xs → AllByRecursion P ys → AllByRecursion P (xs ++ ys)
-all_append P [] ys h k = k
-all_append P (x ∷ xs) ys h k = (h.0, all_append P xs ys h.1 k)
-
-all_weaker : (m n : ℕ) (tokens : List (List ℕ)) → m ≤ n → AllByRecursion (λ token. length token ≤ m) tokens → AllByRecursion (λ token. length token ≤ n) tokens
-all_weaker m n [] le h = tt
-all_weaker m n (token ∷ tokens) le h = (let first : length token ≤ m = h.0 in omega arith, all_weaker m n tokens le h.1)
+short_in_longer : (m n : ℕ) (tokens : List (List ℕ)) → m ≤ n → AllByRecursion (λ token. length token ≤ m) tokens → AllByRecursion (λ token. length token ≤ n) tokens
+short_in_longer m n tokens le = all_weaker (λ token. length token ≤ m) (λ token. length token ≤ n) (λ token short. omega arith) tokens
 
 -- no token has more bytes than the text
 short_tokens : (n : ℕ) (text : List ℕ) → length text ≤ n → AllByRecursion (λ token. length token ≤ length text) (tokens_of text)
@@ -139,8 +134,8 @@ short_tokens (suc n) (b ∷ bytes) le =
     let rest : List ℕ = drop part.size (b ∷ bytes) in
     let shorter : length rest ≡ suc (length bytes) - part.size = length-drop part.size (b ∷ bytes) in
     subst (AllByRecursion (λ token. length token ≤ suc (length bytes))) (sym (tokens_of-cons b bytes))
-    (all_append _ part.tokens (tokens_of rest) (all_weaker part.size (suc (length bytes)) part.tokens fits fit.short)
-    (all_weaker (length rest) (suc (length bytes)) (tokens_of rest) (omega arith) (short_tokens n rest (omega arith))))
+    (all_append (λ token. length token ≤ suc (length bytes)) part.tokens (tokens_of rest) (short_in_longer part.size (suc (length bytes)) part.tokens fits fit.short)
+    (short_in_longer (length rest) (suc (length bytes)) (tokens_of rest) (omega arith) (short_tokens n rest (omega arith))))
 
 -- a text is a token where it is the one token of its first part
 pub token_from_part : (text : List ℕ) → (part_of text).size ≡ length text → (part_of text).tokens ≡ text ∷ [] → IsToken text
@@ -160,7 +155,7 @@ part_from_token text some is =
     by_tokens (part_of text).size (part_of text).tokens (tokens_of rest) fit.some fit.fits fit.short
     (let shorter : length rest ≡ length text - (part_of text).size = length-drop (part_of text).size text in
     let less : 1 ≤ (part_of text).size = fit.some in
-    all_weaker (length rest) (length text - 1) (tokens_of rest) (omega arith) (short_tokens (length rest) rest (omega arith)))
+    short_in_longer (length rest) (length text - 1) (tokens_of rest) (omega arith) (short_tokens (length rest) rest (omega arith)))
     (sym (tokens_of-part text) ∙ is)
   where
     by_tokens : (size : ℕ) (tokens others : List (List ℕ)) → 1 ≤ size → size ≤ length text → AllByRecursion (λ token. length token ≤ size) tokens

@@ -10,10 +10,11 @@ use Rattle.std.proofs.lemmas.Str.Ascii.{lowercase-lowercase}
 use Rattle.gcl_model.specs.Tokens.{Part, close_token, ends_with_byte, first_part, is_name_byte, is_tag_byte, is_word_byte, name_at, open_token, part_or_separator, starts_with_byte, tag_behind, tag_tokens, tag_with_name, tokens_of}
 use Rattle.gcl_model.specs.Collections.{IsToken}
 use Rattle.gcl_model.specs.Laws.{TokensAreTokens}
+use Rattle.gcl_model.proofs.Lists.{all_append}
 use Rattle.gcl_model.proofs.Parts.{tokens_of-cons, first_part_size}
 use Rattle.word_tokens.specs.Lexemes.{tag_end}
 use Rattle.word_tokens.proofs.FrontLemmas.{name_at-letter, part_of-word, tag_with_name-some}
-use Rattle.word_tokens.proofs.PartLemmas.{all_append, token_from_part}
+use Rattle.word_tokens.proofs.PartLemmas.{token_from_part}
 
 -- each of the bytes passes the test
 abbrev pub AllPass : (ℕ → Bool) → List ℕ → Type 0

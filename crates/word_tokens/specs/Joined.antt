@@ -1,4 +1,4 @@
--- Tokens one after the other, and where each ends.
+-- For proofs alone: tokens one after the other, and where each ends.
 use Rattle.std.specs.Prelude.{◌≡◌, ℕ, ◌+◌, ◌-◌, List, [], ◌∷◌, take, drop, length}
 use Rattle.std.specs.List.{concat}
 
