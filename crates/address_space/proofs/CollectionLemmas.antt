@@ -1,8 +1,9 @@
 -- Adding a file and deleting one keep a collection sound.
-use Rattle.std.proofs.Common.{◌≡◌, ℕ, ◌+◌, ◌-◌, ◌*◌, ◌≤◌, Bool, true, false, not, cond, eqb, List, [], ◌∷◌, ◌++◌, filter, arith}
+use Rattle.std.proofs.Common.{◌≡◌, ℕ, ◌+◌, ◌-◌, ◌*◌, ◌≤◌, Bool, true, false, not, cond, eqb, List, [], ◌∷◌, ◌++◌, filter, arith, inl, inr, sym, subst}
 use Rattle.std.specs.List.{AllByRecursion}
-use Rattle.gcl_model.specs.Collections.{File, Collection, FitsHole, AreFilesFrom, IsToken, with_file, without_file, width_of}
-use Rattle.gcl_model.specs.Laws.{StartIsSound, AddingKeepsSoundness, DeletingKeepsSoundness}
+use Rattle.gcl_model.specs.Collections.{File, Collection, FitsHole, AreFilesFrom, IsToken, IsSound, with_file, without_file, width_of}
+use Rattle.gcl_model.specs.Laws.{StartIsSound, AddingKeepsSoundness, DeletingKeepsSoundness, StepsKeepSoundness}
+use Rattle.gcl_model.specs.Steps.{Adds, Deletes, Opens}
 use Rattle.gcl_model.specs.Names.{is_name}
 
 pub start_is_sound : StartIsSound
@@ -77,3 +78,8 @@ deleting_keeps_soundness c id sound = record {
   in_range = sound.in_range;
   files = deleted_files c id c.first 0 c.files sound.files;
 }
+
+pub steps_keep_soundness : StepsKeepSoundness
+steps_keep_soundness c d sound (inl (name, tokens, can, is)) = subst IsSound (sym is) (adding_keeps_soundness c name tokens sound can)
+steps_keep_soundness c d sound (inr (inl (id, has, is))) = subst IsSound (sym is) (deleting_keeps_soundness c id sound)
+steps_keep_soundness c d sound (inr (inr opens)) = opens.sound

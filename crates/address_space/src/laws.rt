@@ -1,4 +1,4 @@
-ghost use Rattle.gcl_model.specs.Laws.{StartIsSound, AddingKeepsSoundness, DeletingKeepsSoundness, WordsAreText, WordsAreAtAddresses};
+ghost use Rattle.gcl_model.specs.Laws.{StartIsSound, AddingKeepsSoundness, DeletingKeepsSoundness, StepsKeepSoundness, WordsAreText, WordsAreAtAddresses};
 
 /// The collection that begins at an address up to `ADDRESS_END` is sound.
 pub fn start_is_sound()
@@ -13,6 +13,11 @@ pub fn adding_keeps_soundness()
 /// So does the deletion of any id.
 pub fn deleting_keeps_soundness()
     ensures { DeletingKeepsSoundness }
+{}
+
+/// So does each step: an add, a deletion, or the opening of an image.
+pub fn steps_keep_soundness()
+    ensures { StepsKeepSoundness }
 {}
 
 /// The words of a sound collection stand at rising addresses, between its first and its next.

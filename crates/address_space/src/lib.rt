@@ -16,17 +16,21 @@ mod laws;
 mod names;
 mod places;
 mod range;
+mod slot_laws;
 
 pub use file_id::FileId;
 pub use file_record::FileRecord;
 pub use file_run::FileRun;
 pub use laws::{
-    adding_keeps_soundness, deleting_keeps_soundness, start_is_sound, words_are_at_addresses,
-    words_are_text,
+    adding_keeps_soundness, deleting_keeps_soundness, start_is_sound, steps_keep_soundness,
+    words_are_at_addresses, words_are_text,
 };
 pub use names::{NAME_MOST, is_name};
 pub use places::{AddressesSpent, place};
 pub use range::Range;
+pub use slot_laws::{
+    adding_keeps_tiers, merging_keeps_tiers, opening_makes_tiers, tails_are_joined, tiers_are_few,
+};
 
 #[cfg(test)]
 mod tests;
