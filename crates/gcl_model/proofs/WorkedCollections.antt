@@ -3,7 +3,7 @@ use Rattle.std.specs.Prelude.{◌≡◌, ℕ, ◌+◌, suc, zero, List, [], ◌�
 use Rattle.gcl_model.specs.Extents.{extent}
 use Rattle.gcl_model.specs.Forms.{term, seq, width, more_forms, no_forms}
 use Rattle.gcl_model.specs.Tokens.{tokens_of}
-use Rattle.gcl_model.specs.Collections.{Collection, empty_from, with_file, without_file, has_file, text_of, word_at, file_start, file_end}
+use Rattle.gcl_model.specs.Collections.{Collection, empty_from, with_file, without_file, has_file, text_of, word_at, file_start, file_end, is_boundary}
 use Rattle.gcl_model.specs.Meaning.{concordance}
 use Rattle.gcl_model.specs.Slots.{SlotRange, slot_range, tail_count, slots_after_add, slots_after_merge, slots_after_open}
 
@@ -26,6 +26,12 @@ word_of_the_first_file = refl
 
 pub boundary_of_the_empty_file : word_at two_files 9 ≡ Some file_end
 boundary_of_the_empty_file = refl
+
+pub a_boundary_is_spelled_out : is_boundary (codes "</file!>") ≡ true
+a_boundary_is_spelled_out = refl
+
+pub a_tag_is_no_boundary : is_boundary (codes "<file>") ≡ false
+a_tag_is_no_boundary = refl
 
 pub no_word_behind_the_last : word_at two_files 10 ≡ None
 no_word_behind_the_last = refl

@@ -1,7 +1,7 @@
 -- Worked examples of the tokens of a text and of names, computed.
 use Rattle.std.specs.Prelude.{◌≡◌, refl, true, false, [], ◌∷◌, codes}
 use Rattle.std.specs.List.{list_all}
-use Rattle.gcl_model.specs.Tokens.{tokens_of, starts_with_byte, ends_with_byte}
+use Rattle.gcl_model.specs.Tokens.{tokens_of, is_blank, starts_with_byte, ends_with_byte}
 use Rattle.gcl_model.specs.Names.{is_plain_byte}
 
 pub two_words_and_a_tag : tokens_of (codes "a<b>c") ≡ codes "a" ∷ codes "<b>" ∷ codes "c" ∷ []
@@ -54,3 +54,9 @@ a_space_in_front = refl
 
 pub a_space_behind : ends_with_byte 32 (codes "a ") ≡ true
 a_space_behind = refl
+
+pub a_tab_is_a_blank : is_blank 9 ≡ true
+a_tab_is_a_blank = refl
+
+pub a_newline_is_none : is_blank 10 ≡ false
+a_newline_is_none = refl

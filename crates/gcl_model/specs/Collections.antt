@@ -1,5 +1,5 @@
 -- Collections of files at addresses, and the steps that change them.
-use Rattle.std.specs.Prelude.{◌≡◌, ℕ, ◌+◌, ◌-◌, ◌*◌, ◌≤◌, Bool, true, not, ◌==◌, nat_le, List, [], ◌∷◌, ◌++◌, length, filter, flat_map, codes, Option, None, if◌then◌else◌}
+use Rattle.std.specs.Prelude.{◌≡◌, ℕ, ◌+◌, ◌-◌, ◌*◌, ◌≤◌, Bool, true, not, ◌||◌, ◌==◌, nat_le, bytes_eq, List, [], ◌∷◌, ◌++◌, length, filter, flat_map, codes, Option, None, if◌then◌else◌}
 use Rattle.std.specs.List.{AllByRecursion, list_any, slice_get}
 use Rattle.std.specs.Option.{option_or}
 use Rattle.gcl_model.specs.Texts.{Text, Word}
@@ -27,6 +27,10 @@ file_start = codes "<file!>"
 
 abbrev pub file_end : List ℕ
 file_end = codes "</file!>"
+
+-- one of the two tokens around a file: no text is cut into them, so a query spells them out
+abbrev pub is_boundary : List ℕ → Bool
+is_boundary token = bytes_eq token file_start || bytes_eq token file_end
 
 -- the tokens of a file, between its boundary tokens
 abbrev pub with_boundaries : List (List ℕ) → List (List ℕ)
