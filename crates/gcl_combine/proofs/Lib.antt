@@ -1,3 +1,4 @@
-pub mod OneForward
-pub mod OneBackward
+pub mod Ways
+pub mod BothOf
+pub mod OneOf
 mod Worked

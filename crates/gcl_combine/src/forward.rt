@@ -1,6 +1,5 @@
 ghost use Rattle.std.specs.Prelude.{◌≡◌, ◌↔◌, min, max, IsNone, IfSome, Some};
-ghost use Rattle.gcl_model.specs.Rules.{nearer};
-ghost use Rattle.gcl_combine.specs.Better.{IsAmong, IsFirstToEnd};
+ghost use Rattle.gcl_combine.specs.Better.{nearer, IsAmong, IsFirstToEnd};
 
 use gcl_model::Interval;
 

@@ -1,4 +1,4 @@
-use Rattle.gcl_model.proofs.Nodes.{first_start-both, last_end-both}
+use Rattle.gcl_combine.proofs.BothOf.{first_start-both, last_end-both}
 use Rattle.gcl_combine.proofs.laws.both_of_accesses.Goals as goal
 
 pub returns : goal.returns

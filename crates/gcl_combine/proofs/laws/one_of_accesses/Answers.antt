@@ -1,5 +1,4 @@
-use Rattle.gcl_combine.proofs.OneForward.{first_start-one}
-use Rattle.gcl_combine.proofs.OneBackward.{last_end-one}
+use Rattle.gcl_combine.proofs.OneOf.{first_start-one, last_end-one}
 use Rattle.gcl_combine.proofs.laws.one_of_accesses.Goals as goal
 
 pub returns : goal.returns
