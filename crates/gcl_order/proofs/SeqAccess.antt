@@ -7,10 +7,10 @@ use Rattle.gcl_model.specs.Texts.{Text}
 use Rattle.gcl_model.specs.Forms.{Forms, seq, no_forms, more_forms, forms_count}
 use Rattle.gcl_model.specs.Meaning.{concordance, operands}
 use Rattle.gcl_model.specs.Access.{first_start, last_end}
-use Rattle.gcl_model.specs.Rules.{end_of, start_of, seq_end, seq_start, start_before}
+use Rattle.gcl_model.specs.Rules.{end_of, start_of}
 use Rattle.gcl_model.proofs.Covers.{Has, find_gives, find_last_gives, covered_tells, covered_from, same_member, first_start_reached, last_end_reached}
-use Rattle.gcl_model.proofs.Reach.{AreRising}
-use Rattle.gcl_model.proofs.Nodes.{operands_rise, first_start-seq, last_end-seq}
+use Rattle.gcl_model.proofs.Reach.{AreRising, operands_rise}
+use Rattle.gcl_order.proofs.InOrder.{seq_end, start_before, seq_start, first_start-seq, last_end-seq}
 use Rattle.gcl_order.specs.Walks.{address_before, joined, last_before, walk_forward, walk_backward, forward_and_back, back_and_forward}
 
 -- a member is the first from its start on, and the last up to its end

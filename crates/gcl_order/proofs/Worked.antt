@@ -2,7 +2,7 @@
 use Rattle.std.specs.Prelude.{◌≡◌, List, [], ◌∷◌, Some, None}
 use Rattle.std.proofs.Common.{refl}
 use Rattle.gcl_model.specs.Extents.{Extent, extent}
-use Rattle.gcl_order.specs.Walks.{address_before, forward_and_back, back_and_forward}
+use Rattle.gcl_order.specs.Walks.{joined, address_before, last_before, walk_forward, walk_backward, forward_and_back, back_and_forward}
 
 abbrev to : List Extent
 to = extent 1 1 ∷ extent 5 5 ∷ []
@@ -10,8 +10,24 @@ to = extent 1 1 ∷ extent 5 5 ∷ []
 abbrev be : List Extent
 be = extent 2 2 ∷ extent 6 6 ∷ []
 
+joined-two : joined (extent 1 2) (extent 6 7) ≡ extent 1 7
+joined-two = refl
+
+before_five : address_before 5 ≡ Some 4
+before_five = refl
+
 before_first : address_before 0 ≡ None
 before_first = refl
+
+last_be-before_the_second_to : last_before be (extent 5 5) ≡ Some (extent 2 2)
+last_be-before_the_second_to = refl
+
+-- on from the first "be", and back from the last
+be_to_be-walk : walk_forward (to ∷ be ∷ []) (extent 2 2) ≡ Some (extent 6 6)
+be_to_be-walk = refl
+
+to_be_be-walk_back : walk_backward (to ∷ be ∷ []) (extent 6 6) ≡ Some (extent 1 1)
+to_be_be-walk_back = refl
 
 -- "to" followed by "be": from 0 on (1, 2), from 2 on (5, 6)
 to_be-from_0 : forward_and_back to (be ∷ []) (to ∷ []) 0 ≡ Some (extent 1 2)

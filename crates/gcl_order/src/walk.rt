@@ -1,11 +1,12 @@
-ghost use Rattle.std.specs.Prelude.{◌≡◌, ◌↔◌, ◌+◌, ◌<◌, ◌≤◌, ◌^◌, IsNone};
+ghost use Rattle.std.specs.Prelude.{◌≡◌, ◌↔◌, ◌+◌, ◌<◌, ◌≤◌, IsNone};
+ghost use Rattle.gcl_model.specs.Limits.{far};
 ghost use Rattle.gcl_order.specs.Walks.{address_before, joined};
 
 use gcl_model::Interval;
 
 /// The address after the answer: where the next operand may start.
 pub fn after(answer: Interval) -> u64
-    requires { answer.end < 2 ^ 62 }
+    requires { answer.end < far }
     ensures { result ≡ answer.end + 1 }
 {
     answer.end + 1
