@@ -1,10 +1,9 @@
 -- What an access of a rising list tells of all its members.
 use Rattle.std.proofs.Common.{◌≡◌, ℕ, ◌<◌, ◌≤◌, Bool, true, false, cond, leb, List, [], ◌∷◌, Option, Some, None, inl, inr, refl, sym, ap, ◌∙◌, subst, arith, find, le_refl}
 use Rattle.std.proofs.lemmas.Bool.{true≢false, or_cases, or_left, or_right, leb-true, leb-false, cases_Bool, false_from_ne_true}
-use Rattle.gcl_model.specs.Extents.{Extent, is_nested, same_extent, covers, is_inside, contains_extent, IsAhead, IsRising}
+use Rattle.gcl_model.specs.Extents.{Extent, is_nested, covers, is_inside, IsAhead, IsRising}
 use Rattle.gcl_model.specs.Access.{later_or, find_last}
 use Rattle.gcl_model.proofs.Covers.{Has, Nested, nested_tells, nested_from, covered_tells, of_each}
-use Rattle.gcl_model.proofs.Minimal.{same_tells}
 use Rattle.gcl_contain.specs.Laws.{IsFromOn}
 
 -- a number of each member that rises with them: its start or its end
@@ -116,11 +115,6 @@ from_by_place place rises (x ∷ xs) r a c (inl p) (inl q) le = from_same a c (s
 from_by_place place rises (x ∷ xs) r a c (inl p) (inr n) le = from_ahead a c (subst (λ y. IsAhead y c) p (of_each (IsAhead x) xs c r.0 n))
 from_by_place place rises (x ∷ xs) r a c (inr m) (inl q) le = let h = rises c a (subst (λ y. IsAhead y a) q (of_each (IsAhead x) xs a r.0 m)) in absurd (omega arith)
 from_by_place place rises (x ∷ xs) r a c (inr m) (inr n) le = from_by_place place rises xs r.1 a c m n le
-
-pub contains_tells : (list : List Extent) (c : Extent) → contains_extent list c ≡ true → Has list c
-contains_tells [] c e = absurd (true≢false (sym e))
-contains_tells (x ∷ xs) c e =
-    elim (or_cases (same_extent x c) (contains_extent xs c) e) [ inl s ↦ inl (same_tells x c s) | inr m ↦ inr (contains_tells xs c m) ]
 
 -- c lies within a member
 pub record LiesWithin (list : List Extent) (c : Extent) : Type 0 where

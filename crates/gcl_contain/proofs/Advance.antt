@@ -2,12 +2,12 @@
 use Rattle.std.proofs.Common.{◌≡◌, ℕ, zero, suc, ◌+◌, ◌<◌, ◌≤◌, leb, Some, inl, inr, sym, arith}
 use Rattle.std.proofs.lemmas.Bool.{leb-true, leb-false, cases_Bool}
 use Rattle.gcl_model.specs.Extents.{Extent}
-use Rattle.gcl_model.specs.Turns.{go_to, containing_move}
 use Rattle.gcl_model.proofs.Covers.{find_gives, find_last_gives}
-use Rattle.gcl_contain.specs.Moves.{contained_in_move, not_containing_move, not_contained_in_move, containing_move_back, contained_in_move_back, not_containing_move_back, not_contained_in_move_back, before_move}
+use Rattle.gcl_model.proofs.Meanings.{contains_tells}
+use Rattle.gcl_contain.specs.Moves.{go_to, containing_move, contained_in_move, not_containing_move, not_contained_in_move, containing_move_back, contained_in_move_back, not_containing_move_back, not_contained_in_move_back, before_move}
 use Rattle.gcl_contain.specs.Kinds.{containing, contained_in, not_containing, not_contained_in, containing_back, contained_in_back, not_containing_back, not_contained_in_back}
 use Rattle.gcl_contain.specs.Laws.{ForwardAdvances, BackwardAdvances}
-use Rattle.gcl_contain.proofs.Accesses.{start_is_place, end_is_place, ahead_by_place, contains_tells}
+use Rattle.gcl_contain.proofs.Accesses.{start_is_place, end_is_place, ahead_by_place}
 
 -- when each move goes on, and where to
 pub containing_goes : (a b : Extent) (k : ℕ) → containing_move a (Some b) ≡ go_to k → (a.end < b.end) × (k ≡ b.end)

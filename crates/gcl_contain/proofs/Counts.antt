@@ -3,9 +3,8 @@ use Rattle.std.proofs.Common.{◌≡◌, ℕ, ◌+◌, ◌<◌, ◌≤◌, Bool,
 use Rattle.std.proofs.lemmas.Bool.{true≢false, leb-true, lt-ltb, le-ltb, ltb-true}
 use Rattle.gcl_model.specs.Extents.{Extent}
 use Rattle.gcl_model.specs.Access.{first_start, first_end, last_end, last_start}
-use Rattle.gcl_model.specs.Turns.{go_to, containing_move}
 use Rattle.gcl_model.proofs.Covers.{Has, find_gives, find_last_gives}
-use Rattle.gcl_contain.specs.Moves.{contained_in_move, not_containing_move, not_contained_in_move, containing_move_back, contained_in_move_back, not_containing_move_back, not_contained_in_move_back}
+use Rattle.gcl_contain.specs.Moves.{go_to, containing_move, contained_in_move, not_containing_move, not_contained_in_move, containing_move_back, contained_in_move_back, not_containing_move_back, not_contained_in_move_back}
 use Rattle.gcl_contain.proofs.Advance.{containing_goes, contained_in_goes, not_containing_goes, not_contained_in_goes, containing_back_goes, contained_in_back_goes, not_containing_back_goes, not_contained_in_back_goes}
 
 -- how many members pass the test

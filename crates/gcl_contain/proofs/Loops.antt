@@ -4,9 +4,9 @@ use Rattle.std.proofs.Common.{◌≡◌, ℕ, ◌<◌, ◌≤◌, Bool, true, fa
 use Rattle.std.proofs.lemmas.Bool.{leb-true, le-leb, lt-leb, cases_Bool, cases_lt}
 use Rattle.gcl_model.specs.Extents.{Extent, IsAhead, IsRising}
 use Rattle.gcl_model.specs.Access.{later_or, find_last}
-use Rattle.gcl_model.specs.Turns.{Move, accept, go_to, finish}
-use Rattle.gcl_model.proofs.Covers.{Has, of_each}
+use Rattle.gcl_model.proofs.Covers.{Has, of_each, find_agree_on, find_last_agree_on}
 use Rattle.gcl_model.proofs.Minimal.{has_filter, same_truth}
+use Rattle.gcl_contain.specs.Moves.{Move, accept, go_to, finish}
 use Rattle.gcl_contain.specs.Kinds.{Kind}
 use Rattle.gcl_contain.specs.Laws.{IsFromOn, IsRightForward, IsRightBackward, ForwardIsRight, BackwardIsRight}
 use Rattle.gcl_contain.proofs.Accesses.{IsPlace, IsFirst, found_first, none_from, IsLast, found_last, none_upto, ahead_by_place, from_by_place}
@@ -153,15 +153,6 @@ module _ (place : Extent → ℕ) (rises : IsPlace place) (keeps : Extent → Bo
               elim (cases_lt upto (place c)) [ inl far ↦ p.passed c m le far | inr ge ↦ of_each (λ c. IsFromOn c a → next < place c → keeps c ≡ false) members c right.2 m (last.last c m ge) lt ];
         }
 
-find_agree : (p q : Extent → Bool) (list : List Extent) → ((c : Extent) → Has list c → p c ≡ q c) → find p list ≡ find q list
-find_agree p q [] same = refl
-find_agree p q (x ∷ xs) same = ap (λ b. cond b (Some x) (find p xs)) (same x (inl refl)) ∙ ap (λ o. cond (q x) (Some x) o) (find_agree p q xs (λ c m. same c (inr m)))
-
-find_last_agree : (p q : Extent → Bool) (list : List Extent) → ((c : Extent) → Has list c → p c ≡ q c) → find_last p list ≡ find_last q list
-find_last_agree p q [] same = refl
-find_last_agree p q (x ∷ xs) same =
-    ap (λ b. later_or (find_last p xs) (cond b (Some x) None)) (same x (inl refl)) ∙ ap (λ o. later_or o (cond (q x) (Some x) None)) (find_last_agree p q xs (λ c m. same c (inr m)))
-
 -- of a member and what is no earlier than it, each place is no less
 no_less : (place : Extent → ℕ) → IsPlace place → (list : List Extent) → IsRising list → (a c : Extent) → Has list a → Has list c → IsFromOn a c → place a ≤ place c
 no_less place rises list r a c m n on =
@@ -175,7 +166,7 @@ module _ (place other : Extent → ℕ) (rises : IsPlace place) (other_rises : I
     forward_within a found =
         let first = found_first other members r k a (sym found) in
         let far : k ≤ other a = first.far in
-        find_agree (λ c. leb k (other c)) (λ c. leb (place a) (place c)) list (λ c m.
+        find_agree_on (λ c. leb k (other c)) (λ c. leb (place a) (place c)) list (λ c m.
         let n = within c m in
         same_truth (leb k (other c)) (leb (place a) (place c))
         (λ e. le-leb (place a) (place c) (no_less place rises members r a c first.member n (first.first c n (leb-true k (other c) e))))
@@ -186,7 +177,7 @@ module _ (place other : Extent → ℕ) (rises : IsPlace place) (other_rises : I
     backward_within a found =
         let last = found_last other members r k a (sym found) in
         let near : other a ≤ k = last.near in
-        find_last_agree (λ c. leb (other c) k) (λ c. leb (place c) (place a)) list (λ c m.
+        find_last_agree_on (λ c. leb (other c) k) (λ c. leb (place c) (place a)) list (λ c m.
         let n = within c m in
         same_truth (leb (other c) k) (leb (place c) (place a))
         (λ e. le-leb (place c) (place a) (no_less place rises members r c a n last.member (last.last c n (leb-true (other c) k e))))

@@ -3,10 +3,8 @@ use Rattle.std.proofs.Common.{◌≡◌, ℕ, zero, suc, ◌+◌, ◌<◌, ◌�
 use Rattle.std.proofs.lemmas.Bool.{leb-true, leb-false, cases_Bool, not_from_true, not_from_false}
 use Rattle.gcl_model.specs.Extents.{Extent, covers, is_inside, IsRising}
 use Rattle.gcl_model.specs.Access.{first_start, first_end, last_end, last_start}
-use Rattle.gcl_model.specs.Turns.{containing_move}
-use Rattle.gcl_model.proofs.Covers.{covered_from}
-use Rattle.gcl_model.proofs.Covers.{all_from_has}
-use Rattle.gcl_contain.specs.Moves.{contained_in_move, not_containing_move, not_contained_in_move, containing_move_back, contained_in_move_back, not_containing_move_back, not_contained_in_move_back, before_move}
+use Rattle.gcl_model.proofs.Covers.{covered_from, all_from_has}
+use Rattle.gcl_contain.specs.Moves.{containing_move, contained_in_move, not_containing_move, not_contained_in_move, containing_move_back, contained_in_move_back, not_containing_move_back, not_contained_in_move_back, before_move}
 use Rattle.gcl_contain.specs.Kinds.{containing, contained_in, not_containing, not_contained_in, containing_back, contained_in_back, not_containing_back, not_contained_in_back}
 use Rattle.gcl_contain.specs.Laws.{IsFromOn, IsRightForward, IsRightBackward, ForwardIsRight, BackwardIsRight}
 use Rattle.gcl_contain.proofs.Accesses.{found_first, none_from, found_last, none_upto, from_itself, not_covered, not_inside, inside_from}

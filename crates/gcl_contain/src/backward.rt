@@ -1,4 +1,5 @@
-ghost use Rattle.std.specs.Prelude.{◌≡◌, ◌<◌, ◌^◌, IfSome};
+ghost use Rattle.std.specs.Prelude.{◌≡◌, ◌<◌, IfSome};
+ghost use Rattle.gcl_model.specs.Limits.{far};
 ghost use Rattle.gcl_contain.specs.Moves.{move_of, contained_in_move_back, containing_move_back, not_containing_move_back, not_contained_in_move_back, before_move};
 
 use crate::turn::Turn;
@@ -7,8 +8,8 @@ use gcl_model::Interval;
 /// Contained in, backward: `a` is the last member that ends up to the loop's address, and `b` the last of the other
 /// list that starts at the start of `a` or before it. At (4, 5) with (1, 3) the loop goes on at 3.
 pub fn in_turn_back(a: Interval, b: Option<Interval>) -> Turn
-    requires a_below { a.end < 2 ^ 62 }
-    requires b_below { IfSome b (λ b. b.end < 2 ^ 62) }
+    requires a_below { a.end < far }
+    requires b_below { IfSome b (λ b. b.end < far) }
     ensures { move_of result ≡ contained_in_move_back a b }
 {
     match b {
@@ -21,8 +22,8 @@ pub fn in_turn_back(a: Interval, b: Option<Interval>) -> Turn
 /// Containing, backward: `a` is the last member that starts up to the loop's address, and `b` the last of the other
 /// list that ends at the end of `a` or before it. At (4, 5) with (2, 4) the loop goes on at 2.
 pub fn has_turn_back(a: Interval, b: Option<Interval>) -> Turn
-    requires a_below { a.end < 2 ^ 62 }
-    requires b_below { IfSome b (λ b. b.end < 2 ^ 62) }
+    requires a_below { a.end < far }
+    requires b_below { IfSome b (λ b. b.end < far) }
     ensures { move_of result ≡ containing_move_back a b }
 {
     match b {
@@ -35,8 +36,8 @@ pub fn has_turn_back(a: Interval, b: Option<Interval>) -> Turn
 /// Not containing, backward: `a` is the last member that ends up to the loop's address, and `b` the last of the other
 /// list that ends at the end of `a` or before it. At (1, 4) with (2, 3) the loop goes on at 2.
 pub fn not_has_turn_back(a: Interval, b: Option<Interval>) -> Turn
-    requires a_below { a.end < 2 ^ 62 }
-    requires b_below { IfSome b (λ b. b.end < 2 ^ 62) }
+    requires a_below { a.end < far }
+    requires b_below { IfSome b (λ b. b.end < far) }
     ensures { move_of result ≡ not_containing_move_back a b }
 {
     match b {
@@ -48,8 +49,8 @@ pub fn not_has_turn_back(a: Interval, b: Option<Interval>) -> Turn
 /// Not contained in, backward: `a` is the last member that starts up to the loop's address, and `b` the last of the
 /// other list that starts at the start of `a` or before it. At (2, 3) with (1, 4) the loop goes on at 0.
 pub fn not_in_turn_back(a: Interval, b: Option<Interval>) -> Turn
-    requires a_below { a.end < 2 ^ 62 }
-    requires b_below { IfSome b (λ b. b.end < 2 ^ 62) }
+    requires a_below { a.end < far }
+    requires b_below { IfSome b (λ b. b.end < far) }
     ensures { move_of result ≡ not_contained_in_move_back a b }
 {
     match b {

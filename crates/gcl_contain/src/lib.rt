@@ -7,17 +7,18 @@
 //! The layer above uses two laws over any two lists whose members rise. A move is right: it accepts exactly the members
 //! of the node's list, a leap passes over none of them, and nothing is left where it finishes. And rejecting turns
 //! advance: both `a` and `b` come strictly after those of the rejecting turn before, or before them on the way back.
-//! Of members that contain one of `B`, here (4, 4) alone: at (1, 2) the loop goes on at 4, and (2, 5) is accepted.
+//! Example: `B` has the one member (4, 4). At (1, 2) the loop of "containing" goes on at 4; (2, 5) contains (4, 4) and is
+//! accepted.
 #![tactic(auto)]
 
-mod back;
+mod backward;
 mod forward;
 mod laws;
 #[cfg(test)]
 mod tests;
 mod turn;
 
-pub use back::{has_turn_back, in_turn_back, not_has_turn_back, not_in_turn_back};
+pub use backward::{has_turn_back, in_turn_back, not_has_turn_back, not_in_turn_back};
 pub use forward::{has_turn, in_turn, not_has_turn, not_in_turn};
 pub use laws::{moves_are_right, rejecting_turns_advance};
 pub use turn::Turn;

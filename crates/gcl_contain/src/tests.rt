@@ -1,10 +1,10 @@
-use crate::back::{has_turn_back, in_turn_back, not_has_turn_back, not_in_turn_back};
+use crate::backward::{has_turn_back, in_turn_back, not_has_turn_back, not_in_turn_back};
 use crate::forward::{has_turn, in_turn, not_has_turn, not_in_turn};
 use crate::turn::Turn;
 use gcl_model::Interval;
 
 #[test]
-fn turns_forward(rt: HostRuntime) {
+fn a_turn_forward_accepts_goes_on_or_finishes(rt: HostRuntime) {
     let a = Interval::new(2, 5);
     let cases = [
         ("in: none", in_turn(a, None), Turn::Finish),
@@ -58,7 +58,7 @@ fn turns_forward(rt: HostRuntime) {
 }
 
 #[test]
-fn turns_backward(rt: HostRuntime) {
+fn a_turn_backward_accepts_goes_on_or_finishes(rt: HostRuntime) {
     let a = Interval::new(2, 5);
     let cases = [
         ("in: none", in_turn_back(a, None), Turn::Finish),
