@@ -1,12 +1,12 @@
 -- The accesses of the intervals of one width.
-use Rattle.std.proofs.Common.{◌≡◌, ℕ, ◌+◌, ◌-◌, ◌<◌, ◌≤◌, Bool, cond, leb, List, [], ◌∷◌, Some, None, min, max, inl, inr, refl, sym, ap, ◌∙◌, arith, find}
+use Rattle.std.proofs.Common.{◌≡◌, ℕ, ◌+◌, ◌-◌, ◌<◌, ◌≤◌, cond, leb, List, [], ◌∷◌, Some, None, min, max, inl, inr, refl, sym, ap, arith}
 use Rattle.std.proofs.lemmas.Bool.{leb-true, le-leb, lt-leb, eqb-true, eq-eqb, cases_lt}
 use Rattle.gcl_model.specs.Extents.{Extent, extent, all_extents, IsAhead, IsRising}
-use Rattle.gcl_model.specs.Access.{later_or, find_last, first_start, first_end, last_end, last_start}
+use Rattle.gcl_model.specs.Access.{later_or, first_start, first_end, last_end, last_start}
 use Rattle.gcl_model.specs.Texts.{Text}
 use Rattle.gcl_model.specs.Forms.{width}
 use Rattle.gcl_model.specs.Meaning.{denotes}
-use Rattle.gcl_model.proofs.Covers.{Has, of_each}
+use Rattle.gcl_model.proofs.Covers.{Has, of_each, find_agree_on, find_last_agree_on}
 use Rattle.gcl_model.proofs.Minimal.{filter_has, has_filter, has_extent, same_truth}
 use Rattle.gcl_model.proofs.Meanings.{IsOf, each_of_text, concordance_rises}
 use Rattle.fixed_width.specs.Widths.{width_list}
@@ -42,15 +42,6 @@ last_found (x ∷ xs) r k b (inl same) le most =
     rw (← none, le-leb x.end k (omega arith)) (ap Some (sym same))
 last_found (x ∷ xs) r k b (inr m) le most = ap (λ o. later_or o (cond (leb x.end k) (Some x) None)) (last_found xs r.1 k b m le (λ d n. most d (inr n)))
 
-find_agree : (p q : Extent → Bool) (list : List Extent) → ((c : Extent) → Has list c → p c ≡ q c) → find p list ≡ find q list
-find_agree p q [] same = refl
-find_agree p q (x ∷ xs) same = ap (λ b. cond b (Some x) (find p xs)) (same x (inl refl)) ∙ ap (λ o. cond (q x) (Some x) o) (find_agree p q xs (λ c m. same c (inr m)))
-
-find_last_agree : (p q : Extent → Bool) (list : List Extent) → ((c : Extent) → Has list c → p c ≡ q c) → find_last p list ≡ find_last q list
-find_last_agree p q [] same = refl
-find_last_agree p q (x ∷ xs) same =
-    ap (λ b. later_or (find_last p xs) (cond b (Some x) None)) (same x (inl refl)) ∙ ap (λ o. later_or o (cond (q x) (Some x) None)) (find_last_agree p q xs (λ c m. same c (inr m)))
-
 module _ (text : Text) (n : ℕ) where
   -- a member lies in the text and has the width
   record IsWide (d : Extent) : Type 0 where
@@ -85,7 +76,7 @@ module _ (text : Text) (n : ℕ) where
   -- by the end is by the start, so many addresses before
   pub first_end_is : (k : ℕ) → 1 ≤ n → first_start (width_list text n) (k - (n - 1)) ≡ first_end (width_list text n) k
   first_end_is k some =
-      find_agree (λ c. leb (k - (n - 1)) c.start) (λ c. leb k c.end) (width_list text n) (λ d m.
+      find_agree_on (λ c. leb (k - (n - 1)) c.start) (λ c. leb k c.end) (width_list text n) (λ d m.
       let wide = (is_wide d m).wide in
       same_truth (leb (k - (n - 1)) d.start) (leb k d.end)
       (λ e. let le : k - (n - 1) ≤ d.start = leb-true (k - (n - 1)) d.start e in le-leb k d.end (omega arith))
@@ -93,7 +84,7 @@ module _ (text : Text) (n : ℕ) where
 
   pub last_start_is : (k : ℕ) → 1 ≤ n → last_end (width_list text n) (min k text.next + (n - 1)) ≡ last_start (width_list text n) k
   last_start_is k some =
-      find_last_agree (λ c. leb c.end (min k text.next + (n - 1))) (λ c. leb c.start k) (width_list text n) (λ d m.
+      find_last_agree_on (λ c. leb c.end (min k text.next + (n - 1))) (λ c. leb c.start k) (width_list text n) (λ d m.
       let w = is_wide d m in let wide = w.wide in let below = w.below in
       same_truth (leb d.end (min k text.next + (n - 1))) (leb d.start k)
       (λ e. let le : d.end ≤ min k text.next + (n - 1) = leb-true d.end (min k text.next + (n - 1)) e in le-leb d.start k (omega arith))

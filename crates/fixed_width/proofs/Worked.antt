@@ -9,11 +9,11 @@ use Rattle.fixed_width.specs.Widths.{width_list}
 abbrev bare : Text
 bare = record { first = 2; next = 8; words = [] }
 
-pub three_of_four : width_list bare 4 ≡ extent 2 5 ∷ extent 3 6 ∷ extent 4 7 ∷ []
+three_of_four : width_list bare 4 ≡ extent 2 5 ∷ extent 3 6 ∷ extent 4 7 ∷ []
 three_of_four = refl
 
-pub first_that_ends_from_six : first_end (width_list bare 4) 6 ≡ Some (extent 3 6)
+first_that_ends_from_six : first_end (width_list bare 4) 6 ≡ Some (extent 3 6)
 first_that_ends_from_six = refl
 
-pub last_that_starts_up_to_one : last_start (width_list bare 4) 1 ≡ None
+last_that_starts_up_to_one : last_start (width_list bare 4) 1 ≡ None
 last_that_starts_up_to_one = refl

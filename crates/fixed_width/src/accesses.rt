@@ -1,5 +1,6 @@
-ghost use Rattle.std.specs.Prelude.{◌≡◌, ◌≤◌, ◌^◌};
+ghost use Rattle.std.specs.Prelude.{◌≡◌, ◌≤◌};
 ghost use Rattle.gcl_model.specs.Access.{first_start, first_end, last_end, last_start};
+ghost use Rattle.gcl_model.specs.Limits.{address_end};
 ghost use Rattle.gcl_model.specs.Texts.{Text};
 ghost use Rattle.fixed_width.specs.Widths.{width_list, HasSpan};
 
@@ -8,7 +9,7 @@ use gcl_model::{Interval, Span};
 /// The first interval of `n` addresses that starts at or after `k`.
 pub fn width_first_start(n: u64, span: Span, k: u64) -> Option<Interval>
     requires some { 1 ≤ n }
-    requires most { n ≤ 2 ^ 48 }
+    requires most { n ≤ address_end }
     ensures { (text : Text) → HasSpan text span.first span.next → result ≡ first_start (width_list text n) k }
 {
     let start = span.first.max(k);
@@ -23,7 +24,7 @@ pub fn width_first_start(n: u64, span: Span, k: u64) -> Option<Interval>
 /// The first that ends at or after `k`.
 pub fn width_first_end(n: u64, span: Span, k: u64) -> Option<Interval>
     requires some { 1 ≤ n }
-    requires most { n ≤ 2 ^ 48 }
+    requires most { n ≤ address_end }
     ensures { (text : Text) → HasSpan text span.first span.next → result ≡ first_end (width_list text n) k }
 {
     width_first_start(n, span, k.saturating_sub(n - 1))
@@ -32,7 +33,7 @@ pub fn width_first_end(n: u64, span: Span, k: u64) -> Option<Interval>
 /// The last that ends at or before `k`.
 pub fn width_last_end(n: u64, span: Span, k: u64) -> Option<Interval>
     requires some { 1 ≤ n }
-    requires most { n ≤ 2 ^ 48 }
+    requires most { n ≤ address_end }
     ensures { (text : Text) → HasSpan text span.first span.next → result ≡ last_end (width_list text n) k }
 {
     let next = if k < span.next { k + 1 } else { span.next };
@@ -47,7 +48,7 @@ pub fn width_last_end(n: u64, span: Span, k: u64) -> Option<Interval>
 /// The last that starts at or before `k`.
 pub fn width_last_start(n: u64, span: Span, k: u64) -> Option<Interval>
     requires some { 1 ≤ n }
-    requires most { n ≤ 2 ^ 48 }
+    requires most { n ≤ address_end }
     ensures { (text : Text) → HasSpan text span.first span.next → result ≡ last_start (width_list text n) k }
 {
     width_last_end(n, span, k.min(span.next) + (n - 1))

@@ -2,7 +2,7 @@ use crate::accesses::{width_first_end, width_first_start, width_last_end, width_
 use gcl_model::{Interval, Span};
 
 #[test]
-fn four_of_the_addresses_from_2_to_7(rt: HostRuntime) {
+fn three_intervals_of_four_addresses_lie_in_the_addresses_2_to_7(rt: HostRuntime) {
     let span = Span { first: 2, next: 8 };
     let cases = [
         (
