@@ -1,5 +1,6 @@
 -- Tokens without a fault are spelled by a tree of the grammar.
 use Rattle.std.proofs.Common.{◌≡◌, ℕ, zero, suc, ◌+◌, ◌<◌, ◌≤◌, true, false, List, [], ◌∷◌, map, length, None, refl, sym, ap, subst, ◌∙◌, arith}
+use Rattle.gcl_model.specs.Limits.{most_operands, most_brackets}
 use Rattle.gcl_model.specs.Forms.{Form}
 use Rattle.gcl_parser.specs.declared.token.Joint.{Joint}
 use Rattle.gcl_parser.specs.declared.token.Joint.TheVariants.{FollowedBy, BothOf, OneOf}
@@ -31,7 +32,7 @@ pub record ReadsQuery (tokens : List QueryToken) : Type 0 where
 
 -- tokens shorter than n, where an operand is to come, are read
 abbrev pub AreRead : (List QueryToken → Type 0) → ℕ → Type 0
-AreRead Read n = (tokens : List QueryToken) (o c : ℕ) → length tokens < n → o ≤ 12 → IsFaultless true o c tokens → Read tokens
+AreRead Read n = (tokens : List QueryToken) (o c : ℕ) → length tokens < n → o ≤ most_brackets → IsFaultless true o c tokens → Read tokens
 
 -- behind a part a chain goes on or ends
 pub data After (j : Joint) : List QueryToken → Type 0 where
@@ -82,8 +83,8 @@ single_reads n queries (joint j ∷ rest) o c short le h = absurd (let no = h.0 
 single_reads n queries (containment operator ∷ rest) o c short le h = absurd (let no = h.0 in cc)
 single_reads n queries (open_bracket ∷ tokens) o c short le h = inside (queries tokens (o + 1) c (omega arith) deep h.1)
   where
-    deep : o + 1 ≤ 12
-    deep = let lt : o < 12 = few_brackets o c h.0 in omega arith
+    deep : o + 1 ≤ most_brackets
+    deep = let lt : o < most_brackets = few_brackets o c h.0 in omega arith
 
     inside : ReadsQuery tokens → Reads single (open_bracket ∷ tokens)
     inside r =
@@ -111,14 +112,14 @@ chain_reads j n parts (suc m) le tokens o c short deep h = go (parts tokens o c 
     go r chains = on r.tree r.rest r.spelled (after j r.rest r.ends) chains
 
 -- containments, where each chain is read
-more_reads : (n : ℕ) → AreRead (Reads (joined OneOf)) n → (m : ℕ) → m ≤ n → (tokens : List QueryToken) (o c : ℕ) → length tokens < m → o ≤ 12 → Ends (joined OneOf) tokens → IsFaultless false o c tokens → ReadsMore tokens
+more_reads : (n : ℕ) → AreRead (Reads (joined OneOf)) n → (m : ℕ) → m ≤ n → (tokens : List QueryToken) (o c : ℕ) → length tokens < m → o ≤ most_brackets → Ends (joined OneOf) tokens → IsFaultless false o c tokens → ReadsMore tokens
 more_reads n parts zero le tokens o c short deep ends h = absurd (omega arith)
 more_reads n parts (suc m) le [] o c short deep ends h = record { tree = no_more; rest = []; spelled = refl; ends = tt }
 more_reads n parts (suc m) le (operand form ∷ rest) o c short deep ends h = absurd (let no = h.0 in cc)
 more_reads n parts (suc m) le (joint j ∷ rest) o c short deep ends h = absurd cc
 more_reads n parts (suc m) le (containment operator ∷ tokens) o c short deep ends h = go (parts tokens o c (omega arith) deep h.1) (more_reads n parts m (omega arith))
   where
-    go : Reads (joined OneOf) tokens → ((tokens : List QueryToken) (o c : ℕ) → length tokens < m → o ≤ 12 → Ends (joined OneOf) tokens → IsFaultless false o c tokens → ReadsMore tokens) → ReadsMore (containment operator ∷ tokens)
+    go : Reads (joined OneOf) tokens → ((tokens : List QueryToken) (o c : ℕ) → length tokens < m → o ≤ most_brackets → Ends (joined OneOf) tokens → IsFaultless false o c tokens → ReadsMore tokens) → ReadsMore (containment operator ∷ tokens)
     go r more =
         let behind = part_behind r.tree o c r.rest deep (subst (λ ts. IsFaultless true o c ts) r.spelled h.1) in
         let longer : length r.rest < length tokens = subst (λ ts. length r.rest < length ts) (sym r.spelled) (part_longer r.tree r.rest) in
@@ -170,15 +171,15 @@ not_refused text none = go (faultless_spelled (map token_of (query_tokens text))
     go : (q : Query) × (map token_of (query_tokens text) ≡ query_spelling q []) → (form : Form) × IsQueryWithin text form
     go r =
         let behind = query_behind r.0 0 0 [] (omega arith) (subst (λ ts. IsFaultless true 0 0 ts) r.1 faultless) in
-        let deep : 0 + query_nesting r.0 ≤ 12 = behind.deep in
-        let many : 0 + query_operands r.0 ≤ 256 = behind.many in
+        let deep : 0 + query_nesting r.0 ≤ most_brackets = behind.deep in
+        let many : 0 + query_operands r.0 ≤ most_operands = behind.many in
         (form_of_query r.0, record { is = record { tree = r.0; spelled = r.1; stands_for = refl }; brackets = omega arith; size = omega arith })
 
 pub is_not_refused : (text : List ℕ) (form : Form) → IsQueryWithin text form → refused text ≡ None
 is_not_refused text form w =
     let q = w.is.tree in
-    let deep : query_nesting q ≤ 12 = w.brackets in
-    let many : query_operands q ≤ 256 = w.size in
+    let deep : query_nesting q ≤ most_brackets = w.brackets in
+    let many : query_operands q ≤ most_operands = w.size in
     refused_is text
     ∙ faultless_none true 0 0 (length text) (query_tokens text)
     (subst (λ ts. IsFaultless true 0 0 ts) (sym w.is.spelled) (query_faultless q 0 0 [] (omega arith) (omega arith) refl))

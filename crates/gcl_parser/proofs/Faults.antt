@@ -3,6 +3,7 @@ use Rattle.std.proofs.Common.{◌≡◌, ℕ, ◌+◌, ◌<◌, ◌≤◌, Bool,
 use Rattle.std.proofs.lemmas.Bool.{leb-true, leb-false}
 use Rattle.std.proofs.lemmas.List.Sums.{sum_by-cons}
 use Rattle.std.specs.List.{count_by}
+use Rattle.gcl_model.specs.Limits.{most_operands, most_brackets}
 use Rattle.gcl_model.specs.Forms.{Form}
 use Rattle.gcl_parser.specs.declared.fault.QueryKind.{QueryKind}
 use Rattle.gcl_parser.specs.declared.fault.QueryFault.{QueryFault}
@@ -96,17 +97,17 @@ limit_passes : (kind : QueryKind) (most n : ℕ) (b : Bool) → nat_le most n �
 limit_passes kind most n true is lt = let le : most ≤ n = leb-true most n is in absurd (omega arith)
 limit_passes kind most n false is lt = refl
 
-pub few_operands : (o c : ℕ) (form : Form) → fault_in true o c (operand form) ≡ None → c < 256
-few_operands o c form none = limit_kept TooLarge 256 c (nat_le 256 c) refl none
+pub few_operands : (o c : ℕ) (form : Form) → fault_in true o c (operand form) ≡ None → c < most_operands
+few_operands o c form none = limit_kept TooLarge most_operands c (nat_le most_operands c) refl none
 
-pub operand_passes : (o c : ℕ) (form : Form) → c < 256 → fault_in true o c (operand form) ≡ None
-operand_passes o c form lt = limit_passes TooLarge 256 c (nat_le 256 c) refl lt
+pub operand_passes : (o c : ℕ) (form : Form) → c < most_operands → fault_in true o c (operand form) ≡ None
+operand_passes o c form lt = limit_passes TooLarge most_operands c (nat_le most_operands c) refl lt
 
-pub few_brackets : (o c : ℕ) → fault_in true o c open_bracket ≡ None → o < 12
-few_brackets o c none = limit_kept TooDeep 12 o (nat_le 12 o) refl none
+pub few_brackets : (o c : ℕ) → fault_in true o c open_bracket ≡ None → o < most_brackets
+few_brackets o c none = limit_kept TooDeep most_brackets o (nat_le most_brackets o) refl none
 
-pub bracket_passes : (o c : ℕ) → o < 12 → fault_in true o c open_bracket ≡ None
-bracket_passes o c lt = limit_passes TooDeep 12 o (nat_le 12 o) refl lt
+pub bracket_passes : (o c : ℕ) → o < most_brackets → fault_in true o c open_bracket ≡ None
+bracket_passes o c lt = limit_passes TooDeep most_brackets o (nat_le most_brackets o) refl lt
 
 closes : (o c : ℕ) (b : Bool) → nat_le 1 o ≡ b → 1 ≤ o → cond (not b) (Some OperatorOrCloseExpected) None ≡ None
 closes o c true is le = refl

@@ -1,5 +1,6 @@
 -- How what was read grows, token by token.
 use Rattle.std.proofs.Common.{◌≡◌, ℕ, ◌+◌, ◌<◌, ◌≤◌, true, false, List, [], ◌∷◌, ◌++◌, map, length, None, refl, sym, ap, subst, ◌∙◌, arith}
+use Rattle.gcl_model.specs.Limits.{most_operands, most_brackets}
 use Rattle.gcl_model.specs.declared.expr.Expr.{Expr}
 use Rattle.gcl_model.specs.Forms.{Form, Forms, no_forms, more_forms}
 use Rattle.gcl_model.specs.FormOf.{form_of, forms_from}
@@ -13,6 +14,7 @@ use Rattle.gcl_parser.specs.QueryTokens.{QueryToken, operand, joint, containment
 use Rattle.gcl_parser.specs.Refusal.{refused, is_operand, is_open}
 use Rattle.gcl_parser.specs.Scanned.{shown, IsNext, tokens_from, bare_from}
 use Rattle.gcl_parser.specs.Reading.{IsFaultless, Ends, EndsQuery, CanRead, CanReadInside, IsNotNext, IsNoContainment}
+use Rattle.gcl_parser.specs.QueryForm.{forms_and}
 use Rattle.gcl_parser.specs.Parsed.{IsParsed, IsQueryParsed, IsBracketParsed}
 use Rattle.gcl_parser.specs.Grammar.{single, joined, below, Part, simple, bracketed, only, join, Query, query, Containments, no_more, and_then, spelling, query_spelling, more_spelling, form_of_part, form_of_query, members, grouped, chain_form, containment_form, operands, query_operands, query_nesting, IsQueryWithin}
 use Rattle.gcl_parser.proofs.Faults.{few_brackets, end_is_open, refused_is, none_faultless}
@@ -27,10 +29,6 @@ snoc j (join k first chain) last = join j first (snoc j chain last)
 snoc_spelling : (j : Joint) (chain : Part (joined j)) (last : Part (below j)) (rest : List QueryToken) → spelling (snoc j chain last) rest ≡ spelling chain (joint j ∷ spelling last rest)
 snoc_spelling j (only k first) last rest = refl
 snoc_spelling j (join k first chain) last rest = ap (λ ts. spelling first (joint j ∷ ts)) (snoc_spelling j chain last rest)
-
-abbrev pub forms_and : Forms → Form → Forms
-forms_and no_forms form = more_forms form no_forms
-forms_and (more_forms first forms) form = more_forms first (forms_and forms form)
 
 snoc_members : (j : Joint) (chain : Part (joined j)) (last : Part (below j)) → members (snoc j chain last) ≡ forms_and (members chain) (form_of_part last)
 snoc_members j (only k first) last = refl
@@ -248,7 +246,7 @@ single_read text at l form parsed next is form_is end =
 pub bracket_can : (text : List ℕ) (at : ℕ) (l : Lexeme) → CanRead (bare_from text at) → IsNext text at l → l.token ≡ T.Open → CanReadInside (bare_from text l.end)
 bracket_can text at l can next is =
     let h = subst (λ ts. IsFaultless true can.opened can.count ts) (next_bare text at l next ∙ ap (λ t. shown text t ∷ bare_from text l.end) is) can.faultless in
-    let few : can.opened < 12 = few_brackets can.opened can.count h.0 in
+    let few : can.opened < most_brackets = few_brackets can.opened can.count h.0 in
     record { opened = can.opened; count = can.count; deep = omega arith; faultless = h.1 }
 
 pub bracket_read : (text : List ℕ) (at : ℕ) (l : Lexeme) (parsed : Parsed) → IsNext text at l → l.token ≡ T.Open → IsBracketParsed text l.end parsed → IsParsed single text at parsed
@@ -351,8 +349,8 @@ pub whole_query : (text : List ℕ) (whole : Parsed) → refused text ≡ None �
 whole_query text whole none parsed =
     let q = parsed.read.tree in
     let behind = query_behind q 0 0 (bare_from text whole.end) (omega arith) (subst (λ ts. IsFaultless true 0 0 ts) parsed.read.spelled (not_refused_faultless text none)) in
-    let deep : 0 + query_nesting q ≤ 12 = behind.deep in
-    let many : 0 + query_operands q ≤ 256 = behind.many in
+    let deep : 0 + query_nesting q ≤ most_brackets = behind.deep in
+    let many : 0 + query_operands q ≤ most_operands = behind.many in
     let left = nothing_left (0 + query_operands q) (bare_from text whole.end) parsed.read.ends behind.faultless in
     record {
       is = record { tree = q; spelled = parsed.read.spelled ∙ ap (λ ts. query_spelling q ts) left; stands_for = sym parsed.read.stands_for };

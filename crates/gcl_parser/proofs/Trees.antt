@@ -1,5 +1,6 @@
 -- What the tokens of a tree are to the state before them, and how a tree ends.
 use Rattle.std.proofs.Common.{◌≡◌, ℕ, ◌+◌, ◌-◌, ◌<◌, ◌≤◌, Bool, true, false, List, [], ◌∷◌, length, refl, subst, arith}
+use Rattle.gcl_model.specs.Limits.{most_operands, most_brackets}
 use Rattle.gcl_parser.specs.declared.token.Joint.{Joint}
 use Rattle.gcl_parser.specs.declared.token.Joint.TheVariants.{FollowedBy, BothOf, OneOf}
 use Rattle.gcl_parser.specs.QueryTokens.{QueryToken, operand, joint, containment, open_bracket, close_bracket, broken}
@@ -9,8 +10,8 @@ use Rattle.gcl_parser.proofs.Faults.{few_operands, operand_passes, few_brackets,
 
 -- behind the tokens of a tree: it was within the limits, and what follows has no fault
 pub record Behind (o c nest count : ℕ) (rest : List QueryToken) : Type 0 where
-  pub deep : o + nest ≤ 12
-  pub many : c + count ≤ 256
+  pub deep : o + nest ≤ most_brackets
+  pub many : c + count ≤ most_operands
   pub faultless : IsFaultless false o (c + count) rest
 
 with_count : (w : Bool) (o c d : ℕ) (rest : List QueryToken) → c ≡ d → IsFaultless w o c rest → IsFaultless w o d rest
@@ -20,48 +21,48 @@ with_open : (w : Bool) (o p c : ℕ) (rest : List QueryToken) → o ≡ p → Is
 with_open w o p c rest is h = subst (λ n. IsFaultless w n c rest) is h
 
 mutual
-  pub part_behind : {l : Level} (p : Part l) (o c : ℕ) (rest : List QueryToken) → o ≤ 12 → IsFaultless true o c (spelling p rest) → Behind o c (nesting p) (operands p) rest
+  pub part_behind : {l : Level} (p : Part l) (o c : ℕ) (rest : List QueryToken) → o ≤ most_brackets → IsFaultless true o c (spelling p rest) → Behind o c (nesting p) (operands p) rest
   part_behind (simple form) o c rest le h =
-      let few : c < 256 = few_operands o c form h.0 in
+      let few : c < most_operands = few_operands o c form h.0 in
       record { deep = omega arith; many = omega arith; faultless = h.1 }
   part_behind (bracketed q) o c rest le h =
-      let few : o < 12 = few_brackets o c h.0 in
+      let few : o < most_brackets = few_brackets o c h.0 in
       let inside = query_behind q (o + 1) c (close_bracket ∷ rest) (omega arith) h.1 in
-      let deep : o + 1 + query_nesting q ≤ 12 = inside.deep in
+      let deep : o + 1 + query_nesting q ≤ most_brackets = inside.deep in
       record { deep = omega arith; many = inside.many; faultless = with_open false (o + 1 - 1) o (c + query_operands q) rest (omega arith) inside.faultless.1 }
   part_behind (only j part) o c rest le h = part_behind part o c rest le h
   part_behind (join j part chain) o c rest le h =
       let first = part_behind part o c (joint j ∷ spelling chain rest) le h in
       let then = part_behind chain o (c + operands part) rest le first.faultless.1 in
-      let deep : o + nesting part ≤ 12 = first.deep in
-      let deeper : o + nesting chain ≤ 12 = then.deep in
-      let many : c + operands part + operands chain ≤ 256 = then.many in
+      let deep : o + nesting part ≤ most_brackets = first.deep in
+      let deeper : o + nesting chain ≤ most_brackets = then.deep in
+      let many : c + operands part + operands chain ≤ most_operands = then.many in
       record { deep = omega arith; many = omega arith; faultless = with_count false o (c + operands part + operands chain) (c + (operands part + operands chain)) rest (omega arith) then.faultless }
 
-  pub query_behind : (q : Query) (o c : ℕ) (rest : List QueryToken) → o ≤ 12 → IsFaultless true o c (query_spelling q rest) → Behind o c (query_nesting q) (query_operands q) rest
+  pub query_behind : (q : Query) (o c : ℕ) (rest : List QueryToken) → o ≤ most_brackets → IsFaultless true o c (query_spelling q rest) → Behind o c (query_nesting q) (query_operands q) rest
   query_behind (query part more) o c rest le h =
       let first = part_behind part o c (more_spelling more rest) le h in
-      let deep : o + nesting part ≤ 12 = first.deep in
-      let few : c + operands part ≤ 256 = first.many in
+      let deep : o + nesting part ≤ most_brackets = first.deep in
+      let few : c + operands part ≤ most_operands = first.many in
       let then = more_behind more o (c + operands part) rest le few first.faultless in
-      let deeper : o + more_nesting more ≤ 12 = then.deep in
-      let many : c + operands part + more_operands more ≤ 256 = then.many in
+      let deeper : o + more_nesting more ≤ most_brackets = then.deep in
+      let many : c + operands part + more_operands more ≤ most_operands = then.many in
       record { deep = omega arith; many = omega arith; faultless = with_count false o (c + operands part + more_operands more) (c + (operands part + more_operands more)) rest (omega arith) then.faultless }
 
-  pub more_behind : (m : Containments) (o c : ℕ) (rest : List QueryToken) → o ≤ 12 → c ≤ 256 → IsFaultless false o c (more_spelling m rest) → Behind o c (more_nesting m) (more_operands m) rest
+  pub more_behind : (m : Containments) (o c : ℕ) (rest : List QueryToken) → o ≤ most_brackets → c ≤ most_operands → IsFaultless false o c (more_spelling m rest) → Behind o c (more_nesting m) (more_operands m) rest
   more_behind no_more o c rest le few h = record { deep = omega arith; many = omega arith; faultless = with_count false o c (c + 0) rest (omega arith) h }
   more_behind (and_then operator part more) o c rest le few h =
       let first = part_behind part o c (more_spelling more rest) le h.1 in
-      let deep : o + nesting part ≤ 12 = first.deep in
-      let few : c + operands part ≤ 256 = first.many in
+      let deep : o + nesting part ≤ most_brackets = first.deep in
+      let few : c + operands part ≤ most_operands = first.many in
       let then = more_behind more o (c + operands part) rest le few first.faultless in
-      let deeper : o + more_nesting more ≤ 12 = then.deep in
-      let many : c + operands part + more_operands more ≤ 256 = then.many in
+      let deeper : o + more_nesting more ≤ most_brackets = then.deep in
+      let many : c + operands part + more_operands more ≤ most_operands = then.many in
       record { deep = omega arith; many = omega arith; faultless = with_count false o (c + operands part + more_operands more) (c + (operands part + more_operands more)) rest (omega arith) then.faultless }
 
 -- what is behind the tokens of a tree has no fault, if the tokens and it have none
 mutual
-  pub part_faultless : {l : Level} (p : Part l) (o c : ℕ) (rest : List QueryToken) → o + nesting p ≤ 12 → c + operands p ≤ 256 → IsFaultless false o (c + operands p) rest → IsFaultless true o c (spelling p rest)
+  pub part_faultless : {l : Level} (p : Part l) (o c : ℕ) (rest : List QueryToken) → o + nesting p ≤ most_brackets → c + operands p ≤ most_operands → IsFaultless false o (c + operands p) rest → IsFaultless true o c (spelling p rest)
   part_faultless (simple form) o c rest deep many h = (operand_passes o c form (omega arith), h)
   part_faultless (bracketed q) o c rest deep many h = (
     bracket_passes o c (omega arith),
@@ -76,13 +77,13 @@ mutual
             (with_count false o (c + (operands part + operands chain)) (c + operands part + operands chain) rest (omega arith) h),
       )
 
-  pub query_faultless : (q : Query) (o c : ℕ) (rest : List QueryToken) → o + query_nesting q ≤ 12 → c + query_operands q ≤ 256 → IsFaultless false o (c + query_operands q) rest → IsFaultless true o c (query_spelling q rest)
+  pub query_faultless : (q : Query) (o c : ℕ) (rest : List QueryToken) → o + query_nesting q ≤ most_brackets → c + query_operands q ≤ most_operands → IsFaultless false o (c + query_operands q) rest → IsFaultless true o c (query_spelling q rest)
   query_faultless (query part more) o c rest deep many h =
       part_faultless part o c (more_spelling more rest) (omega arith) (omega arith)
       (more_faultless more o (c + operands part) rest (omega arith) (omega arith)
       (with_count false o (c + (operands part + more_operands more)) (c + operands part + more_operands more) rest (omega arith) h))
 
-  pub more_faultless : (m : Containments) (o c : ℕ) (rest : List QueryToken) → o + more_nesting m ≤ 12 → c + more_operands m ≤ 256 → IsFaultless false o (c + more_operands m) rest → IsFaultless false o c (more_spelling m rest)
+  pub more_faultless : (m : Containments) (o c : ℕ) (rest : List QueryToken) → o + more_nesting m ≤ most_brackets → c + more_operands m ≤ most_operands → IsFaultless false o (c + more_operands m) rest → IsFaultless false o c (more_spelling m rest)
   more_faultless no_more o c rest deep many h = with_count false o (c + 0) c rest (omega arith) h
   more_faultless (and_then operator part more) o c rest deep many h = (
     refl,

@@ -4,15 +4,16 @@ use Rattle.std.proofs.lemmas.Bool.{and_parts, leb-true}
 use Rattle.std.specs.Prelude.{◌==◌, take_while}
 use Rattle.std.specs.Char.{is_ascii_digit}
 use Rattle.std.specs.Str.Parse.{digits_value}
+use Rattle.gcl_model.specs.Limits.{address_end}
 use Rattle.gcl_model.specs.Forms.{Form, Forms, width, more_forms, forms_count}
 use Rattle.gcl_model.specs.WellFormed.{IsWellFormed, AreWellFormed}
-use Rattle.gcl_model.specs.Tokens.{starts_with_byte}
+use Rattle.gcl_model.specs.Tokens.{is_blank, starts_with_byte}
 use Rattle.gcl_parser.specs.declared.fault.QueryKind.TheVariants.{BadWidth, OpenQuote, Character}
 use Rattle.gcl_parser.specs.declared.token.Joint.{Joint}
 use Rattle.gcl_parser.specs.declared.token.Joint.TheVariants.{FollowedBy, BothOf, OneOf}
 use Rattle.gcl_parser.specs.declared.token.Containment.{Containment}
 use Rattle.gcl_parser.specs.declared.token.Containment.TheVariants.{Containing, ContainedIn, NotContaining, NotContainedIn}
-use Rattle.gcl_parser.specs.QueryTokens.{QueryToken, operand, joint, containment, open_bracket, close_bracket, broken, Piece, Placed, placed, token_of, one_token, broken_piece, quoted_token, quoted_piece, terms_of, is_no_quote, width_token, width_piece, sign_piece, first_piece, is_blank, tokens_of_pieces}
+use Rattle.gcl_parser.specs.QueryTokens.{QueryToken, operand, joint, containment, open_bracket, close_bracket, broken, Piece, Placed, placed, token_of, one_token, broken_piece, quoted_token, quoted_piece, terms_of, is_no_quote, width_token, width_piece, sign_piece, first_piece, tokens_of_pieces}
 use Rattle.gcl_parser.specs.Grammar.{Level, Part, simple, bracketed, only, join, Query, query, Containments, no_more, and_then, spelling, query_spelling, more_spelling, form_of_part, form_of_query, members, grouped, chain_form, containment_form, IsQuery}
 
 -- each operand among the tokens is well formed
@@ -50,12 +51,12 @@ quoted_sound (token ∷ []) = (tt, tt)
 quoted_sound (token ∷ next ∷ more) = (omega arith, tt)
 
 width_sound : (n : ℕ) → AreSound (width_token n ∷ [])
-width_sound n = go (nat_le 1 n && nat_le n (2 ^ 48)) refl
+width_sound n = go (nat_le 1 n && nat_le n address_end) refl
   where
-    go : (b : Bool) → (nat_le 1 n && nat_le n (2 ^ 48)) ≡ b → AreSound (cond b (operand (width n)) (broken BadWidth) ∷ [])
+    go : (b : Bool) → (nat_le 1 n && nat_le n address_end) ≡ b → AreSound (cond b (operand (width n)) (broken BadWidth) ∷ [])
     go true is =
-        let both = and_parts (nat_le 1 n) (nat_le n (2 ^ 48)) is in
-        ((leb-true 1 n both.0, leb-true n (2 ^ 48) both.1), tt)
+        let both = and_parts (nat_le 1 n) (nat_le n address_end) is in
+        ((leb-true 1 n both.0, leb-true n address_end both.1), tt)
     go false is = tt
 
 quoted_piece_sound : (bytes : List ℕ) → IsSound (quoted_piece bytes)

@@ -6,6 +6,7 @@ use Rattle.gcl_parser.specs.declared.token.Joint.TheVariants.{FollowedBy, BothOf
 use Rattle.gcl_parser.specs.declared.token.Containment.TheVariants.{Containing, NotContainedIn}
 use Rattle.gcl_parser.specs.QueryTokens.{operand, joint, containment, query_tokens, open_bracket}
 use Rattle.gcl_parser.specs.Refusal.{refused, fault_in}
+use Rattle.gcl_parser.specs.QueryForm.{query_form}
 use Rattle.gcl_parser.specs.Grammar.{simple, bracketed, only, join, query, no_more, and_then, IsQuery}
 
 -- tokens and places
@@ -26,10 +27,10 @@ with_more_it_is_no_boundary = refl
 pub leading_zeros : query_tokens (codes " [0007]") ≡ record { at = 1; token = operand (width 7) } ∷ []
 leading_zeros = refl
 
-pub the_widest : query_tokens (codes "[281474976710656]") ≡ record { at = 0; token = operand (width 281474976710656) } ∷ []
+pub the_widest : query_tokens (codes "[72057594037927936]") ≡ record { at = 0; token = operand (width 72057594037927936) } ∷ []
 the_widest = refl
 
-pub too_wide : refused (codes "[281474976710657]") ≡ Some record { at = 0; kind = BadWidth }
+pub too_wide : refused (codes "[72057594037927937]") ≡ Some record { at = 0; kind = BadWidth }
 too_wide = refl
 
 pub forty_digits : refused (codes "[1234567890123456789012345678901234567890]") ≡ Some record { at = 0; kind = BadWidth }
@@ -142,3 +143,20 @@ three_in_one_node = record {
   spelled = refl;
   stands_for = refl;
 }
+
+-- forms, computed
+pub the_tightest_joint_first : query_form (codes "\"to\"..\"be\"^[3]")
+    ≡ Some (both (more_forms (seq (more_forms (term (codes "to")) (more_forms (term (codes "be")) no_forms))) (more_forms (width 3) no_forms)))
+the_tightest_joint_first = refl
+
+pub a_chain_has_all_its_members : query_form (codes "[1]+[2]+[3]") ≡ Some (one (more_forms (width 1) (more_forms (width 2) (more_forms (width 3) no_forms))))
+a_chain_has_all_its_members = refl
+
+pub a_containment_has_all_before_it_on_its_left : query_form (codes "[1]>[2]>[3]") ≡ Some (containing (containing (width 1) (width 2)) (width 3))
+a_containment_has_all_before_it_on_its_left = refl
+
+pub brackets_first : query_form (codes "[1]..([2]>[3])") ≡ Some (seq (more_forms (width 1) (more_forms (containing (width 2) (width 3)) no_forms)))
+brackets_first = refl
+
+pub no_form_of_a_refused_text : query_form (codes "([1]") ≡ None
+no_form_of_a_refused_text = refl

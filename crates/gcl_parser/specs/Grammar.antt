@@ -1,5 +1,6 @@
 -- The grammar of queries: its trees, what each spells, and the form that it stands for.
 use Rattle.std.specs.Prelude.{◌≡◌, ℕ, ◌+◌, ◌≤◌, max, List, [], ◌∷◌, map}
+use Rattle.gcl_model.specs.Limits.{most_operands, most_brackets}
 use Rattle.gcl_model.specs.Forms.{Form, Forms, both, one, seq, containing, contained_in, not_containing, not_contained_in, no_forms, more_forms}
 use Rattle.gcl_parser.specs.declared.token.Joint.{Joint}
 use Rattle.gcl_parser.specs.declared.token.Joint.TheVariants.{FollowedBy, BothOf, OneOf}
@@ -119,8 +120,8 @@ pub record IsQuery (text : List ℕ) (form : Form) : Type 0 where
   pub spelled : map token_of (query_tokens text) ≡ query_spelling tree []
   pub stands_for : form_of_query tree ≡ form
 
--- the text is such a query, with at most 12 brackets in one another and at most 256 quoted texts and widths
+-- the text is such a query within the limits: of brackets in one another, and of quoted texts and widths
 pub record IsQueryWithin (text : List ℕ) (form : Form) : Type 0 where
   pub is : IsQuery text form
-  pub brackets : query_nesting is.tree ≤ 12
-  pub size : query_operands is.tree ≤ 256
+  pub brackets : query_nesting is.tree ≤ most_brackets
+  pub size : query_operands is.tree ≤ most_operands

@@ -1,4 +1,4 @@
--- What the program has read of a text.
+-- For proofs alone: what the program has read of a text.
 use Rattle.std.specs.Prelude.{◌≡◌, ℕ, ◌<◌, ◌≤◌, List, ◌∷◌, length}
 use Rattle.gcl_model.specs.FormOf.{form_of}
 use Rattle.gcl_parser.specs.declared.parsed.Parsed.{Parsed}

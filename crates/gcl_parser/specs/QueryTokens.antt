@@ -1,9 +1,11 @@
 -- The query tokens of a text, with their places.
-use Rattle.std.specs.Prelude.{ℕ, zero, suc, ◌+◌, ◌^◌, Bool, not, ◌&&◌, ◌||◌, ◌==◌, nat_le, List, [], ◌∷◌, ◌++◌, map, length, drop, codes, bytes_eq, if◌then◌else◌, take_while}
+use Rattle.std.specs.Prelude.{ℕ, zero, suc, ◌+◌, Bool, not, ◌&&◌, ◌==◌, nat_le, List, [], ◌∷◌, ◌++◌, map, length, drop, if◌then◌else◌, take_while}
 use Rattle.std.specs.Char.{is_ascii_digit}
 use Rattle.std.specs.Str.Parse.{digits_value}
+use Rattle.gcl_model.specs.Limits.{address_end}
 use Rattle.gcl_model.specs.Forms.{Form, term, phrase, width}
-use Rattle.gcl_model.specs.Tokens.{starts_with_byte, tokens_of}
+use Rattle.gcl_model.specs.Tokens.{is_blank, starts_with_byte, tokens_of}
+use Rattle.gcl_model.specs.Collections.{is_boundary}
 use Rattle.gcl_parser.specs.declared.fault.QueryKind.{QueryKind}
 use Rattle.gcl_parser.specs.declared.fault.QueryKind.TheVariants.{EmptyTerm, BadWidth, OpenQuote, Character}
 use Rattle.gcl_parser.specs.declared.token.Joint.{Joint}
@@ -33,10 +35,6 @@ one_token token size = record { size = size; tokens = token ∷ [] }
 abbrev pub broken_piece : QueryKind → Piece
 broken_piece kind = one_token (broken kind) 1
 
--- the two tokens around a file, which no text has: a query spells them out
-abbrev pub is_boundary : List ℕ → Bool
-is_boundary bytes = bytes_eq bytes (codes "<file!>") || bytes_eq bytes (codes "</file!>")
-
 -- the terms of the text between two quotes: the boundary token that it spells out, or else its tokens
 abbrev pub terms_of : List ℕ → List (List ℕ)
 terms_of content = if is_boundary content then content ∷ [] else tokens_of content
@@ -60,9 +58,9 @@ quoted_piece bytes =
     let content = take_while is_no_quote bytes in
     if starts_with_byte 34 (drop (length content) bytes) then one_token (quoted_token (terms_of content)) (length content + 2) else broken_piece OpenQuote
 
--- a width is 1 to 2^48
+-- a width is 1 to the limit of addresses: 0 is none
 abbrev pub width_token : ℕ → QueryToken
-width_token n = if nat_le 1 n && nat_le n (2 ^ 48) then operand (width n) else broken BadWidth
+width_token n = if nat_le 1 n && nat_le n address_end then operand (width n) else broken BadWidth
 
 -- the width whose `[` stands before these bytes: digits, and `]`
 abbrev pub width_piece : List ℕ → Piece
@@ -83,10 +81,6 @@ sign_piece b bytes =
     else if (b == 47) && starts_with_byte 62 bytes then one_token (containment NotContaining) 2
     else if (b == 47) && starts_with_byte 60 bytes then one_token (containment NotContainedIn) 2
     else broken_piece Character
-
--- spaces and tabs
-abbrev pub is_blank : ℕ → Bool
-is_blank b = (b == 32) || (b == 9)
 
 -- what the text begins with, by its first byte and the rest
 abbrev pub first_piece : ℕ → List ℕ → Piece

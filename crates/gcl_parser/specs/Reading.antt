@@ -1,5 +1,6 @@
--- What is known while a text is read from the left.
+-- For proofs alone: what is known while a text is read from the left.
 use Rattle.std.specs.Prelude.{◌≡◌, ℕ, ◌≢◌, ◌+◌, ◌-◌, ◌≤◌, Bool, true, false, ◌||◌, List, [], ◌∷◌, Option, None, Some, if◌then◌else◌}
+use Rattle.gcl_model.specs.Limits.{most_brackets}
 use Rattle.gcl_model.specs.Forms.{Form}
 use Rattle.gcl_parser.specs.declared.fault.QueryFault.{QueryFault}
 use Rattle.gcl_parser.specs.declared.fault.QueryKind.{QueryKind}
@@ -63,14 +64,14 @@ EndsQuery (token ∷ tokens) = is_operator token ≡ false
 pub record CanRead (tokens : List QueryToken) : Type 0 where
   pub opened : ℕ
   pub count : ℕ
-  pub deep : opened ≤ 12
+  pub deep : opened ≤ most_brackets
   pub faultless : IsFaultless true opened count tokens
 
 -- the same, inside a bracket
 pub record CanReadInside (tokens : List QueryToken) : Type 0 where
   pub opened : ℕ
   pub count : ℕ
-  pub deep : opened + 1 ≤ 12
+  pub deep : opened + 1 ≤ most_brackets
   pub faultless : IsFaultless true (opened + 1) count tokens
 
 -- a part of the level spells the tokens up to a rest at which it ends, and stands for the form

@@ -1,6 +1,7 @@
 -- The first place at which a text is no query, and what is wrong there.
 use Rattle.std.specs.Prelude.{ℕ, ◌-◌, Bool, true, false, not, ◌&&◌, ◌||◌, nat_le, List, [], ◌∷◌, length, Option, Some, None, if◌then◌else◌}
 use Rattle.std.specs.List.{count_by}
+use Rattle.gcl_model.specs.Limits.{most_operands, most_brackets}
 use Rattle.gcl_parser.specs.declared.fault.QueryKind.{QueryKind}
 use Rattle.gcl_parser.specs.declared.fault.QueryKind.TheVariants.{OperandExpected, OperatorOrCloseExpected, TooLarge, TooDeep}
 use Rattle.gcl_parser.specs.declared.fault.QueryFault.{QueryFault}
@@ -43,8 +44,8 @@ fault_in wants opened count (broken kind) = Some kind
 fault_in wants opened count token =
     if wants && not (is_operand token || is_open token) then Some OperandExpected
     else if not wants && not (is_operator token || (is_close token && nat_le 1 opened)) then Some OperatorOrCloseExpected
-    else if is_open token && nat_le 12 opened then Some TooDeep
-    else if is_operand token && nat_le 256 count then Some TooLarge
+    else if is_open token && nat_le most_brackets opened then Some TooDeep
+    else if is_operand token && nat_le most_operands count then Some TooLarge
     else None
 
 -- what is wrong with the end of the text

@@ -1,4 +1,4 @@
--- What a scanned token of the program stands for.
+-- For proofs alone: what a scanned token of the program stands for.
 use Rattle.std.specs.Prelude.{◌≡◌, ℕ, ◌+◌, ◌<◌, ◌≤◌, List, [], ◌∷◌, length, drop, slice_range, map}
 use Rattle.gcl_model.specs.Forms.{width}
 use Rattle.gcl_parser.specs.declared.token.Token.{Token}

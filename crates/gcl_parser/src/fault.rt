@@ -16,7 +16,7 @@ pub enum QueryKind {
     /// The quoted text has no token.
     #[error("empty term")]
     EmptyTerm,
-    /// A `[` is not followed by digits and `]`, or the number is 0 or above 2^48.
+    /// A `[` is not followed by digits and `]`, or the number is 0 or above 2^56.
     #[error("bad width")]
     BadWidth,
     /// A `"` has no later `"`.

@@ -5,8 +5,10 @@
 //! `specs/Grammar.antt`: a tree spells query tokens and stands for one form (`IsQueryWithin`). A text that no tree
 //! within the limits spells has its first fault, a place and a kind, by `refused` of `specs/Refusal.antt`.
 //!
-//! The layers above use `parse` and the law `queries_are_not_refused`: a text is not refused exactly where a tree
-//! spells it, and it stands for one form at most. `"to".."be" ^ [3]` is both of `to` followed by `be`, and 3 words.
+//! The form of a text is also computed, by `query_form` of `specs/QueryForm.antt`.
+//!
+//! The layers above use `parse` and the laws: a text is not refused exactly where a tree spells it, it stands for one
+//! form at most, and `query_form` gives that form. `"to".."be" ^ [3]` is both of `to` followed by `be`, and 3 words.
 #![tactic(auto)]
 
 mod fault;
@@ -24,5 +26,5 @@ mod token;
 mod width;
 
 pub use fault::{ParseFault, QueryFault, QueryKind};
-pub use laws::queries_are_not_refused;
+pub use laws::{queries_are_not_refused, query_forms_are_of_queries};
 pub use parser::parse;

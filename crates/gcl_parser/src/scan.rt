@@ -1,6 +1,7 @@
 ghost use Rattle.std.specs.Prelude.{◌≡◌, ◌+◌, ◌<◌, ◌≤◌, ◌^◌, ℕ, [], false, length, drop, nat_le, slice_index, slice_range, IfNone, IfSome};
-ghost use Rattle.gcl_model.specs.Tokens.{starts_with_byte};
-ghost use Rattle.gcl_parser.specs.QueryTokens.{is_blank as is_blank_byte, is_boundary as is_boundary_token, terms_of, quoted_token, quoted_piece, width_piece, sign_piece, first_piece, one_token};
+ghost use Rattle.gcl_model.specs.Collections.{is_boundary as is_boundary_token};
+ghost use Rattle.gcl_model.specs.Tokens.{is_blank as is_blank_byte, starts_with_byte};
+ghost use Rattle.gcl_parser.specs.QueryTokens.{terms_of, quoted_token, quoted_piece, width_piece, sign_piece, first_piece, one_token};
 ghost use Rattle.gcl_parser.specs.Scanned.{shown, HasRange, IsPiece, IsNext, tokens_from};
 
 use crate::fault::QueryKind;

@@ -29,7 +29,7 @@ pub enum Containment {
 pub enum Token {
     /// A quoted text: the bytes from the first place up to the second, without its quotes.
     Quoted(usize, usize),
-    /// A width, 1 to 2^48.
+    /// A width, 1 to 2^56.
     Width(u64),
     Joint(Joint),
     Containment(Containment),

@@ -1,15 +1,14 @@
-ghost use Rattle.std.specs.Prelude.{◌≡◌, ◌^◌, ◌+◌, ℕ, List, min, length, take_while, true};
+ghost use Rattle.std.specs.Prelude.{◌≡◌, ◌+◌, ℕ, List, min, length, take_while, true};
 ghost use Rattle.std.specs.List.{list_all};
 ghost use Rattle.std.specs.Char.{is_ascii_digit};
 ghost use Rattle.std.specs.Str.Parse.{digits_value};
+ghost use Rattle.gcl_model.specs.Limits.{address_end};
 ghost use Rattle.gcl_parser.specs.QueryTokens.{width_token};
 ghost use Rattle.gcl_parser.specs.Scanned.{shown, HasRange};
 
 use crate::fault::QueryKind;
 use crate::token::Token;
-
-/// The widest interval that a query can ask for.
-const WIDEST: u64 = 1 << 48;
+use gcl_model::ADDRESS_END;
 
 /// How many digits stand in front.
 pub fn digit_count(bytes: &[u8]) -> usize
@@ -21,14 +20,14 @@ pub fn digit_count(bytes: &[u8]) -> usize
         .count()
 }
 
-/// The number that the digits write, or `WIDEST + 1` where it is more.
+/// The number that the digits write, or `ADDRESS_END + 1` where it is more.
 fn capped_value(digits: &[u8]) -> u64
     requires { list_all is_ascii_digit digits.now ≡ true }
-    ensures { result ≡ min (digits_value 10 digits.now) (2 ^ 48 + 1) }
+    ensures { result ≡ min (digits_value 10 digits.now) (address_end + 1) }
 {
     let mut value = 0;
     for digit in digits {
-        value = (value * 10 + u64::from(*digit - b'0')).min(WIDEST + 1);
+        value = (value * 10 + u64::from(*digit - b'0')).min(ADDRESS_END + 1);
     }
     value
 }
@@ -40,7 +39,7 @@ pub fn width_of(digits: &[u8]) -> Token
     ensures range { (text : List ℕ) → HasRange text result }
 {
     let value = capped_value(digits);
-    if value >= 1 && value <= WIDEST {
+    if value >= 1 && value <= ADDRESS_END {
         Token::Width(value)
     } else {
         Token::Broken(QueryKind::BadWidth)
