@@ -8,20 +8,17 @@ use Rattle.std.proofs.lemmas.List.Folds.{list_any-append}
 use Rattle.gcl_model.specs.Texts.{Word, AreRisingBelow, holds, is_word}
 use Rattle.gcl_model.specs.Collections.{File, Collection, AreFilesFrom, file_end, width_of, with_boundaries, word_of_file, word_of_files, words_from}
 use Rattle.gcl_model.specs.Laws.{WordsAreText, WordsAreAtAddresses}
+use Rattle.gcl_model.proofs.WordLists.{rising_earlier}
 use Rattle.address_space.proofs.CollectionLemmas.{up_to}
 
 length-with_boundaries : (tokens : List (List ℕ)) → length (with_boundaries tokens) ≡ width_of tokens
 length-with_boundaries tokens = omega (arith, length-append tokens (file_end ∷ []))
 
-rising_from_earlier : (next low later : ℕ) (words : List Word) → low ≤ later → AreRisingBelow next later words → AreRisingBelow next low words
-rising_from_earlier next low later [] le h = tt
-rising_from_earlier next low later (w ∷ words) le h = (let first : later ≤ w.address = h.0 in omega arith, h.1, h.2)
-
 -- tokens at consecutive addresses, and rising words behind them
 words_rise : (next low p : ℕ) (tokens : List (List ℕ)) (words : List Word) → low ≤ p → p + length tokens ≤ next → AreRisingBelow next (p + length tokens) words → AreRisingBelow next low (words_from p tokens ++ words)
-words_rise next low p [] words le within h = rising_from_earlier next low (p + 0) words (omega arith) h
+words_rise next low p [] words le within h = rising_earlier next low (p + 0) words (omega arith) h
 words_rise next low p (token ∷ tokens) words le within h =
-    (le, omega arith, words_rise next (p + 1) (p + 1) tokens words (omega arith) (omega arith) (rising_from_earlier next (p + 1 + length tokens) (p + suc (length tokens)) words (omega arith) h))
+    (le, omega arith, words_rise next (p + 1) (p + 1) tokens words (omega arith) (omega arith) (rising_earlier next (p + 1 + length tokens) (p + suc (length tokens)) words (omega arith) h))
 
 files_rise : (c : Collection) (at id : ℕ) (files : List File) → AreFilesFrom c at id files → AreRisingBelow c.next at (flat_map (λ file. words_from file.base (with_boundaries file.tokens)) files)
 files_rise c at id [] h = tt
@@ -30,7 +27,7 @@ files_rise c at id (file ∷ files) h =
     let rest = up_to c end (file.id + 1) files h.5 in
     let width = length-with_boundaries file.tokens in
     words_rise c.next at file.base (with_boundaries file.tokens) (flat_map (λ other. words_from other.base (with_boundaries other.tokens)) files) h.0 (omega (arith, rest.address))
-    (rising_from_earlier c.next (file.base + length (with_boundaries file.tokens)) end (flat_map (λ other. words_from other.base (with_boundaries other.tokens)) files) (omega arith)
+    (rising_earlier c.next (file.base + length (with_boundaries file.tokens)) end (flat_map (λ other. words_from other.base (with_boundaries other.tokens)) files) (omega arith)
     (files_rise c end (file.id + 1) files h.5))
 
 pub words_are_text : WordsAreText

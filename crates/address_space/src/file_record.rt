@@ -1,5 +1,9 @@
+ghost use Rattle.std.specs.Prelude.{◌≡◌, IfOk};
+
 use crate::file_id::FileId;
+use crate::range::Range;
 use gcl_model::Bytes;
+use std::alloc::AllocError;
 use std::marker::Model;
 
 /// What is kept of a file: its `len` addresses begin at `base`, those of its two boundary tokens included.
@@ -19,4 +23,32 @@ impl Model for FileRecord {
     ghost view = { λ f. record { id = f.id.0; base = f.base; len = f.len; name = f.name } };
 
     ghost invariant = { λ f. IsPlaced (record { id = f.id.0; base = f.base; len = f.len; name = f.name }) };
+}
+
+impl FileRecord {
+    ghost use Rattle.address_space.specs.Runs.{IsPlaced, range_of};
+
+    /// An equal record. Err comes for want of memory alone.
+    pub fn copy(&self) -> Result<Self, AllocError>
+        ensures { IfOk result (λ copy. copy ≡ self.now) }
+    {
+        let name = self.name.copy()?;
+        Ok(FileRecord {
+            id: self.id,
+            base: self.base,
+            len: self.len,
+            name,
+        })
+    }
+
+    /// Its addresses, from the first to the last: of `len` 3 from 7 on they are 7 to 9.
+    pub fn range(&self) -> Range
+        ensures value { result ≡ range_of self.now }
+        ensures placed { IsPlaced self.now }
+    {
+        Range {
+            first: self.base,
+            last: self.base + self.len - 1,
+        }
+    }
 }
