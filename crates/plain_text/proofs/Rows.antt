@@ -43,6 +43,3 @@ rows_put test p next list more whole lt put is =
     ap (λ l. l ++ rows test (p + 1) next) put
     ∙ append_assoc list (row test p p next) (rows test (p + 1) next)
     ∙ ap (λ l. list ++ l) (sym (rows_step test p next lt)) ∙ is
-
-pub rows_end : (test : Extent → Bool) (p next : ℕ) → next ≤ p → rows test p next ≡ []
-rows_end test p next le = let e : next - p ≡ 0 = omega arith in ap (λ n. filter test (flat_map (λ p. map (λ q. extent p q) (range_with_len p (next - p))) (range_with_len p n))) e

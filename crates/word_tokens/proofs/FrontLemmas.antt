@@ -28,13 +28,6 @@ length-take_while p text = length-prefix_len p text
 pub take-take_while : (p : ℕ → Bool) (text : List ℕ) → take (length (take_while p text)) text ≡ take_while p text
 take-take_while p text = ap (λ n. take n text) (length-take_while p text)
 
-pub take-name_at : (text : List ℕ) → take (length (name_at text)) text ≡ name_at text
-take-name_at text = by_letter (is_ascii_alphabetic (get_or text 0 0)) refl
-  where
-    by_letter : (letter : Bool) → is_ascii_alphabetic (get_or text 0 0) ≡ letter → take (length (name_at text)) text ≡ name_at text
-    by_letter true e = let n = name_at-letter text e in ap (λ xs. take (length xs) text) n ∙ take-take_while is_name_byte text ∙ sym n
-    by_letter false e = let n = name_at-other text e in ap (λ xs. take (length xs) text) n ∙ sym n
-
 -- the last byte
 pub ends_with_byte-last : (c : ℕ) (bytes : List ℕ) → option_eq nat_eq (slice_get bytes (length bytes - 1)) (Some c) ≡ ends_with_byte c bytes
 ends_with_byte-last c [] = refl
@@ -96,18 +89,6 @@ tag_end-none after nowhere =
     sym (tag_end_by after (length after) false all (ap (starts_with_byte 62) (drop-length after)))
 
 -- a tag by its end
-pub tag_with_name-none : (closing : Bool) (opened : ℕ) (name bytes : List ℕ) → length name ≡ 0 → tag_with_name closing opened name bytes ≡ None
-tag_with_name-none closing opened [] bytes e = refl
-tag_with_name-none closing opened (b ∷ name) bytes e = absurd (omega arith)
-
-pub tag_with_name-open : (closing : Bool) (opened : ℕ) (name bytes : List ℕ) → tag_end (drop (length name) bytes) ≡ None → tag_with_name closing opened name bytes ≡ None
-tag_with_name-open closing opened [] bytes e = refl
-tag_with_name-open closing opened (b ∷ name) bytes e = by_test _ _ _ e
-  where
-    by_test : (s : Bool) (n : ℕ) (part : Part) → cond s (Some n) None ≡ None → cond s (Some part) None ≡ None
-    by_test true n part e = absurd cc
-    by_test false n part e = refl
-
 by_end : (s : Bool) (opened size k : ℕ) (closing : Bool) (name between after : List ℕ) → between ≡ take (length between) after → cond s (Some (length between)) None ≡ Some k
     → cond s (Some (let part : Part = record { size = opened + size + length between + 1; tokens = tag_tokens closing name between } in part)) None ≡ Some record { size = opened + size + k + 1; tokens = tag_tokens closing name (take k after) }
 by_end true opened size k closing name between after e is =
