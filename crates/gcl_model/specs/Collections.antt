@@ -22,9 +22,11 @@ pub record Collection : Type 0 where
   pub dels : ℕ
   pub files : List File
 
+-- the token before the first word of each file
 abbrev pub file_start : List ℕ
 file_start = codes "<file!>"
 
+-- the token after the last word of each file
 abbrev pub file_end : List ℕ
 file_end = codes "</file!>"
 
@@ -49,6 +51,7 @@ words_from p (token ∷ tokens) = record { address = p; token = token } ∷ word
 abbrev pub words_of : Collection → List Word
 words_of c = flat_map (λ file. words_from file.base (with_boundaries file.tokens)) c.files
 
+-- the text of a collection: its addresses, and the words of its surviving files
 abbrev pub text_of : Collection → Text
 text_of c = record { first = c.first; next = c.next; words = words_of c }
 
@@ -56,6 +59,7 @@ text_of c = record { first = c.first; next = c.next; words = words_of c }
 abbrev pub word_of_file : File → ℕ → Option (List ℕ)
 word_of_file file p = if nat_le file.base p then slice_get (with_boundaries file.tokens) (p - file.base) else None
 
+-- the token that the first of these files which has the address has there
 abbrev pub word_of_files : List File → ℕ → Option (List ℕ)
 word_of_files [] p = None
 word_of_files (file ∷ files) p = option_or (word_of_file file p) (word_of_files files p)

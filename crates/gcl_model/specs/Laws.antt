@@ -28,9 +28,11 @@ TokensAreTokens = (bytes : List ℕ) → AllByRecursion IsToken (tokens_of bytes
 abbrev pub StartIsSound : Type 0
 StartIsSound = (first : ℕ) → first ≤ address_end → IsSound (empty_from first)
 
+-- an added file keeps soundness
 abbrev pub AddingKeepsSoundness : Type 0
 AddingKeepsSoundness = (c : Collection) (name : List ℕ) (tokens : List (List ℕ)) → IsSound c → CanAdd c name tokens → IsSound (with_file c name tokens)
 
+-- so does a deletion, of any id
 abbrev pub DeletingKeepsSoundness : Type 0
 DeletingKeepsSoundness = (c : Collection) (id : ℕ) → IsSound c → IsSound (without_file c id)
 

@@ -7,6 +7,7 @@ pub record SlotRange : Type 0 where
   pub first : ℕ
   pub last : ℕ
 
+-- the range from p to q
 abbrev pub slot_range : ℕ → ℕ → SlotRange
 slot_range p q = record { first = p; last = q }
 
@@ -56,6 +57,7 @@ slots_after_merge (a ∷ ranges) (file ∷ files) = spanned a ranges ∷ []
 abbrev pub file_range : File → SlotRange
 file_range file = slot_range file.base (file.base + width_of file.tokens - 1)
 
+-- from the first range to the last as one range, and none where there is none
 abbrev pub ranges_spanned : List SlotRange → List SlotRange
 ranges_spanned [] = []
 ranges_spanned (a ∷ ranges) = spanned a ranges ∷ []
