@@ -5,6 +5,7 @@ use Rattle.std.specs.List.Sorted.{IsPartitionPoint}
 use Rattle.std.specs.Option.{option_or}
 use Rattle.std.proofs.lemmas.List.{take-append-drop, reverse-append}
 use Rattle.std.proofs.lemmas.List.Folds.{find-append}
+use Rattle.std.proofs.Math.Bool.{and-false, and-true}
 use Rattle.gcl_model.specs.Access.{later_or, find_last}
 
 -- what holds of all members
@@ -60,22 +61,14 @@ pub filter_gone : {X : Type 0} (t : X → Bool) (xs : List X) → AllByRecursion
 filter_gone t [] h = refl
 filter_gone t (x ∷ xs) h = ap (λ b. cond b (x ∷ filter t xs) (filter t xs)) h.0 ∙ filter_gone t xs h.1
 
-and_true : (a : Bool) → (a && true) ≡ a
-and_true true = refl
-and_true false = refl
-
-and_false : (a : Bool) → (a && false) ≡ false
-and_false true = refl
-and_false false = refl
-
 -- two tests one after the other are both of them at once
 pub filter_twice : {X : Type 0} (p q both : X → Bool) (xs : List X) → ((x : X) → both x ≡ (p x && q x)) → filter both xs ≡ filter p (filter q xs)
 filter_twice p q both [] h = refl
 filter_twice p q both (x ∷ xs) h = here (p x) (q x) (both x) refl (h x) (filter_twice p q both xs h)
   where
     here : (a b c : Bool) → p x ≡ a → c ≡ (a && b) → filter both xs ≡ filter p (filter q xs) → cond c (x ∷ filter both xs) (filter both xs) ≡ filter p (cond b (x ∷ filter q xs) (filter q xs))
-    here a true c is e rest = ap (λ t. cond t (x ∷ filter both xs) (filter both xs)) (e ∙ and_true a) ∙ ap (λ l. cond a (x ∷ l) l) rest ∙ sym (ap (λ t. cond t (x ∷ filter p (filter q xs)) (filter p (filter q xs))) is)
-    here a false c is e rest = ap (λ t. cond t (x ∷ filter both xs) (filter both xs)) (e ∙ and_false a) ∙ rest
+    here a true c is e rest = ap (λ t. cond t (x ∷ filter both xs) (filter both xs)) (e ∙ and-true a) ∙ ap (λ l. cond a (x ∷ l) l) rest ∙ sym (ap (λ t. cond t (x ∷ filter p (filter q xs)) (filter p (filter q xs))) is)
+    here a false c is e rest = ap (λ t. cond t (x ∷ filter both xs) (filter both xs)) (e ∙ and-false a) ∙ rest
 
 pub filter-map : {X Y : Type 0} (t : Y → Bool) (f : X → Y) (xs : List X) → filter t (map f xs) ≡ map f (filter (λ x. t (f x)) xs)
 filter-map t f [] = refl
