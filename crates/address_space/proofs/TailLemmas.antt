@@ -29,6 +29,7 @@ settled_tail range ranges (before ∷ earlier) whole m e count =
   where
     last : SlotRange
     last = spanned range ranges
+
     by_test : (t : Bool) → m ≡ length (before ∷ earlier) + 1 - cond t (joined_count (joined before last) earlier + 1) 1
         → (m ≡ length earlier + 1 - joined_count (spanned before (range ∷ ranges)) earlier → reverse (settled (spanned before (range ∷ ranges)) earlier) ≡ take m whole ++ ranges_spanned (drop m whole))
         → reverse (cond t (settled (joined before last) earlier) (last ∷ before ∷ earlier)) ≡ take m whole ++ ranges_spanned (drop m whole)

@@ -77,10 +77,6 @@ tokens_behind-cons : (at b : ℕ) (bytes : List ℕ) →
     tokens_behind at (b ∷ bytes) ≡ placed at (first_piece b bytes).tokens ++ tokens_behind (at + (first_piece b bytes).size) (drop (first_piece b bytes).size (b ∷ bytes))
 tokens_behind-cons at b bytes = step (length (b ∷ bytes)) at b bytes (omega arith)
 
--- the same, by places in a text
-piece_at : List ℕ → ℕ → Piece
-piece_at text at = first_piece (get_or text at 0) (drop (at + 1) text)
-
 pub tokens_from-step : (text : List ℕ) (at : ℕ) (piece : Piece) → at < length text → first_piece (get_or text at 0) (drop (at + 1) text) ≡ piece →
     (tokens_from text at ≡ placed at piece.tokens ++ tokens_from text (at + piece.size)) × (1 ≤ piece.size)
 tokens_from-step text at piece lt is =
@@ -92,17 +88,6 @@ tokens_from-step text at piece lt is =
     ∙ ap (λ xs. placed at (first_piece b bytes).tokens ++ tokens_behind (at + (first_piece b bytes).size) xs)
     (ap (λ xs. drop (first_piece b bytes).size xs) (sym here) ∙ drop-drop (first_piece b bytes).size at text) in
     (subst (λ p. tokens_from text at ≡ placed at p.tokens ++ tokens_from text (at + p.size)) is cut, subst (λ p. 1 ≤ p.size) is (piece_size b bytes).at_least)
-
-pub tokens_from-end : (text : List ℕ) (at : ℕ) → at ≡ length text → tokens_from text at ≡ []
-tokens_from-end text at is = ap (λ n. tokens_behind at (drop n text)) is ∙ ap (λ xs. tokens_behind at xs) (drop-length text)
-
--- a blank gives no token
-blank_piece : (b : ℕ) (bytes : List ℕ) → is_blank b ≡ true → first_piece b bytes ≡ record { size = 1; tokens = [] }
-blank_piece b bytes is = cond-true (is_blank b) record { size = 1; tokens = [] } (cond (b == 34) (quoted_piece bytes) (cond (b == 91) (width_piece bytes) (sign_piece b bytes))) is
-
-pub tokens_from-blank : (text : List ℕ) (at : ℕ) → at < length text → is_blank (get_or text at 0) ≡ true → tokens_from text at ≡ tokens_from text (at + 1)
-tokens_from-blank text at lt blank =
-    (tokens_from-step text at record { size = 1; tokens = [] } lt (blank_piece (get_or text at 0) (drop (at + 1) text) blank)).0
 
 -- the piece at a place is the first token there
 pub next_at : (text : List ℕ) (at : ℕ) (l : Lexeme) → at < length text → IsPiece text at (first_piece (get_or text at 0) (drop (at + 1) text)) l → IsNext text at l

@@ -209,22 +209,6 @@ query_can text at next operator whole can q is =
     (subst (λ ts. IsFaultless true can.opened can.count ts) (q.spelled ∙ ap (λ ts. query_spelling q.tree ts) is) can.faultless) in
     record { opened = can.opened; count = can.count + query_operands q.tree; deep = can.deep; faultless = behind.faultless.1 }
 
-ends_query : (rest : List QueryToken) → Ends (joined OneOf) rest → IsNoContainment rest → EndsQuery rest
-ends_query [] ends other = tt
-ends_query (operand form ∷ rest) ends other = refl
-ends_query (joint j ∷ rest) ends other = absurd cc
-ends_query (containment operator ∷ rest) ends other = absurd other
-ends_query (open_bracket ∷ rest) ends other = refl
-ends_query (close_bracket ∷ rest) ends other = refl
-ends_query (broken kind ∷ rest) ends other = refl
-
-pub query_ends : (text : List ℕ) (at : ℕ) (whole : Parsed) → QuerySoFar text at whole → IsNoContainment (bare_from text whole.end) → IsQueryParsed text at whole
-query_ends text at whole q other = record {
-  read = record { tree = q.tree; spelled = q.spelled; stands_for = q.stands_for; ends = ends_query (bare_from text whole.end) q.ends other };
-  later = q.later;
-  within = q.within;
-}
-
 -- a quoted text or a width
 pub single_read : (text : List ℕ) (at : ℕ) (l : Lexeme) (form : Form) (parsed : Parsed) → IsNext text at l → shown text l.token ≡ operand form → form_of parsed.expr ≡ form → parsed.end ≡ l.end →
     IsParsed single text at parsed
@@ -242,13 +226,6 @@ single_read text at l form parsed next is form_is end =
       within = omega arith;
     }
 
--- a query in brackets
-pub bracket_can : (text : List ℕ) (at : ℕ) (l : Lexeme) → CanRead (bare_from text at) → IsNext text at l → l.token ≡ T.Open → CanReadInside (bare_from text l.end)
-bracket_can text at l can next is =
-    let h = subst (λ ts. IsFaultless true can.opened can.count ts) (next_bare text at l next ∙ ap (λ t. shown text t ∷ bare_from text l.end) is) can.faultless in
-    let few : can.opened < most_brackets = few_brackets can.opened can.count h.0 in
-    record { opened = can.opened; count = can.count; deep = omega arith; faultless = h.1 }
-
 pub bracket_read : (text : List ℕ) (at : ℕ) (l : Lexeme) (parsed : Parsed) → IsNext text at l → l.token ≡ T.Open → IsBracketParsed text l.end parsed → IsParsed single text at parsed
 bracket_read text at l parsed next is inside =
     let later : at < l.end = next.later in
@@ -263,9 +240,6 @@ bracket_read text at l parsed next is inside =
       later = omega arith;
       within = inside.within;
     }
-
-pub inside_can : (tokens : List QueryToken) → CanReadInside tokens → CanRead tokens
-inside_can tokens can = record { opened = can.opened + 1; count = can.count; deep = can.deep; faultless = can.faultless }
 
 -- behind the query in a bracket the bracket is closed
 pub data Closed : List QueryToken → Type 0 where
@@ -310,24 +284,6 @@ bracket_ends text at inside parsed close can q next expr end =
       later = omega arith;
       within = omega arith;
     }
-
--- where an operand is to come, one does
-can_not_end : (tokens : List QueryToken) → CanRead tokens → tokens ≡ [] → ⊥
-can_not_end tokens can is = let none = subst (λ ts. IsFaultless true can.opened can.count ts) is can.faultless in cc
-
-pub operand_comes : (text : List ℕ) (at : ℕ) → CanRead (bare_from text at) → tokens_from text at ≡ [] → ⊥
-operand_comes text at can none = can_not_end (bare_from text at) can (ap (λ ps. map token_of ps) none)
-
-pub no_other : (text : List ℕ) (at : ℕ) (l : Lexeme) → CanRead (bare_from text at) → IsNext text at l → (is_operand (shown text l.token) ≡ false) → (is_open (shown text l.token) ≡ false) → ⊥
-no_other text at l can next a b = other (shown text l.token) a b (subst (λ ts. IsFaultless true can.opened can.count ts) (next_bare text at l next) can.faultless)
-  where
-    other : (t : QueryToken) → is_operand t ≡ false → is_open t ≡ false → IsFaultless true can.opened can.count (t ∷ bare_from text l.end) → ⊥
-    other (operand form) a b h = cc
-    other (joint j) a b h = let none = h.0 in cc
-    other (containment operator) a b h = let none = h.0 in cc
-    other open_bracket a b h = cc
-    other close_bracket a b h = let none = h.0 in cc
-    other (broken kind) a b h = let none = h.0 in cc
 
 -- behind a whole query nothing is left
 nothing_left : (c : ℕ) (rest : List QueryToken) → EndsQuery rest → IsFaultless false 0 c rest → rest ≡ []

@@ -32,6 +32,7 @@ mutual
   pub data Query : Type 0 where
     query : Part (joined OneOf) → Containments → Query
 
+  -- the containments of a query, each with the chain to its right
   pub data Containments : Type 0 where
     no_more : Containments
     and_then : Containment → Part (joined OneOf) → Containments → Containments
@@ -44,18 +45,22 @@ abbrev mutual
   spelling (only j part) rest = spelling part rest
   spelling (join j part chain) rest = spelling part (joint j ∷ spelling chain rest)
 
+  -- those of a query: of two widths with a `>` between them they are three
   pub query_spelling : Query → List QueryToken → List QueryToken
   query_spelling (query part more) rest = spelling part (more_spelling more rest)
 
+  -- those of its containments
   pub more_spelling : Containments → List QueryToken → List QueryToken
   more_spelling no_more rest = rest
   more_spelling (and_then operator part more) rest = containment operator ∷ spelling part (more_spelling more rest)
 
+-- the form of a chain of several members: `..` makes it `seq`, `^` makes it `both`, and `+` makes it `one`
 abbrev pub chain_form : Joint → Forms → Form
 chain_form FollowedBy members = seq members
 chain_form BothOf members = both members
 chain_form OneOf members = one members
 
+-- the form of a containment of two operands: `>` makes it `containing`
 abbrev pub containment_form : Containment → Form → Form → Form
 containment_form Containing a b = containing a b
 containment_form ContainedIn a b = contained_in a b
@@ -70,46 +75,52 @@ abbrev mutual
   form_of_part (only j part) = form_of_part part
   form_of_part (join j part chain) = chain_form j (more_forms (form_of_part part) (members chain))
 
+  -- the forms that the joint of a chain joins: of `[1]+[2]^[3]` the form of `[1]` and that of `[2]^[3]`
   pub members : {l : Level} → Part l → Forms
   members (simple form) = more_forms form no_forms
   members (bracketed q) = more_forms (form_of_query q) no_forms
   members (only j part) = more_forms (form_of_part part) no_forms
   members (join j part chain) = more_forms (form_of_part part) (members chain)
 
+  -- the form of a query: of its first chain, and of all containments
   pub form_of_query : Query → Form
   form_of_query (query part more) = grouped (form_of_part part) more
 
-  -- containments group from the left
+  -- containments group from the left: `[1]>[2]>[3]` is `([1]>[2])>[3]`
   pub grouped : Form → Containments → Form
   grouped form no_more = form
   grouped form (and_then operator part more) = grouped (containment_form operator form (form_of_part part)) more
 
 abbrev mutual
-  -- how many brackets stand in one another
+  -- how many brackets are in one another: in `(([1])+([2]))` two
   pub nesting : {l : Level} → Part l → ℕ
   nesting (simple form) = 0
   nesting (bracketed q) = query_nesting q + 1
   nesting (only j part) = nesting part
   nesting (join j part chain) = max (nesting part) (nesting chain)
 
+  -- the same of a query
   pub query_nesting : Query → ℕ
   query_nesting (query part more) = max (nesting part) (more_nesting more)
 
+  -- and of its containments
   pub more_nesting : Containments → ℕ
   more_nesting no_more = 0
   more_nesting (and_then operator part more) = max (nesting part) (more_nesting more)
 
 abbrev mutual
-  -- how many quoted texts and widths there are
+  -- how many quoted texts and widths there are: in `[1]+"to"` two
   pub operands : {l : Level} → Part l → ℕ
   operands (simple form) = 1
   operands (bracketed q) = query_operands q
   operands (only j part) = operands part
   operands (join j part chain) = operands part + operands chain
 
+  -- the same of a query
   pub query_operands : Query → ℕ
   query_operands (query part more) = operands part + more_operands more
 
+  -- and of its containments
   pub more_operands : Containments → ℕ
   more_operands no_more = 0
   more_operands (and_then operator part more) = operands part + more_operands more

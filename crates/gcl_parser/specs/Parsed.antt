@@ -13,6 +13,7 @@ pub record IsParsed (level : Level) (text : List ℕ) (at : ℕ) (parsed : Parse
   pub later : at < parsed.end
   pub within : parsed.end ≤ length text
 
+-- the same of a query
 pub record IsQueryParsed (text : List ℕ) (at : ℕ) (parsed : Parsed) : Type 0 where
   pub read : IsQueryRead (bare_from text at) (bare_from text parsed.end) (form_of parsed.expr)
   pub later : at < parsed.end

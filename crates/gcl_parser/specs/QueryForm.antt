@@ -23,36 +23,37 @@ abbrev pub chain_of : Joint → Forms → Form
 chain_of j (more_forms form no_forms) = form
 chain_of j forms = chain_form j forms
 
--- what stands in one pair of brackets as far as it was read: the left side of the containment that was last, and the
--- members so far of its chain of `+`, of the chain of `^` that is its last member, and of the chain of `..` that is the last of that
+-- What was read so far inside one pair of brackets: the left side of the last containment, the members so far of the chain of `+`
+-- to its right, those of the chain of `^` that becomes the next member of that, and those of the chain of `..` that becomes the next
+-- member of that. Of `[1] > [2] + [3] ^ [4] .. [5]` these are `[1]` with `>`; `[2]`; `[3]`; and `[4]` with `[5]`
 pub record Unfinished : Type 0 where
   pub left : Option (Form × Containment)
   pub ones : Forms
   pub boths : Forms
   pub seqs : Forms
 
--- nothing was read behind this left side
+-- nothing was read yet, but for this left side
 abbrev pub begun : Option (Form × Containment) → Unfinished
 begun left = record { left = left; ones = no_forms; boths = no_forms; seqs = no_forms }
 
--- the chain of `..`
+-- the chain of `..` as it is so far
 abbrev pub seq_of : Unfinished → Form
 seq_of u = chain_of FollowedBy u.seqs
 
--- the chain of `^`, with the chain of `..` as its last member
+-- the chain of `^`, with that as its last member
 abbrev pub both_of : Unfinished → Form
 both_of u = chain_of BothOf (forms_and u.boths (seq_of u))
 
--- the chain of `+`, with the chain of `^` as its last member
+-- the chain of `+`, with that as its last member
 abbrev pub one_of : Unfinished → Form
 one_of u = chain_of OneOf (forms_and u.ones (both_of u))
 
--- a form, or the containment of which it is the right side
+-- a form, or the containment of which it is the right side, where there is a left one
 abbrev pub behind_left : Option (Form × Containment) → Form → Form
 behind_left None right = right
 behind_left (Some left) right = containment_form left.1 left.0 right
 
--- all that was read
+-- the form of all that was read
 abbrev pub whole_of : Unfinished → Form
 whole_of u = behind_left u.left (one_of u)
 
@@ -60,17 +61,18 @@ whole_of u = behind_left u.left (one_of u)
 abbrev pub with_operand : Unfinished → Form → Unfinished
 with_operand u form = record { left = u.left; ones = u.ones; boths = u.boths; seqs = forms_and u.seqs form }
 
--- a joint ends the chains that bind more than it
+-- a joint ends the chains that bind more than it does
 abbrev pub with_joint : Joint → Unfinished → Unfinished
 with_joint FollowedBy u = u
 with_joint BothOf u = record { left = u.left; ones = u.ones; boths = forms_and u.boths (seq_of u); seqs = no_forms }
 with_joint OneOf u = record { left = u.left; ones = forms_and u.ones (both_of u); boths = no_forms; seqs = no_forms }
 
--- a containment ends all chains, and has all that was read on its left
+-- a containment ends all chains, and its left side is all that was read
 abbrev pub with_containment : Containment → Unfinished → Unfinished
 with_containment operator u = begun (Some (whole_of u, operator))
 
--- the form of tokens, behind what was read in the nearest open bracket, and in those around it, the nearest first
+-- The form of all tokens, by those that are left: what was read so far inside the nearest bracket that is open, and inside each of
+-- those around it, the nearest first. None where the brackets do not match
 abbrev pub form_from : List QueryToken → Unfinished → List Unfinished → Option Form
 form_from [] u [] = Some (whole_of u)
 form_from [] u (outer ∷ outers) = None

@@ -28,6 +28,7 @@ pub record Piece : Type 0 where
   pub size : ℕ
   pub tokens : List QueryToken
 
+-- a piece that is one query token
 abbrev pub one_token : QueryToken → ℕ → Piece
 one_token token size = record { size = size; tokens = token ∷ [] }
 
@@ -49,6 +50,7 @@ abbrev pub quoted_token : List (List ℕ) → QueryToken
 quoted_token [] = broken EmptyTerm
 quoted_token (token ∷ more) = operand (quoted_form (token ∷ more))
 
+-- any byte but `"`
 abbrev pub is_no_quote : ℕ → Bool
 is_no_quote b = not (b == 34)
 
@@ -95,6 +97,7 @@ pub record Placed : Type 0 where
   pub at : ℕ
   pub token : QueryToken
 
+-- the query tokens of a piece, at its place
 abbrev pub placed : ℕ → List QueryToken → List Placed
 placed at tokens = map (λ token. record { at = at; token = token }) tokens
 
@@ -114,5 +117,6 @@ tokens_behind at bytes = tokens_of_pieces (length bytes) at bytes
 abbrev pub query_tokens : List ℕ → List Placed
 query_tokens text = tokens_behind 0 text
 
+-- a query token without its place
 abbrev pub token_of : Placed → QueryToken
 token_of p = p.token

@@ -11,12 +11,15 @@ use Rattle.gcl_parser.specs.QueryTokens.{QueryToken, joint, containment, Placed}
 use Rattle.gcl_parser.specs.Refusal.{is_operand, is_open, is_close, is_operator, fault_in, fault_at_end, fault_or}
 use Rattle.gcl_parser.specs.Grammar.{Level, joined, Part, Query, spelling, query_spelling, form_of_part, form_of_query}
 
+-- whether an operand is to come after this token
 abbrev pub wants_behind : QueryToken → Bool
 wants_behind token = is_operator token || is_open token
 
+-- how many brackets are open after it
 abbrev pub opened_behind : ℕ → QueryToken → ℕ
 opened_behind opened token = (if is_open token then opened + 1 else (if is_close token then opened - 1 else opened))
 
+-- how many operands there are with it
 abbrev pub count_behind : ℕ → QueryToken → ℕ
 count_behind count token = (if is_operand token then count + 1 else count)
 
@@ -27,6 +30,7 @@ pub record IsPassed (before : State) (token : QueryToken) (next : State) : Type 
   pub opened : next.opened ≡ opened_behind before.opened token
   pub count : next.operands ≡ count_behind before.operands token
 
+-- a token has this fault in this state
 abbrev pub IsStopped : State → QueryToken → QueryKind → Type 0
 IsStopped before token kind = fault_in before.wants_operand before.opened before.operands token ≡ Some kind
 

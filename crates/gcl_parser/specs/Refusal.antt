@@ -7,18 +7,22 @@ use Rattle.gcl_parser.specs.declared.fault.QueryKind.TheVariants.{OperandExpecte
 use Rattle.gcl_parser.specs.declared.fault.QueryFault.{QueryFault}
 use Rattle.gcl_parser.specs.QueryTokens.{QueryToken, operand, joint, containment, open_bracket, close_bracket, broken, Placed, query_tokens}
 
+-- a quoted text or a width
 abbrev pub is_operand : QueryToken → Bool
 is_operand (operand form) = true
 is_operand _ = false
 
+-- `(`
 abbrev pub is_open : QueryToken → Bool
 is_open open_bracket = true
 is_open _ = false
 
+-- `)`
 abbrev pub is_close : QueryToken → Bool
 is_close close_bracket = true
 is_close _ = false
 
+-- a joint or a containment
 abbrev pub is_operator : QueryToken → Bool
 is_operator (joint j) = true
 is_operator (containment operator) = true

@@ -3,3 +3,4 @@ pub mod Holders
 pub mod Operands
 pub mod Rows
 pub mod Puts
+mod Worked

@@ -4,12 +4,13 @@ use Rattle.gcl_model.specs.Texts.{Word, IsText}
 use Rattle.plain_text.specs.declared.entry.Entry.{Entry}
 use Rattle.plain_text.specs.Puts.{word}
 
--- each entry has an address and the bytes from the end of the one before up to its own end
+-- Each entry has an address and the bytes from the end of the one before up to its own end: of the bytes "tobe" and entries that end at
+-- 2 and 4 the words are `to` and `be`
 abbrev pub words_in : List ℕ → ℕ → List Entry → List Word
 words_in bytes start [] = []
 words_in bytes start (entry ∷ entries) = word entry.address (slice_range bytes start entry.end) ∷ words_in bytes entry.end entries
 
--- where the bytes of the entry at place i begin
+-- where the bytes of the entry at place i begin: those of the second begin where the first ends
 abbrev pub start_at : ℕ → List Entry → ℕ → ℕ
 start_at start [] i = start
 start_at start (entry ∷ entries) zero = start

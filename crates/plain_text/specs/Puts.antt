@@ -4,6 +4,7 @@ use Rattle.std.specs.List.{AllByRecursion}
 use Rattle.gcl_model.specs.Texts.{Word, Text}
 use Rattle.gcl_model.specs.Collections.{words_from}
 
+-- a token at an address
 abbrev pub word : ℕ → List ℕ → Word
 word address token = record { address = address; token = token }
 

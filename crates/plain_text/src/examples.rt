@@ -6,17 +6,9 @@ ghost use Rattle.gcl_model.specs.WellFormed.{IsWellFormed, AreWellFormed};
 use gcl_model::{Bytes, Expr, TokenList};
 use std::alloc::{AllocError, Global};
 
-pub fn tokens(alloc: Global, words: &[&str]) -> Result<TokenList, AllocError> {
-    let mut tokens = TokenList::new(alloc);
-    for word in words {
-        tokens.push(Bytes::copy_of(alloc, word.as_bytes())?)?;
-    }
-    Ok(tokens)
-}
-
 /// `to be or not to be` between the tokens of a file's boundary.
 pub fn hamlet(alloc: Global) -> Result<TokenList, AllocError> {
-    tokens(
+    TokenList::of(
         alloc,
         &["<file!>", "to", "be", "or", "not", "to", "be", "</file!>"],
     )

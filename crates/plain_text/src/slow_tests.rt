@@ -2,11 +2,11 @@ ghost use Rattle.std.specs.Prelude.{IfOk};
 ghost use Rattle.gcl_model.specs.FormOf.{form_of};
 ghost use Rattle.gcl_model.specs.WellFormed.{IsWellFormed};
 
-use crate::examples::{both, both_or, boxed, hamlet, seq, term, tokens};
+use crate::examples::{both, both_or, boxed, hamlet, seq, term};
 use crate::slow::slow_list;
 use crate::text::PlainText;
 use crate::tokens::of_tokens;
-use gcl_model::{Expr, Interval};
+use gcl_model::{Expr, Interval, TokenList};
 use std::alloc::{AllocError, Global};
 use std::process::Abort;
 use std::test::Fail;
@@ -123,7 +123,7 @@ fn widths_and_phrases_are_of_one_size(rt: HostRuntime) -> Result<(), Fail> {
     has(&rt, alloc, &text, Expr::Width(9), &[])?;
     let close = contained_in(alloc, both(alloc, "to", "not")?, Expr::Width(3))?;
     has(&rt, alloc, &text, close, &[Interval::new(4, 5)])?;
-    let words = tokens(alloc, &["to", "be"])?;
+    let words = TokenList::of(alloc, &["to", "be"])?;
     assert_eq!(rt; words.len(), 2);
     let to_be = [Interval::new(1, 2), Interval::new(5, 6)];
     has(&rt, alloc, &text, Expr::Phrase(words), &to_be)?;
