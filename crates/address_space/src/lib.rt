@@ -4,9 +4,9 @@
 //! `FileRun` as a list of these, by rising id and address. Addresses are below 2^56.
 //!
 //! The layers above use `place`, which gives a file the next addresses or says that they are spent, `is_name`, which
-//! says what a file may be called, the kept order of a `FileRun`, and the laws that adding and deleting files keep a
-//! collection sound and that its words stand where its addresses say. Of the addresses from 7 on, a file that needs
-//! three has 7 to 9.
+//! says what a file may be called, the kept order of a `FileRun`, and the laws: each step keeps a collection sound, its
+//! words are where its addresses say, and the slots of its index stay few as files are added and slots merged. Of the
+//! addresses from 7 on, a file that needs three has 7 to 9.
 #![tactic(auto)]
 
 mod file_id;
@@ -17,6 +17,8 @@ mod names;
 mod places;
 mod range;
 mod slot_laws;
+#[cfg(test)]
+mod tests;
 
 pub use file_id::FileId;
 pub use file_record::FileRecord;
@@ -31,6 +33,3 @@ pub use range::Range;
 pub use slot_laws::{
     adding_keeps_tiers, merging_keeps_tiers, opening_makes_tiers, tails_are_joined, tiers_are_few,
 };
-
-#[cfg(test)]
-mod tests;

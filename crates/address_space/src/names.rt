@@ -15,7 +15,7 @@ fn is_utf8(bytes: &[u8]) -> bool
     bytes.is_utf8()
 }
 
-// No control byte of ASCII is among them.
+/// No control byte of ASCII is among them.
 fn all_plain(bytes: &[u8]) -> bool
     ensures { result ≡ list_all is_plain_byte bytes.now }
 {

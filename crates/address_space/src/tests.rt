@@ -77,5 +77,28 @@ fn a_run_keeps_its_files_in_order(rt: HostRuntime) -> Result<(), Fail> {
     let file = run.get(1);
     assert_eq!(rt; (file.id, file.base, file.len), (FileId(2), 7, 3));
     assert_eq!(rt; file.name.as_slice(), b"b".as_slice());
+    assert_eq!(rt; run.as_slice().len(), 2);
+    Ok(())
+}
+
+#[test]
+fn a_copied_record_is_equal_and_has_the_same_range(rt: HostRuntime) -> Result<(), Fail> {
+    let file = FileRecord {
+        id: FileId(3),
+        base: ADDRESS_END - 3,
+        len: 3,
+        name: Bytes::copy_of(rt.alloc(), b"a")?,
+    };
+    let copy = file.copy()?;
+    assert_eq!(rt;
+        (copy.id, copy.base, copy.len),
+        (FileId(3), ADDRESS_END - 3, 3)
+    );
+    assert_eq!(rt; copy.name.as_slice(), b"a".as_slice());
+    let range = Range {
+        first: ADDRESS_END - 3,
+        last: ADDRESS_END - 1,
+    };
+    assert_eq!(rt; file.range(), range);
     Ok(())
 }

@@ -11,9 +11,9 @@ mod examples;
 mod filters;
 mod holding;
 mod kinds;
-mod look_up;
+mod leaves;
 #[cfg(test)]
-mod look_up_tests;
+mod leaves_tests;
 mod nesting;
 mod order;
 mod pairs;

@@ -4,7 +4,7 @@ ghost use Rattle.std.specs.Char.{to_ascii_lowercase};
 ghost use Rattle.std.specs.Prelude.{◌≡◌, ◌↔◌, [], ◌∷◌, ◌++◌, length, map, IfOk, IsTrue};
 ghost use Rattle.word_tokens.specs.Lexemes.{lexeme_tokens};
 
-use crate::compact::{TokenText, append_tokens};
+use crate::joined::{TokenText, append_tokens};
 use crate::lexeme::{Lexeme, first_lexeme, split_lexeme};
 use gcl_model::{Bytes, TokenList};
 use std::alloc::{AllocError, Global};
@@ -39,7 +39,7 @@ pub fn tokens(alloc: Global, bytes: &[u8]) -> Result<TokenList, AllocError>
     Ok(list)
 }
 
-// How many tokens a lexeme gives.
+/// How many tokens a lexeme gives.
 fn lexeme_count(lexeme: Lexeme<'_>) -> u64
     ensures { result ≡ length (lexeme_tokens lexeme.entry) }
 {
@@ -64,7 +64,7 @@ pub fn token_count(bytes: &[u8]) -> u64
     count
 }
 
-// Whether these bytes are the name in lower case.
+/// Whether these bytes are the name in lower case.
 fn is_lower_case_of(bytes: &[u8], name: &[u8]) -> bool
     ensures { IsTrue result ↔ bytes.now ≡ map to_ascii_lowercase name.now }
 {
@@ -75,7 +75,7 @@ fn is_lower_case_of(bytes: &[u8], name: &[u8]) -> bool
             .all(|(b, n)| *b == n.to_ascii_lowercase())
 }
 
-// Whether the text is the name in lower case, between these bytes.
+/// Whether the text is the name in lower case, between these bytes.
 fn is_spelled(text: &[u8], opening: &[u8], name: &[u8], closing: &[u8]) -> bool
     ensures { IsTrue result ↔ text.now ≡ opening.now ++ map to_ascii_lowercase name.now ++ closing.now }
 {
@@ -88,7 +88,7 @@ fn is_spelled(text: &[u8], opening: &[u8], name: &[u8], closing: &[u8]) -> bool
     is_lower_case_of(inside, name)
 }
 
-// Whether the text is the only token of the lexeme.
+/// Whether the text is the only token of the lexeme.
 fn is_only_token(text: &[u8], lexeme: Lexeme<'_>) -> bool
     ensures { IsTrue result ↔ lexeme_tokens lexeme.entry ≡ text.now ∷ [] }
 {

@@ -46,21 +46,21 @@ fn is_name_byte(b: u8) -> bool
         || b == b'-'
 }
 
-// How many bytes of a word the text begins with.
+/// How many bytes of a word the text begins with.
 fn word_len(text: &[u8]) -> usize
     ensures { result ≡ length (take_while is_word_byte text.now) }
 {
     text.iter().take_while(|b| is_word_byte(**b)).count()
 }
 
-// How many bytes of a name the text begins with.
+/// How many bytes of a name the text begins with.
 fn name_run(text: &[u8]) -> usize
     ensures { result ≡ length (take_while is_name_byte text.now) }
 {
     text.iter().take_while(|b| is_name_byte(**b)).count()
 }
 
-// How many bytes the name at the front has, 0 where there is none.
+/// How many bytes the name at the front has, 0 where there is none.
 fn name_len(text: &[u8]) -> usize
     ensures { result ≡ length (name_at text.now) }
 {
@@ -76,7 +76,7 @@ fn ends_with_slash(bytes: &[u8]) -> bool
     bytes.last().copied() == Some(b'/')
 }
 
-// The tag with this name, and these bytes between the name and the `>`.
+/// The tag with this name, and these bytes between the name and the `>`.
 fn tag<'a>(closing: bool, name: &'a [u8], between: &[u8]) -> Lexeme<'a>
     ensures { lexeme_tokens result ≡ tag_tokens closing name.now between.now }
 {
@@ -89,8 +89,8 @@ fn tag<'a>(closing: bool, name: &'a [u8], between: &[u8]) -> Lexeme<'a>
     }
 }
 
-// How many bytes stand before the `>` of a tag, from behind its name on. The search stops at the next `<` too, so a text
-// with many of these is read no more than twice.
+/// How many bytes stand before the `>` of a tag, from behind its name on. The search stops at the next `<` too, so a text
+/// with many of these is read no more than twice.
 fn tag_end(after: &[u8]) -> Option<usize>
     ensures { result ≡ tag_end after.now }
 {
@@ -98,7 +98,7 @@ fn tag_end(after: &[u8]) -> Option<usize>
     if after[end] == b'>' { Some(end) } else { None }
 }
 
-// The tag whose name stands at the front, and its size, with the `<` or `</` before the name.
+/// The tag whose name stands at the front, and its size, with the `<` or `</` before the name.
 fn tag_by_name(closing: bool, inside: &[u8]) -> Option<(Lexeme<'_>, usize)>
     ensures { option_map as_part result ≡ tag_with_name closing (if closing then 2 else 1) (name_at inside.now) inside.now }
 {
@@ -113,7 +113,7 @@ fn tag_by_name(closing: bool, inside: &[u8]) -> Option<(Lexeme<'_>, usize)>
     Some((tag, opened + name_len + between_len + 1))
 }
 
-// The tag whose `<` stands before these bytes, and its size, with the `<`.
+/// The tag whose `<` stands before these bytes, and its size, with the `<`.
 fn tag_behind(bytes: &[u8]) -> Option<(Lexeme<'_>, usize)>
     ensures { option_map as_part result ≡ tag_behind bytes.now }
 {

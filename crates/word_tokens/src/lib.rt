@@ -9,13 +9,13 @@
 //! law that each token of a text is a token. Of `To <B x="1">be</B >` the tokens are `to`, `<b>`, `be` and `</b>`.
 #![tactic(auto)]
 
-mod compact;
 mod cut;
+mod joined;
 mod laws;
 mod lexeme;
 #[cfg(test)]
 mod tests;
 
-pub use compact::TokenText;
 pub use cut::{is_token, token_count, token_text, tokens};
+pub use joined::TokenText;
 pub use laws::tokens_are_tokens;

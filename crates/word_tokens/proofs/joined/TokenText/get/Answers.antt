@@ -1,7 +1,7 @@
 use Rattle.std.proofs.Common.{◌-◌, List, ℕ, length, take, drop, ap, subst, ◌∙◌, arith}
 use Rattle.word_tokens.specs.Joined.{AreJoined}
 use Rattle.word_tokens.proofs.JoinedLemmas.{length-cut_from, stands}
-use Rattle.word_tokens.proofs.compact.TokenText.get.Goals as goal
+use Rattle.word_tokens.proofs.joined.TokenText.get.Goals as goal
 
 pub overflow_add-i : goal.overflow_add-i
 overflow_add-i c =

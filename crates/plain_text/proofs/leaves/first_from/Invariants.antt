@@ -1,6 +1,6 @@
 use Rattle.std.proofs.Common.{◌≡◌, drop}
 use Rattle.plain_text.specs.Holders.{first_holder}
-use Rattle.plain_text.proofs.look_up.first_from.Given as goal
+use Rattle.plain_text.proofs.leaves.first_from.Given as goal
 
 -- none so far is the term
 abbrev pub invariant-loop-i : goal.invariant-loop-i

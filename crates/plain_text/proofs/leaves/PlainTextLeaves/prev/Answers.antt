@@ -3,7 +3,7 @@ use Rattle.std.proofs.lemmas.List.Sums.{prefix_len-le-length}
 use Rattle.gcl_model.specs.Texts.{Word}
 use Rattle.plain_text.specs.Holders.{last_holder}
 use Rattle.plain_text.proofs.Holders.{previous_place_by_count}
-use Rattle.plain_text.proofs.look_up.PlainTextLeaves.prev.Goals as goal
+use Rattle.plain_text.proofs.leaves.PlainTextLeaves.prev.Goals as goal
 
 pub last_below-requires : goal.last_below-requires
 last_below-requires g c =

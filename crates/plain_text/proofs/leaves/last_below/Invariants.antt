@@ -1,6 +1,6 @@
 use Rattle.std.proofs.Common.{◌≡◌, ◌≤◌, length, take}
 use Rattle.plain_text.specs.Holders.{last_holder}
-use Rattle.plain_text.proofs.look_up.last_below.Given as goal
+use Rattle.plain_text.proofs.leaves.last_below.Given as goal
 
 -- none of those passed is the term
 abbrev pub invariant-loop-left : goal.invariant-loop-left

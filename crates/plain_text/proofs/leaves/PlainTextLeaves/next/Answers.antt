@@ -1,7 +1,7 @@
 use Rattle.std.proofs.Common.{drop, sym, ◌∙◌, ap}
 use Rattle.plain_text.specs.Holders.{first_holder}
 use Rattle.plain_text.proofs.Holders.{next_place_by_count}
-use Rattle.plain_text.proofs.look_up.PlainTextLeaves.next.Goals as goal
+use Rattle.plain_text.proofs.leaves.PlainTextLeaves.next.Goals as goal
 
 pub returns-clause-answer : goal.returns-clause-answer
 returns-clause-answer g c =

@@ -1,7 +1,7 @@
 use Rattle.std.proofs.Common.{◌≡◌, ◌-◌, suc, take, sym, ◌∙◌, ap, arith}
 use Rattle.plain_text.specs.Holders.{last_holder}
 use Rattle.plain_text.proofs.Holders.{last_here, last_earlier}
-use Rattle.plain_text.proofs.look_up.last_below.Goals as goal
+use Rattle.plain_text.proofs.leaves.last_below.Goals as goal
 
 pub returns-then-eq : goal.returns-then-eq
 returns-then-eq c =

@@ -1,6 +1,6 @@
 use Rattle.std.proofs.Common.{length, ap, arith}
 use Rattle.word_tokens.proofs.JoinedLemmas.{length-cut_from}
-use Rattle.word_tokens.proofs.compact.TokenText.len.Goals as goal
+use Rattle.word_tokens.proofs.joined.TokenText.len.Goals as goal
 
 pub returns : goal.returns
 returns c =

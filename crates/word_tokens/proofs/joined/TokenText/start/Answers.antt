@@ -1,7 +1,7 @@
 use Rattle.std.proofs.Common.{List, ℕ, length, ap, subst, ◌∙◌, arith}
 use Rattle.word_tokens.specs.Joined.{AreJoined}
 use Rattle.word_tokens.proofs.JoinedLemmas.{length-cut_from, start-at}
-use Rattle.word_tokens.proofs.compact.TokenText.start.Goals as goal
+use Rattle.word_tokens.proofs.joined.TokenText.start.Goals as goal
 
 pub index-requires : goal.index-requires
 index-requires c =

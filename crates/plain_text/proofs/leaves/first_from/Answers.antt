@@ -1,7 +1,7 @@
 use Rattle.std.proofs.Common.{◌≡◌, ◌+◌, suc, drop, sym, ◌∙◌, ap, arith}
 use Rattle.plain_text.specs.Holders.{first_holder}
 use Rattle.plain_text.proofs.Holders.{first_here, first_later}
-use Rattle.plain_text.proofs.look_up.first_from.Goals as goal
+use Rattle.plain_text.proofs.leaves.first_from.Goals as goal
 
 pub returns-then-eq : goal.returns-then-eq
 returns-then-eq c =

@@ -52,7 +52,7 @@ impl TokenText {
         &self.bytes[self.start(i)..self.start(i + 1)]
     }
 
-    // Where the token at place i begins: where the one before it ends.
+    /// Where the token at place i begins: where the one before it ends.
     fn start(&self, i: usize) -> usize
         requires { i ≤ length self.now }
         ensures { result ≡ length (concat (take i self.now)) }
@@ -70,7 +70,7 @@ fn append_lower_case(bytes: &mut Vec<u8>, name: &[u8]) -> Result<(), AllocError>
     Ok(())
 }
 
-// Puts one token behind the others: the name in lower case, between these bytes.
+/// Puts one token behind the others: the name in lower case, between these bytes.
 fn append_token(
     bytes: &mut Vec<u8>,
     ends: &mut Vec<usize>,
