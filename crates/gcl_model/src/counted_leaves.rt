@@ -46,6 +46,7 @@ pub trait CountedLeaves {
 }
 
 /// Any leaves, with the counters of one kind of ledger.
+#[derive(Drop)]
 pub struct LentLeaves<'a, L: Leaves, S: Ledger> {
     leaves: &'a L,
     ledger: PhantomData<S>,

@@ -1,7 +1,0 @@
-/// A kind of node with any number of operands.
-#[derive(Clone, Copy)]
-pub(crate) enum Chain {
-    BothOf,
-    OneOf,
-    FollowedBy,
-}
