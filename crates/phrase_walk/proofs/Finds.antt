@@ -56,12 +56,3 @@ one_last test [] r a m t greatest = absurd m
 one_last test (x ∷ xs) r a (inl e) t greatest =
     rw (none_last test xs (none_behind test x xs r.0 a e greatest), subst (λ y. test y ≡ true) (sym e) t) (ap Some e)
 one_last test (x ∷ xs) r a (inr m) t greatest = rw (one_last test xs r.1 a m t (λ d n. greatest d (inr n))) refl
-
--- two tests that agree on the members find the same
-pub first_agree : (p q : Extent → Bool) (list : List Extent) → ((x : Extent) → Has list x → p x ≡ q x) → find p list ≡ find q list
-first_agree p q [] same = refl
-first_agree p q (x ∷ xs) same = rw (same x (inl refl)) (ap (λ rest. cond (q x) (Some x) rest) (first_agree p q xs (λ y m. same y (inr m))))
-
-pub last_agree : (p q : Extent → Bool) (list : List Extent) → ((x : Extent) → Has list x → p x ≡ q x) → find_last p list ≡ find_last q list
-last_agree p q [] same = refl
-last_agree p q (x ∷ xs) same = rw (same x (inl refl)) (ap (λ rest. later_or rest (cond (q x) (Some x) None)) (last_agree p q xs (λ y m. same y (inr m))))

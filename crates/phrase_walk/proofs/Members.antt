@@ -6,12 +6,12 @@ use Rattle.gcl_model.specs.Access.{first_start, first_end, last_end, last_start}
 use Rattle.gcl_model.specs.Texts.{Text, IsText, holds}
 use Rattle.gcl_model.specs.Forms.{phrase}
 use Rattle.gcl_model.specs.Meaning.{concordance, denotes, holds_in_row}
-use Rattle.gcl_model.proofs.Covers.{Has}
+use Rattle.gcl_model.proofs.Covers.{Has, find_agree_on, find_last_agree_on}
 use Rattle.gcl_model.proofs.Minimal.{filter_has, has_filter, has_extent, same_truth}
 use Rattle.gcl_model.proofs.Meanings.{concordance_rises}
 use Rattle.phrase_walk.proofs.Places.{Held, held_within}
 use Rattle.phrase_walk.proofs.Near.{InRow, row_parts}
-use Rattle.phrase_walk.proofs.Finds.{none_first, none_last, one_first, one_last, first_agree, last_agree}
+use Rattle.phrase_walk.proofs.Finds.{none_first, none_last, one_first, one_last}
 
 -- a row lies within the text
 pub row_within : (text : Text) → IsText text → (tokens : List (List ℕ)) (r : ℕ) → 1 ≤ length tokens → InRow text tokens r → (text.first ≤ r) × (r + length tokens ≤ text.next)
@@ -69,7 +69,7 @@ no_last_row text tokens k no_row =
 first_end_by_start : (text : Text) (tokens : List (List ℕ)) (k s : ℕ) → 1 ≤ length tokens → s ≡ k - (length tokens - 1) →
     first_start (concordance text (phrase tokens)) s ≡ first_end (concordance text (phrase tokens)) k
 first_end_by_start text tokens k s some is =
-    first_agree (λ a. leb s a.start) (λ a. leb k a.end) (concordance text (phrase tokens)) (λ a m.
+    find_agree_on (λ a. leb s a.start) (λ a. leb k a.end) (concordance text (phrase tokens)) (λ a m.
     let wide : a.end + 1 ≡ a.start + length tokens = (member_row text tokens a m).wide in
     same_truth (leb s a.start) (leb k a.end)
     (λ t. let le : s ≤ a.start = leb-true s a.start t in le-leb k a.end (omega arith))
@@ -78,7 +78,7 @@ first_end_by_start text tokens k s some is =
 last_end_by_start : (text : Text) (tokens : List (List ℕ)) (k s : ℕ) → 1 ≤ length tokens → s + (length tokens - 1) ≡ k →
     last_start (concordance text (phrase tokens)) s ≡ last_end (concordance text (phrase tokens)) k
 last_end_by_start text tokens k s some is =
-    last_agree (λ a. leb a.start s) (λ a. leb a.end k) (concordance text (phrase tokens)) (λ a m.
+    find_last_agree_on (λ a. leb a.start s) (λ a. leb a.end k) (concordance text (phrase tokens)) (λ a m.
     let wide : a.end + 1 ≡ a.start + length tokens = (member_row text tokens a m).wide in
     same_truth (leb a.start s) (leb a.end k)
     (λ t. let le : a.start ≤ s = leb-true a.start s t in le-leb a.end k (omega arith))

@@ -1,6 +1,7 @@
 -- How many places of the tokens a walk has passed.
 use Rattle.std.proofs.Common.{◌≡◌, ℕ, ◌+◌, ◌*◌, ◌<◌, ◌≤◌, Bool, true, false, cond, ◌&&◌, ltb, eqb, List, [], ◌∷◌, length, min, inl, inr, sym, ap, arith, bytes_eq, le_refl}
 use Rattle.std.proofs.lemmas.Bool.{true≢false, or_cases, and_parts, cases_Bool, cases_lt, ltb-true, lt-ltb, le-ltb, eqb-true}
+use Rattle.gcl_model.proofs.Lists.{one_at_most}
 use Rattle.gcl_model.specs.Texts.{Text, Word, is_word, holds, places}
 use Rattle.gcl_model.specs.Cost.{fewest_places}
 use Rattle.phrase_walk.proofs.Places.{IsHeldIn}
@@ -10,10 +11,6 @@ use Rattle.phrase_walk.proofs.Near.{AreNear}
 abbrev pub places_before : List Word → List ℕ → ℕ → ℕ
 places_before [] token x = 0
 places_before (w ∷ ws) token x = cond (bytes_eq w.token token && ltb w.address x) 1 0 + places_before ws token x
-
-one_at_most : (b : Bool) → cond b 1 0 ≤ 1
-one_at_most true = le_refl 1
-one_at_most false = omega arith
 
 before_most : (ws : List Word) (token : List ℕ) (x : ℕ) → places_before ws token x ≤ length (places ws token)
 before_most [] token x = omega arith

@@ -1,5 +1,5 @@
 -- The steps of the walks, token by token and turn by turn.
-use Rattle.std.proofs.Common.{◌≡◌, ℕ, suc, ◌+◌, ◌-◌, ◌*◌, ◌<◌, ◌≤◌, ◌^◌, List, [], ◌∷◌, ◌++◌, length, drop, get_or, Option, Some, None, inl, inr, refl, sym, ap, ◌∙◌, subst, arith}
+use Rattle.std.proofs.Common.{◌≡◌, ℕ, suc, ◌+◌, ◌-◌, ◌*◌, ◌<◌, ◌≤◌, List, [], ◌∷◌, ◌++◌, length, drop, get_or, Option, Some, None, inl, inr, refl, sym, ap, ◌∙◌, subst, arith}
 use Rattle.std.specs.Option.{option_and_then}
 use Rattle.std.proofs.lemmas.Bool.{cases_lt}
 use Rattle.std.proofs.lemmas.List.{drop_more}
@@ -8,6 +8,7 @@ use Rattle.gcl_model.specs.Access.{first_start, last_start}
 use Rattle.gcl_model.specs.Texts.{Text, Word, IsText, next_place, previous_place}
 use Rattle.gcl_model.specs.Forms.{phrase}
 use Rattle.gcl_model.specs.Meaning.{concordance}
+use Rattle.gcl_model.specs.Limits.{address_end}
 use Rattle.phrase_walk.specs.Rows.{row_end, row_start, place_before}
 use Rattle.phrase_walk.proofs.Places.{next_tells}
 use Rattle.phrase_walk.proofs.Near.{InRow, AreNear, near_row, end_tells, none_end, start_tells, none_start}
@@ -26,10 +27,10 @@ pub end_next : (words : List Word) (rest : List (List ℕ)) (t : List ℕ) (othe
 end_next words rest t others at whole item kept o is =
     ap (option_and_then (λ q. row_end words others (q + 1))) is ∙ ap (λ ts. row_end words ts at) (sym item) ∙ kept
 
-pub place_within : (text : Text) → IsText text → (t : List ℕ) (k q : ℕ) → Some q ≡ next_place text.words t k → q + 1 ≤ 2 ^ 48
+pub place_within : (text : Text) → IsText text → (t : List ℕ) (k q : ℕ) → Some q ≡ next_place text.words t k → q + 1 ≤ address_end
 place_within text sound t k q is =
     let below : q < text.next = (next_tells text t sound k q (sym is)).within in
-    let bound : text.next ≤ 2 ^ 48 = sound.in_range in
+    let bound : text.next ≤ address_end = sound.in_range in
     omega arith
 
 start_none : (words : List Word) (tokens : List (List ℕ)) → row_start words tokens None ≡ None

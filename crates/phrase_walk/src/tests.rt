@@ -3,21 +3,41 @@ ghost use Rattle.gcl_model.specs.FormOf.{form_of};
 ghost use Rattle.gcl_model.specs.WellFormed.{IsWellFormed};
 
 use crate::{phrase_first_end, phrase_first_start, phrase_last_end, phrase_last_start};
-use gcl_model::{Bytes, Expr, Interval, Ledger, Steps, Tally, TokenList};
+use gcl_model::{Expr, Interval, Ledger, Question, Steps, TokenList, counted, uncounted};
 use plain_text::{PlainText, of_tokens, slow_list};
 use std::alloc::{AllocError, Global};
-use std::marker::Brand;
 use std::process::Abort;
-use std::sync::ledger;
-use std::sync::ledger::Blank;
 use std::test::Fail;
 
-fn tokens_of(alloc: Global, words: &[&str]) -> Result<TokenList, AllocError> {
-    let mut tokens = TokenList::new(alloc);
-    for word in words {
-        tokens.push(Bytes::copy_of(alloc, word.as_bytes())?)?;
+/// The four accesses of a phrase at an address.
+#[derive(Drop)]
+struct AccessesAt<'a> {
+    tokens: &'a TokenList,
+    text: &'a PlainText,
+    k: u64,
+}
+
+impl Question for AccessesAt<'_> {
+    ghost use Rattle.std.specs.Prelude.{◌<◌, ◌≤◌, ◌*◌, length, ⊤};
+    ghost use Rattle.gcl_model.specs.Limits.{far};
+    ghost use Rattle.gcl_model.specs.Forms.{phrase};
+    ghost use Rattle.gcl_model.specs.Cost.{cost};
+
+    type Answer = [Option<Interval>; 4];
+
+    ghost can_ask = { λ asked. (2 ≤ length asked.tokens.now) × (asked.k < far) };
+
+    ghost answers = { λ _ _. ⊤ };
+
+    ghost most = { λ asked _. 4 * cost asked.text.now 1 (phrase asked.tokens.now) };
+
+    fn ask<L: Ledger>(&self, steps: &mut Steps<L>) -> [Option<Interval>; 4] {
+        let starting = phrase_first_start(self.tokens, self.text, self.k, steps);
+        let ending = phrase_first_end(self.tokens, self.text, self.k, steps);
+        let ended = phrase_last_end(self.tokens, self.text, self.k, steps);
+        let started = phrase_last_start(self.tokens, self.text, self.k, steps);
+        [starting, ending, ended, started]
     }
-    Ok(tokens)
 }
 
 fn phrase(tokens: &TokenList) -> Result<Expr, AllocError>
@@ -27,97 +47,73 @@ fn phrase(tokens: &TokenList) -> Result<Expr, AllocError>
     Ok(Expr::Phrase(tokens.copy()?))
 }
 
-/// Each access of the phrase is that of the members, at every address and a few beyond.
-fn agrees<R: Abort, S: Ledger>(
-    rt: &R,
-    tokens: &TokenList,
-    text: &PlainText,
-    members: &[Interval],
-    steps: &mut Steps<S>,
-)
-    requires { 2 ≤ length tokens.now }
-{
-    for k in 0..14u64 {
-        let starting = members.iter().copied().find(|m| m.start >= k);
-        assert_eq!(rt;
-            phrase_first_start(tokens, text, k, steps),
-            starting,
-            "first start at {k}"
-        );
-        let ending = members.iter().copied().find(|m| m.end >= k);
-        assert_eq!(rt;
-            phrase_first_end(tokens, text, k, steps),
-            ending,
-            "first end at {k}"
-        );
-        let ended = members.iter().rev().copied().find(|m| m.end <= k);
-        assert_eq!(rt;
-            phrase_last_end(tokens, text, k, steps),
-            ended,
-            "last end at {k}"
-        );
-        let started = members.iter().rev().copied().find(|m| m.start <= k);
-        assert_eq!(rt;
-            phrase_last_start(tokens, text, k, steps),
-            started,
-            "last start at {k}"
-        );
-    }
-}
-
-/// The phrase starts at these addresses, by the plain list too, and all accesses follow.
-fn starts<R: Abort, S: Ledger>(
+/// The phrase starts at these addresses, by the plain list too, and all accesses follow, at every address and a few beyond.
+fn starts<R: Abort>(
     rt: &R,
     alloc: Global,
     text: &PlainText,
-    steps: &mut Steps<S>,
     words: &[&str],
     want: &[u64],
 ) -> Result<(), AllocError> {
-    let tokens = tokens_of(alloc, words)?;
+    let tokens = &TokenList::of(alloc, words)?;
     assert!(rt; tokens.len() >= 2);
-    let members = slow_list(alloc, &phrase(&tokens)?, text)?;
+    let members = slow_list(alloc, &phrase(tokens)?, text)?;
+    let members = members.as_slice();
     let mut found = Vec::new(alloc);
-    for member in members.as_slice() {
+    for member in members {
         found.push(member.start)?;
     }
     assert_eq!(rt; found.as_slice(), want);
-    agrees(rt, &tokens, text, members.as_slice(), steps);
+    for k in 0..14u64 {
+        let starting = members.iter().copied().find(|m| m.start >= k);
+        let ending = members.iter().copied().find(|m| m.end >= k);
+        let ended = members.iter().rev().copied().find(|m| m.end <= k);
+        let started = members.iter().rev().copied().find(|m| m.start <= k);
+        assert_eq!(rt;
+            uncounted(&AccessesAt { tokens, text, k }),
+            [starting, ending, ended, started],
+            "{words:?} at {k}"
+        );
+    }
     Ok(())
 }
 
-fn over_both_texts<B: ledger::Ledger, R: Abort>(
-    rt: &R,
-    alloc: Global,
-    blank: Blank,
-) -> Result<(), AllocError>
-    requires name { blank.name ≡ B.name }
-    requires parts { blank.parts ≡ B.parts }
-    requires some { 0 < blank.parts }
-{
-    let mut steps = Steps::<Tally<B>>::open(blank);
-    let hamlet = tokens_of(
+#[test]
+fn each_access_is_that_of_the_members(rt: HostRuntime) -> Result<(), Fail> {
+    let alloc = rt.alloc();
+    let hamlet = TokenList::of(
         alloc,
         &["<file!>", "to", "be", "or", "not", "to", "be", "</file!>"],
     )?;
     assert_eq!(rt; hamlet.len(), 8);
     let text = of_tokens(alloc, 0, &hamlet)?;
-    let steps = &mut steps;
-    starts(rt, alloc, &text, steps, &["to", "be"], &[1, 5])?;
-    starts(rt, alloc, &text, steps, &["be", "to"], &[])?;
-    starts(rt, alloc, &text, steps, &["not", "to", "be"], &[4])?;
-    starts(rt, alloc, &text, steps, &["be", "</file!>"], &[6])?;
-    let letters = tokens_of(alloc, &["a", "b", "a", "c", "b", "a", "b"])?;
+    starts(&rt, alloc, &text, &["to", "be"], &[1, 5])?;
+    starts(&rt, alloc, &text, &["be", "to"], &[])?;
+    starts(&rt, alloc, &text, &["not", "to", "be"], &[4])?;
+    starts(&rt, alloc, &text, &["be", "</file!>"], &[6])?;
+    let letters = TokenList::of(alloc, &["a", "b", "a", "c", "b", "a", "b"])?;
     assert_eq!(rt; letters.len(), 7);
     let text = of_tokens(alloc, 3, &letters)?;
-    starts(rt, alloc, &text, steps, &["a", "b"], &[3, 8])?;
-    starts(rt, alloc, &text, steps, &["b", "a", "b"], &[7])?;
-    starts(rt, alloc, &text, steps, &["a", "a"], &[])?;
-    starts(rt, alloc, &text, steps, &["x", "a"], &[])
+    starts(&rt, alloc, &text, &["a", "b"], &[3, 8])?;
+    starts(&rt, alloc, &text, &["b", "a", "b"], &[7])?;
+    starts(&rt, alloc, &text, &["a", "a"], &[])?;
+    starts(&rt, alloc, &text, &["x", "a"], &[])?;
+    Ok(())
 }
 
+/// "to be" in `to or be to be` at 3: 2 look-ups for the first start, 4 for the first end, 3 for the last end and 2 for the last start.
 #[test]
-fn each_access_is_that_of_the_members(rt: HostRuntime) -> Result<(), Fail> {
-    over_both_texts::<Brand, HostRuntime>(&rt, rt.alloc(), Blank::new(1))?;
+fn each_turn_of_a_walk_looks_up_each_token_once(rt: HostRuntime) -> Result<(), Fail> {
+    let alloc = rt.alloc();
+    let words = TokenList::of(alloc, &["to", "or", "be", "to", "be"])?;
+    assert_eq!(rt; words.len(), 5);
+    let text = &of_tokens(alloc, 0, &words)?;
+    let tokens = &TokenList::of(alloc, &["to", "be"])?;
+    assert!(rt; tokens.len() >= 2);
+    let to_be = Some(Interval::new(3, 4));
+    assert_eq!(rt;
+        counted(&AccessesAt { tokens, text, k: 3 }),
+        ([to_be, to_be, None, to_be], 11)
+    );
     Ok(())
 }

@@ -5,24 +5,25 @@ ghost use Rattle.gcl_model.specs.Meaning.{concordance};
 ghost use Rattle.gcl_model.specs.Cost.{cost};
 
 use crate::rows::{row_end, row_start};
-use gcl_model::{Bytes, Interval, Leaves, Ledger, Steps};
+use gcl_model::{Bytes, CountedLeaves, Interval};
 
 /// The first row of the tokens that starts at or after `k`.
-pub(crate) fn first_from<L: Leaves, S: Ledger>(
+pub(crate) fn first_from<C: CountedLeaves>(
     tokens: &[Bytes],
-    leaves: &L,
+    source: &C,
     k: u64,
-    steps: &mut Steps<S>,
+    counter: &mut C::Counter,
 ) -> Option<Interval>
     requires { 1 ≤ length tokens.now }
-    ensures answer { result ≡ first_start (concordance (L.text leaves.now) (phrase tokens.now)) k }
-    ensures cost { steps.new ≤ steps.old + cost (L.text leaves.now) (L.most leaves.now) (phrase tokens.now) }
+    ensures answer { result ≡ first_start (concordance (C.text source.now) (phrase tokens.now)) k }
+    ensures counted { C.count counter.old ≤ C.count counter.new }
+    ensures cost { C.count counter.new ≤ C.count counter.old + cost (C.text source.now) (C.most source.now) (phrase tokens.now) }
 {
     let len = tokens.len() as u64;
-    let next = leaves.span().next;
+    let next = source.span().next;
     let mut start = k;
     while start < next {
-        let end = row_end(tokens, leaves, start, steps)?;
+        let end = row_end(tokens, source, start, counter)?;
         let earliest = end - len;
         if earliest == start {
             return Some(Interval::new(start, end - 1));
@@ -34,21 +35,22 @@ pub(crate) fn first_from<L: Leaves, S: Ledger>(
 }
 
 /// The last row of the tokens that starts at or before `k`.
-pub(crate) fn last_upto<L: Leaves, S: Ledger>(
+pub(crate) fn last_upto<C: CountedLeaves>(
     tokens: &[Bytes],
-    leaves: &L,
+    source: &C,
     k: u64,
-    steps: &mut Steps<S>,
+    counter: &mut C::Counter,
 ) -> Option<Interval>
     requires { 1 ≤ length tokens.now }
-    ensures answer { result ≡ last_start (concordance (L.text leaves.now) (phrase tokens.now)) k }
-    ensures cost { steps.new ≤ steps.old + cost (L.text leaves.now) (L.most leaves.now) (phrase tokens.now) }
+    ensures answer { result ≡ last_start (concordance (C.text source.now) (phrase tokens.now)) k }
+    ensures counted { C.count counter.old ≤ C.count counter.new }
+    ensures cost { C.count counter.new ≤ C.count counter.old + cost (C.text source.now) (C.most source.now) (phrase tokens.now) }
 {
     let len = tokens.len() as u64;
-    let room = leaves.span().next.checked_sub(len)?;
+    let room = source.span().next.checked_sub(len)?;
     let mut start = k.min(room);
     loop {
-        let latest = row_start(tokens, leaves, start + len, steps)?;
+        let latest = row_start(tokens, source, start + len, counter)?;
         if latest == start {
             return Some(Interval::new(start, start + (len - 1)));
         }

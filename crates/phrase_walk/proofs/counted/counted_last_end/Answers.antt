@@ -1,13 +1,13 @@
 use Rattle.std.proofs.Common.{◌≡◌, ◌+◌, ◌-◌, ◌<◌, ◌≤◌, length, sym, arith}
 use Rattle.phrase_walk.proofs.Members.{last_end_found, no_last_end}
-use Rattle.phrase_walk.proofs.accesses.phrase_last_end.Goals as goal
+use Rattle.phrase_walk.proofs.counted.counted_last_end.Goals as goal
 
 pub returns-in_err-start-clause-answer : goal.returns-in_err-start-clause-answer
 returns-in_err-start-clause-answer g c =
     let some : 2 ≤ length c.args.tokens.now = c.requires.tokens in
     let count : c.len-len.result ≡ length c.args.tokens.now = c.len-len.ensures in
     let short : c.len-len.result - 1 ≤ c.args.k → ⊥ = c.in_err-start.ensures in
-    rw c.from_residual.ensures (sym (no_last_end (g.L.Leaves.text c.args.leaves.now) c.args.tokens.now c.args.k (omega arith)))
+    rw c.from_residual.ensures (sym (no_last_end (g.C.CountedLeaves.text c.args.source.now) c.args.tokens.now c.args.k (omega arith)))
 
 pub returns-clause-answer : goal.returns-clause-answer
 returns-clause-answer g c =
@@ -15,4 +15,4 @@ returns-clause-answer g c =
     let count : c.len-len.result ≡ length c.args.tokens.now = c.len-len.ensures in
     let room = c.in_ok-start.ensures in
     let start : c.in_ok-start.start + (length c.args.tokens.now - 1) ≡ c.args.k = omega (arith, room.0, room.1) in
-    last_end_found (g.L.Leaves.text c.args.leaves.now) c.as_slice.result.now c.args.tokens.now c.args.k c.in_ok-start.start c.last_upto.result c.as_slice.ensures (omega arith) start c.last_upto.ensures.answer
+    last_end_found (g.C.CountedLeaves.text c.args.source.now) c.as_slice.result.now c.args.tokens.now c.args.k c.in_ok-start.start c.last_upto.result c.as_slice.ensures (omega arith) start c.last_upto.ensures.answer

@@ -1,5 +1,0 @@
-use Rattle.phrase_walk.proofs.tests.each_access_is_that_of_the_members.Given as goal
-
--- the ledger of the test is the one that it made
-abbrev pub ghosts-over_both_texts : goal.ghosts-over_both_texts
-ghosts-over_both_texts g a = record { name = a.blank.name; parts = a.blank.parts }

@@ -1,0 +1,81 @@
+ghost use Rattle.std.specs.Prelude.{◌≡◌, ◌+◌, ◌<◌, ◌≤◌, length};
+ghost use Rattle.gcl_model.specs.Limits.{far};
+ghost use Rattle.gcl_model.specs.Access.{first_start, first_end, last_end, last_start};
+ghost use Rattle.gcl_model.specs.Forms.{phrase};
+ghost use Rattle.gcl_model.specs.Meaning.{concordance};
+ghost use Rattle.gcl_model.specs.Cost.{cost};
+
+use crate::walks::{first_from, last_upto};
+use gcl_model::{CountedLeaves, Interval, TokenList};
+
+/// The first interval of the phrase that starts at or after `k`, looked up on the caller's counter.
+pub fn counted_first_start<C: CountedLeaves>(
+    tokens: &TokenList,
+    source: &C,
+    k: u64,
+    counter: &mut C::Counter,
+) -> Option<Interval>
+    requires tokens { 2 ≤ length tokens.now }
+    requires address { k < far }
+    ensures answer { result ≡ first_start (concordance (C.text source.now) (phrase tokens.now)) k }
+    ensures counted { C.count counter.old ≤ C.count counter.new }
+    ensures cost { C.count counter.new ≤ C.count counter.old + cost (C.text source.now) (C.most source.now) (phrase tokens.now) }
+{
+    first_from(tokens.as_slice(), source, k, counter)
+}
+
+/// The first that ends at or after `k`.
+pub fn counted_first_end<C: CountedLeaves>(
+    tokens: &TokenList,
+    source: &C,
+    k: u64,
+    counter: &mut C::Counter,
+) -> Option<Interval>
+    requires tokens { 2 ≤ length tokens.now }
+    requires address { k < far }
+    ensures answer { result ≡ first_end (concordance (C.text source.now) (phrase tokens.now)) k }
+    ensures counted { C.count counter.old ≤ C.count counter.new }
+    ensures cost { C.count counter.new ≤ C.count counter.old + cost (C.text source.now) (C.most source.now) (phrase tokens.now) }
+{
+    let len = tokens.len() as u64;
+    first_from(
+        tokens.as_slice(),
+        source,
+        k.saturating_sub(len - 1),
+        counter,
+    )
+}
+
+/// The last that ends at or before `k`.
+pub fn counted_last_end<C: CountedLeaves>(
+    tokens: &TokenList,
+    source: &C,
+    k: u64,
+    counter: &mut C::Counter,
+) -> Option<Interval>
+    requires tokens { 2 ≤ length tokens.now }
+    requires address { k < far }
+    ensures answer { result ≡ last_end (concordance (C.text source.now) (phrase tokens.now)) k }
+    ensures counted { C.count counter.old ≤ C.count counter.new }
+    ensures cost { C.count counter.new ≤ C.count counter.old + cost (C.text source.now) (C.most source.now) (phrase tokens.now) }
+{
+    let len = tokens.len() as u64;
+    let start = k.checked_sub(len - 1)?;
+    last_upto(tokens.as_slice(), source, start, counter)
+}
+
+/// The last that starts at or before `k`.
+pub fn counted_last_start<C: CountedLeaves>(
+    tokens: &TokenList,
+    source: &C,
+    k: u64,
+    counter: &mut C::Counter,
+) -> Option<Interval>
+    requires tokens { 2 ≤ length tokens.now }
+    requires address { k < far }
+    ensures answer { result ≡ last_start (concordance (C.text source.now) (phrase tokens.now)) k }
+    ensures counted { C.count counter.old ≤ C.count counter.new }
+    ensures cost { C.count counter.new ≤ C.count counter.old + cost (C.text source.now) (C.most source.now) (phrase tokens.now) }
+{
+    last_upto(tokens.as_slice(), source, k, counter)
+}
