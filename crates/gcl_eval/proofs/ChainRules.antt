@@ -6,52 +6,47 @@ use Rattle.gcl_model.specs.Texts.{Text}
 use Rattle.gcl_model.specs.Forms.{Forms, both, one, seq, forms_count}
 use Rattle.gcl_model.specs.Meaning.{concordance, operands}
 use Rattle.gcl_model.specs.Access.{first_start, last_end}
-use Rattle.gcl_model.specs.Rules.{greatest_end, least_start}
-use Rattle.gcl_model.proofs.Nodes.{first_start-both, last_end-both}
-use Rattle.gcl_combine.proofs.OneForward.{first_start-one}
-use Rattle.gcl_combine.proofs.OneBackward.{last_end-one}
+use Rattle.gcl_combine.specs.Farthest.{end_so_far, start_so_far}
+use Rattle.gcl_combine.proofs.BothOf.{first_start-both_so_far, last_end-both_so_far}
+use Rattle.gcl_combine.proofs.OneOf.{first_start-one, last_end-one}
 use Rattle.gcl_order.specs.Walks.{last_before, walk_backward}
 use Rattle.gcl_order.proofs.SeqAccess.{seq_forward, seq_backward}
-use Rattle.gcl_eval.specs.Directions.{own_access, opposite, beside, farther, farthest, IsAsFar, between, better, best, beyond, walk, join}
+use Rattle.gcl_eval.specs.Directions.{near_access, opposite, beside, farther, farthest, IsAsFar, between, better, best, beyond, walk, join}
 use Rattle.gcl_eval.specs.declared.direction.Direction.{Direction}
 use Rattle.gcl_eval.specs.declared.direction.Direction.TheVariants.{Forward, Backward}
 
 -- both of
-pub farthest-nil : (direction : Direction) (k side : ℕ) → farthest direction [] k side ≡ Some side
-farthest-nil Forward k side = refl
-farthest-nil Backward k side = refl
-
 pub farthest-cons : (direction : Direction) (list : List Extent) (lists : List (List Extent)) (k side : ℕ) →
-    farthest direction (list ∷ lists) k side ≡ option_and_then (λ a. farthest direction lists k (farther direction side a)) (own_access direction list k)
+    farthest direction (list ∷ lists) k side ≡ option_and_then (λ a. farthest direction lists k (farther direction side a)) (near_access direction list k)
 farthest-cons Forward list lists k side = refl
 farthest-cons Backward list lists k side = refl
 
-pub both_own : (direction : Direction) (text : Text) (forms : Forms) → 2 ≤ forms_count forms → (k : ℕ) →
-    own_access direction (concordance text (both forms)) k
+pub near_access-both : (direction : Direction) (text : Text) (forms : Forms) → 2 ≤ forms_count forms → (k : ℕ) →
+    near_access direction (concordance text (both forms)) k
     ≡ option_and_then (λ far. option_map (λ near. between direction near far) (farthest (opposite direction) (operands text forms) far far)) (farthest direction (operands text forms) k k)
-both_own Forward text forms several k = first_start-both text forms (omega arith) k
-both_own Backward text forms several k = last_end-both text forms (omega arith) k
+near_access-both Forward text forms several k = first_start-both_so_far text forms (omega arith) k
+near_access-both Backward text forms several k = last_end-both_so_far text forms (omega arith) k
 
-least_step : (lists : List (List Extent)) (k s : ℕ) → (o : Option Extent) → ((s u : ℕ) → least_start lists k s ≡ Some u → u ≤ s) → (u : ℕ) → option_and_then (λ a. least_start lists k (min s a.start)) o ≡ Some u → u ≤ s
+least_step : (lists : List (List Extent)) (k s : ℕ) → (o : Option Extent) → ((s u : ℕ) → start_so_far lists k s ≡ Some u → u ≤ s) → (u : ℕ) → option_and_then (λ a. start_so_far lists k (min s a.start)) o ≡ Some u → u ≤ s
 least_step lists k s None ih u e = absurd cc
 least_step lists k s (Some a) ih u e = let le : u ≤ min s a.start = ih (min s a.start) u e in omega arith
 
-least_start_le : (lists : List (List Extent)) (k s u : ℕ) → least_start lists k s ≡ Some u → u ≤ s
-least_start_le [] k s u e = let is : s ≡ u = cc in omega arith
-least_start_le (list ∷ lists) k s u e = least_step lists k s (last_end list k) (least_start_le lists k) u e
+start_so_far_le : (lists : List (List Extent)) (k s u : ℕ) → start_so_far lists k s ≡ Some u → u ≤ s
+start_so_far_le [] k s u e = let is : s ≡ u = cc in omega arith
+start_so_far_le (list ∷ lists) k s u e = least_step lists k s (last_end list k) (start_so_far_le lists k) u e
 
-greatest_step : (lists : List (List Extent)) (k s : ℕ) → (o : Option Extent) → ((s v : ℕ) → greatest_end lists k s ≡ Some v → s ≤ v) → (v : ℕ) → option_and_then (λ a. greatest_end lists k (max s a.end)) o ≡ Some v → s ≤ v
+greatest_step : (lists : List (List Extent)) (k s : ℕ) → (o : Option Extent) → ((s v : ℕ) → end_so_far lists k s ≡ Some v → s ≤ v) → (v : ℕ) → option_and_then (λ a. end_so_far lists k (max s a.end)) o ≡ Some v → s ≤ v
 greatest_step lists k s None ih v e = absurd cc
 greatest_step lists k s (Some a) ih v e = let le : max s a.end ≤ v = ih (max s a.end) v e in omega arith
 
-greatest_end_ge : (lists : List (List Extent)) (k s v : ℕ) → greatest_end lists k s ≡ Some v → s ≤ v
-greatest_end_ge [] k s v e = let is : s ≡ v = cc in omega arith
-greatest_end_ge (list ∷ lists) k s v e = greatest_step lists k s (first_start list k) (greatest_end_ge lists k) v e
+end_so_far_ge : (lists : List (List Extent)) (k s v : ℕ) → end_so_far lists k s ≡ Some v → s ≤ v
+end_so_far_ge [] k s v e = let is : s ≡ v = cc in omega arith
+end_so_far_ge (list ∷ lists) k s v e = greatest_step lists k s (first_start list k) (end_so_far_ge lists k) v e
 
 -- the way back leads to a place as far back as where it began
 pub back_is_as_far : (direction : Direction) (lists : List (List Extent)) (far near : ℕ) → Some near ≡ farthest (opposite direction) lists far far → IsAsFar direction near far
-back_is_as_far Forward lists far near e = least_start_le lists far far near (sym e)
-back_is_as_far Backward lists far near e = greatest_end_ge lists far far near (sym e)
+back_is_as_far Forward lists far near e = start_so_far_le lists far far near (sym e)
+back_is_as_far Backward lists far near e = end_so_far_ge lists far far near (sym e)
 
 -- one of
 pub best-nil : (direction : Direction) (k : ℕ) (o : Option Extent) → best direction [] k o ≡ o
@@ -59,19 +54,15 @@ best-nil Forward k o = refl
 best-nil Backward k o = refl
 
 pub best-cons : (direction : Direction) (list : List Extent) (lists : List (List Extent)) (k : ℕ) (o : Option Extent) →
-    best direction (list ∷ lists) k o ≡ best direction lists k (better direction o (own_access direction list k))
+    best direction (list ∷ lists) k o ≡ best direction lists k (better direction o (near_access direction list k))
 best-cons Forward list lists k o = refl
 best-cons Backward list lists k o = refl
 
-pub one_own : (direction : Direction) (text : Text) (forms : Forms) (k : ℕ) → own_access direction (concordance text (one forms)) k ≡ best direction (operands text forms) k None
-one_own Forward text forms k = first_start-one text forms k
-one_own Backward text forms k = last_end-one text forms k
+pub near_access-one : (direction : Direction) (text : Text) (forms : Forms) (k : ℕ) → near_access direction (concordance text (one forms)) k ≡ best direction (operands text forms) k None
+near_access-one Forward text forms k = first_start-one text forms k
+near_access-one Backward text forms k = last_end-one text forms k
 
 -- followed by
-pub walk-nil : (direction : Direction) (a : Extent) → walk direction [] a ≡ Some a
-walk-nil Forward a = refl
-walk-nil Backward a = refl
-
 itself : (o : Option Extent) → o ≡ option_and_then (walk_backward []) o
 itself None = refl
 itself (Some a) = refl
@@ -85,13 +76,13 @@ walk_from_end list [] a = itself (last_before list a)
 walk_from_end list (x ∷ lists) a = ap (option_and_then (last_before x)) (walk_from_end list lists a) ∙ later_first x lists (last_before list a)
 
 pub walk-beside : (direction : Direction) (list : List Extent) (lists : List (List Extent)) (a : Extent) →
-    walk direction (beside direction list lists) a ≡ option_and_then (walk direction lists) (option_and_then (own_access direction list) (beyond direction a))
+    walk direction (beside direction list lists) a ≡ option_and_then (walk direction lists) (option_and_then (near_access direction list) (beyond direction a))
 walk-beside Forward list lists a = refl
 walk-beside Backward list lists a = walk_from_end list lists a
 
-pub seq_own : (direction : Direction) (text : Text) (forms : Forms) (nearest farthest : List Extent) (after before : List (List Extent)) →
+pub near_access-seq : (direction : Direction) (text : Text) (forms : Forms) (nearest farthest : List Extent) (after before : List (List Extent)) →
     operands text forms ≡ beside direction nearest after → operands text forms ≡ beside (opposite direction) farthest before → (k : ℕ) →
-    own_access direction (concordance text (seq forms)) k
-    ≡ option_and_then (λ far. option_map (λ near. join direction near far) (walk (opposite direction) before far)) (option_and_then (walk direction after) (own_access direction nearest k))
-seq_own Forward text forms nearest farthest after before as_near as_far k = seq_forward text forms nearest farthest after before as_near as_far k
-seq_own Backward text forms nearest farthest after before as_near as_far k = seq_backward text forms farthest nearest before after as_far as_near k
+    near_access direction (concordance text (seq forms)) k
+    ≡ option_and_then (λ far. option_map (λ near. join direction near far) (walk (opposite direction) before far)) (option_and_then (walk direction after) (near_access direction nearest k))
+near_access-seq Forward text forms nearest farthest after before as_near as_far k = seq_forward text forms nearest farthest after before as_near as_far k
+near_access-seq Backward text forms nearest farthest after before as_near as_far k = seq_backward text forms farthest nearest before after as_far as_near k

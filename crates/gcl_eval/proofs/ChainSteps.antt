@@ -1,22 +1,22 @@
 -- One operand of a chain more: what the code of a chain keeps from operand to operand, and what it gives.
-use Rattle.std.proofs.Common.{◌≡◌, ℕ, ◌+◌, ◌<◌, ◌≤◌, ◌^◌, List, ◌∷◌, Option, Some, None, IfSome, get_or, drop, length, sym, ap, ◌∙◌, arith}
+use Rattle.std.proofs.Common.{◌≡◌, ℕ, ◌+◌, ◌<◌, ◌≤◌, List, ◌∷◌, Option, Some, None, IfSome, get_or, drop, length, sym, ap, ◌∙◌, arith}
 use Rattle.std.specs.Option.{option_map, option_and_then}
 use Rattle.std.proofs.lemmas.List.{drop_more, drop_all}
 use Rattle.gcl_model.specs.declared.expr.Expr.{Expr}
 use Rattle.gcl_model.specs.Extents.{Extent}
 use Rattle.gcl_model.specs.Texts.{Text, IsText}
+use Rattle.gcl_model.specs.Limits.{address_end, far}
 use Rattle.gcl_model.specs.FormOf.{form_of}
-use Rattle.gcl_model.specs.Forms.{Form}
+use Rattle.gcl_model.specs.Forms.{Form, both, one, seq}
 use Rattle.gcl_model.specs.Meaning.{concordance}
-use Rattle.gcl_eval.specs.Operands.{operand_forms, operand_lists, chain_list, IsChain}
-use Rattle.gcl_eval.specs.Directions.{own_access, other_access, opposite, beside, farther, farthest, between, better, best, beyond, walk, join, CanJoin, passed, resume}
-use Rattle.gcl_eval.specs.declared.chain.Chain.TheVariants.{BothOf, OneOf, FollowedBy}
+use Rattle.gcl_eval.specs.Operands.{operand_forms, operand_lists, AreOperands}
+use Rattle.gcl_eval.specs.Directions.{near_access, far_access, opposite, beside, farther, farthest, between, better, best, beyond, walk, join, CanJoin, passed, resume}
 use Rattle.gcl_eval.specs.declared.direction.Direction.{Direction}
 use Rattle.gcl_eval.specs.declared.direction.Direction.TheVariants.{Forward, Backward}
 use Rattle.gcl_eval.specs.declared.direction.Access.TheVariants.{FirstStart, LastEnd}
 use Rattle.gcl_eval.proofs.Found.{access_within, access_proper}
-use Rattle.gcl_eval.proofs.OtherForm.{other_by_own}
-use Rattle.gcl_eval.proofs.ChainRules.{farthest-cons, both_own, best-nil, best-cons, one_own, walk-beside, seq_own}
+use Rattle.gcl_eval.proofs.FarAccess.{far_access-by_near}
+use Rattle.gcl_eval.proofs.ChainRules.{farthest-cons, near_access-both, best-nil, best-cons, near_access-one, walk-beside, near_access-seq}
 use Rattle.gcl_eval.proofs.OperandLemmas.{lists_beside}
 
 -- the item of a slice at a place, and those after it
@@ -24,95 +24,95 @@ pub next_item : (exprs : List Expr) (i : ℕ) (x : Expr) → i < length exprs �
 next_item exprs i x lt is = drop_more exprs i x lt ∙ ap (λ y. y ∷ drop (i + 1) exprs) (sym is)
 
 module _ (direction : Direction) (text : Text) (rest others : List Expr) (x : Expr) (e : rest ≡ beside direction x others) where
-  walk_rule : (a : Extent) → walk direction (operand_lists text rest) a ≡ option_and_then (walk direction (operand_lists text others)) (option_and_then (own_access direction (concordance text (form_of x))) (beyond direction a))
+  walk_rule : (a : Extent) → walk direction (operand_lists text rest) a ≡ option_and_then (walk direction (operand_lists text others)) (option_and_then (near_access direction (concordance text (form_of x))) (beyond direction a))
   walk_rule a = ap (λ lists. walk direction lists a) (lists_beside direction text rest x others e) ∙ walk-beside direction (concordance text (form_of x)) (operand_lists text others) a
 
   pub walk_ends : (a : Extent) (all : Option Extent) → walk direction (operand_lists text rest) a ≡ all → None ≡ beyond direction a → None ≡ all
-  walk_ends a all kept none = ap (λ o. option_and_then (walk direction (operand_lists text others)) (option_and_then (own_access direction (concordance text (form_of x))) o)) none ∙ sym (walk_rule a) ∙ kept
+  walk_ends a all kept none = ap (λ o. option_and_then (walk direction (operand_lists text others)) (option_and_then (near_access direction (concordance text (form_of x))) o)) none ∙ sym (walk_rule a) ∙ kept
 
   pub walk_next : (a : Extent) (all : Option Extent) → walk direction (operand_lists text rest) a ≡ all → (from : ℕ) → Some from ≡ beyond direction a →
-      (o : Option Extent) → o ≡ own_access direction (concordance text (form_of x)) from → option_and_then (walk direction (operand_lists text others)) o ≡ all
+      (o : Option Extent) → o ≡ near_access direction (concordance text (form_of x)) from → option_and_then (walk direction (operand_lists text others)) o ≡ all
   walk_next a all kept from goes o is =
-      ap (option_and_then (walk direction (operand_lists text others))) (is ∙ ap (λ p. option_and_then (own_access direction (concordance text (form_of x))) p) goes) ∙ sym (walk_rule a) ∙ kept
+      ap (option_and_then (walk direction (operand_lists text others))) (is ∙ ap (λ p. option_and_then (near_access direction (concordance text (form_of x))) p) goes) ∙ sym (walk_rule a) ∙ kept
 
 module _ (direction : Direction) (text : Text) (rest others : List Expr) (x : Expr) (e : rest ≡ x ∷ others) where
   pub farthest_next : (k side : ℕ) (all : Option ℕ) → farthest direction (operand_lists text rest) k side ≡ all →
-      (o : Option Extent) → o ≡ own_access direction (concordance text (form_of x)) k → option_and_then (λ a. farthest direction (operand_lists text others) k (farther direction side a)) o ≡ all
+      (o : Option Extent) → o ≡ near_access direction (concordance text (form_of x)) k → option_and_then (λ a. farthest direction (operand_lists text others) k (farther direction side a)) o ≡ all
   farthest_next k side all kept o is =
       ap (option_and_then (λ a. farthest direction (operand_lists text others) k (farther direction side a))) is
       ∙ sym (ap (λ es. farthest direction (operand_lists text es) k side) e ∙ farthest-cons direction (concordance text (form_of x)) (operand_lists text others) k side) ∙ kept
 
   pub best_next : (k : ℕ) (so_far all : Option Extent) → best direction (operand_lists text rest) k so_far ≡ all →
-      (o : Option Extent) → o ≡ own_access direction (concordance text (form_of x)) k → best direction (operand_lists text others) k (better direction so_far o) ≡ all
+      (o : Option Extent) → o ≡ near_access direction (concordance text (form_of x)) k → best direction (operand_lists text others) k (better direction so_far o) ≡ all
   best_next k so_far all kept o is =
       ap (λ p. best direction (operand_lists text others) k (better direction so_far p)) is
       ∙ sym (ap (λ es. best direction (operand_lists text es) k so_far) e ∙ best-cons direction (concordance text (form_of x)) (operand_lists text others) k so_far) ∙ kept
 
-pub farther_below : (direction : Direction) (side : ℕ) (a : Extent) → side < 2 ^ 62 → a.end < 2 ^ 48 → farther direction side a < 2 ^ 62
+pub farther_below : (direction : Direction) (side : ℕ) (a : Extent) → side < far → a.end < address_end → farther direction side a < far
 farther_below Forward side a p q = omega arith
 farther_below Backward side a p q = omega arith
 
 -- the best of all operands, where none is left
 pub best_all : (direction : Direction) (text : Text) (exprs : List Expr) (i k : ℕ) (so_far : Option Extent) → length exprs ≤ i →
-    best direction (operand_lists text (drop i exprs)) k so_far ≡ best direction (operand_lists text exprs) k None → so_far ≡ own_access direction (chain_list text OneOf exprs) k
+    best direction (operand_lists text (drop i exprs)) k so_far ≡ best direction (operand_lists text exprs) k None → so_far ≡ near_access direction (concordance text (one (operand_forms exprs))) k
 best_all direction text exprs i k so_far le kept =
-    sym (ap (λ es. best direction (operand_lists text es) k so_far) (drop_all i exprs le) ∙ best-nil direction k so_far) ∙ kept ∙ sym (one_own direction text (operand_forms exprs) k)
+    sym (ap (λ es. best direction (operand_lists text es) k so_far) (drop_all i exprs le) ∙ best-nil direction k so_far) ∙ kept ∙ sym (near_access-one direction text (operand_forms exprs) k)
 
 -- both of
-module _ (direction : Direction) (text : Text) (exprs : List Expr) (several : IsChain (operand_forms exprs)) (k : ℕ) where
+module _ (direction : Direction) (text : Text) (exprs : List Expr) (several : AreOperands (operand_forms exprs)) (k : ℕ) where
   pub both_far : (o : Option ℕ) → o ≡ farthest direction (operand_lists text exprs) k k →
-      option_and_then (λ far. option_map (λ near. between direction near far) (farthest (opposite direction) (operand_lists text exprs) far far)) o ≡ own_access direction (chain_list text BothOf exprs) k
+      option_and_then (λ far. option_map (λ near. between direction near far) (farthest (opposite direction) (operand_lists text exprs) far far)) o ≡ near_access direction (concordance text (both (operand_forms exprs))) k
   both_far o is =
       ap (option_and_then (λ far. option_map (λ near. between direction near far) (farthest (opposite direction) (operand_lists text exprs) far far))) is
-      ∙ sym (both_own direction text (operand_forms exprs) several.several k)
+      ∙ sym (near_access-both direction text (operand_forms exprs) several.several k)
 
   pub both_near : (far : ℕ) → Some far ≡ farthest direction (operand_lists text exprs) k k → (o : Option ℕ) → o ≡ farthest (opposite direction) (operand_lists text exprs) far far →
-      option_map (λ near. between direction near far) o ≡ own_access direction (chain_list text BothOf exprs) k
+      option_map (λ near. between direction near far) o ≡ near_access direction (concordance text (both (operand_forms exprs))) k
   both_near far found o is = ap (option_map (λ near. between direction near far)) is ∙ both_far (Some far) found
 
 -- followed by
 module _ (direction : Direction) (text : Text) (exprs after before : List Expr) (nearest farthest : Expr)
     (as_near : exprs ≡ beside direction nearest after) (as_far : exprs ≡ beside (opposite direction) farthest before) (k : ℕ) where
-  seq_rule : own_access direction (chain_list text FollowedBy exprs) k
+  seq_rule : near_access direction (concordance text (seq (operand_forms exprs))) k
       ≡ option_and_then (λ far. option_map (λ near. join direction near far) (walk (opposite direction) (operand_lists text before) far))
-      (option_and_then (walk direction (operand_lists text after)) (own_access direction (concordance text (form_of nearest)) k))
-  seq_rule = seq_own direction text (operand_forms exprs) (concordance text (form_of nearest)) (concordance text (form_of farthest)) (operand_lists text after) (operand_lists text before)
+      (option_and_then (walk direction (operand_lists text after)) (near_access direction (concordance text (form_of nearest)) k))
+  seq_rule = near_access-seq direction text (operand_forms exprs) (concordance text (form_of nearest)) (concordance text (form_of farthest)) (operand_lists text after) (operand_lists text before)
       (lists_beside direction text exprs nearest after as_near) (lists_beside (opposite direction) text exprs farthest before as_far) k
 
-  pub seq_found : (o : Option Extent) → o ≡ own_access direction (concordance text (form_of nearest)) k →
+  pub seq_found : (o : Option Extent) → o ≡ near_access direction (concordance text (form_of nearest)) k →
       option_and_then (λ far. option_map (λ near. join direction near far) (walk (opposite direction) (operand_lists text before) far)) (option_and_then (walk direction (operand_lists text after)) o)
-      ≡ own_access direction (chain_list text FollowedBy exprs) k
+      ≡ near_access direction (concordance text (seq (operand_forms exprs))) k
   seq_found o is =
       ap (λ p. option_and_then (λ far. option_map (λ near. join direction near far) (walk (opposite direction) (operand_lists text before) far)) (option_and_then (walk direction (operand_lists text after)) p)) is
       ∙ sym seq_rule
 
-  pub seq_far : (found : Extent) → Some found ≡ own_access direction (concordance text (form_of nearest)) k → (o : Option Extent) → o ≡ walk direction (operand_lists text after) found →
-      option_and_then (λ far. option_map (λ near. join direction near far) (walk (opposite direction) (operand_lists text before) far)) o ≡ own_access direction (chain_list text FollowedBy exprs) k
+  pub seq_far : (found : Extent) → Some found ≡ near_access direction (concordance text (form_of nearest)) k → (o : Option Extent) → o ≡ walk direction (operand_lists text after) found →
+      option_and_then (λ far. option_map (λ near. join direction near far) (walk (opposite direction) (operand_lists text before) far)) o ≡ near_access direction (concordance text (seq (operand_forms exprs))) k
   seq_far found at o is =
       ap (option_and_then (λ far. option_map (λ near. join direction near far) (walk (opposite direction) (operand_lists text before) far))) is ∙ seq_found (Some found) at
 
-  pub seq_near : (found far : Extent) → Some found ≡ own_access direction (concordance text (form_of nearest)) k → Some far ≡ walk direction (operand_lists text after) found →
-      (o : Option Extent) → o ≡ walk (opposite direction) (operand_lists text before) far → option_map (λ near. join direction near far) o ≡ own_access direction (chain_list text FollowedBy exprs) k
+  pub seq_near : (found far : Extent) → Some found ≡ near_access direction (concordance text (form_of nearest)) k → Some far ≡ walk direction (operand_lists text after) found →
+      (o : Option Extent) → o ≡ walk (opposite direction) (operand_lists text before) far → option_map (λ near. join direction near far) o ≡ near_access direction (concordance text (seq (operand_forms exprs))) k
   seq_near found far at goes o is = ap (option_map (λ near. join direction near far)) is ∙ seq_far found at (Some far) goes
 
 can_join : (direction : Direction) (near far : Extent) → (join direction near far).start ≤ (join direction near far).end → CanJoin direction near far
 can_join Forward near far le = le
 can_join Backward near far le = le
 
-own_proper : (direction : Direction) (text : Text) (form : Form) (k : ℕ) (a : Extent) → Some a ≡ own_access direction (concordance text form) k → a.start ≤ a.end
-own_proper Forward text form k a is = access_proper FirstStart text form k a is
-own_proper Backward text form k a is = access_proper LastEnd text form k a is
+near_proper : (direction : Direction) (text : Text) (form : Form) (k : ℕ) (a : Extent) → Some a ≡ near_access direction (concordance text form) k → a.start ≤ a.end
+near_proper Forward text form k a is = access_proper FirstStart text form k a is
+near_proper Backward text form k a is = access_proper LastEnd text form k a is
 
-pub joins : (direction : Direction) (text : Text) (form : Form) (k : ℕ) (near far : Extent) → Some (join direction near far) ≡ own_access direction (concordance text form) k → CanJoin direction near far
-joins direction text form k near far is = can_join direction near far (own_proper direction text form k (join direction near far) is)
+pub joins : (direction : Direction) (text : Text) (form : Form) (k : ℕ) (near far : Extent) → Some (join direction near far) ≡ near_access direction (concordance text form) k → CanJoin direction near far
+joins direction text form k near far is = can_join direction near far (near_proper direction text form k (join direction near far) is)
 
 -- what a chain's own access gives lies within the addresses
-pub own_within : (direction : Direction) (text : Text) (form : Form) (k : ℕ) (o : Option Extent) → IsText text → o ≡ own_access direction (concordance text form) k → IfSome o (λ a. a.end < 2 ^ 48)
-own_within Forward text form k o sound is = access_within FirstStart text form k o sound is
-own_within Backward text form k o sound is = access_within LastEnd text form k o sound is
+pub near_within : (direction : Direction) (text : Text) (form : Form) (k : ℕ) (o : Option Extent) → IsText text → o ≡ near_access direction (concordance text form) k → IfSome o (λ a. a.end < address_end)
+near_within Forward text form k o sound is = access_within FirstStart text form k o sound is
+near_within Backward text form k o sound is = access_within LastEnd text form k o sound is
 
 -- the other form
-pub other_ends : (direction : Direction) (text : Text) (form : Form) (k : ℕ) (o : Option Extent) → o ≡ passed direction (concordance text form) text.next k →
-    (p : Option ℕ) → p ≡ resume direction text.first text.next o → option_and_then (own_access direction (concordance text form)) p ≡ other_access direction (concordance text form) k
-other_ends direction text form k o is p from =
-    ap (option_and_then (own_access direction (concordance text form))) (from ∙ ap (resume direction text.first text.next) is) ∙ sym (other_by_own text form direction k)
+pub far_ends : (direction : Direction) (text : Text) (form : Form) (k : ℕ) (o : Option Extent) → o ≡ passed direction (concordance text form) text.next k →
+    (p : Option ℕ) → p ≡ resume direction text.first text.next o → option_and_then (near_access direction (concordance text form)) p ≡ far_access direction (concordance text form) k
+far_ends direction text form k o is p from =
+    ap (option_and_then (near_access direction (concordance text form))) (from ∙ ap (resume direction text.first text.next) is) ∙ sym (far_access-by_near text form direction k)

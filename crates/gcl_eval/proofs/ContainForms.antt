@@ -1,7 +1,8 @@
 -- A containment by its kind and its two operands: its form, its list, its cost.
-use Rattle.std.proofs.Common.{◌≡◌, ℕ, ◌<◌, ◌≤◌, ◌^◌, Option, Some, None, IfSome, refl, sym, ap, ◌∙◌, subst, arith, filter}
+use Rattle.std.proofs.Common.{◌≡◌, ℕ, ◌<◌, ◌≤◌, Option, Some, None, IfSome, refl, sym, ap, ◌∙◌, subst, arith, filter}
 use Rattle.gcl_model.specs.Extents.{Extent}
 use Rattle.gcl_model.specs.Texts.{Text, IsText}
+use Rattle.gcl_model.specs.Limits.{address_end, far}
 use Rattle.gcl_model.specs.Forms.{Form}
 use Rattle.gcl_model.specs.WellFormed.{IsWellFormed}
 use Rattle.gcl_model.specs.Meaning.{concordance}
@@ -14,8 +15,8 @@ use Rattle.gcl_eval.specs.declared.containment.Containment.TheVariants.{Containi
 use Rattle.gcl_eval.specs.declared.direction.Access.{Access}
 use Rattle.gcl_eval.specs.declared.direction.Direction.{Direction}
 use Rattle.gcl_eval.specs.declared.direction.Direction.TheVariants.{Forward, Backward}
-use Rattle.gcl_eval.proofs.Found.{access_gives, member_of_text}
-use Rattle.gcl_eval.proofs.Containments.{IsKept, IsWithin}
+use Rattle.gcl_eval.proofs.Found.{access_proper}
+use Rattle.gcl_eval.proofs.ContainLoops.{IsKept, IsWithin}
 
 -- both operands are well formed
 pub record AreBothOperands (a b : Form) : Type 0 where
@@ -54,15 +55,11 @@ module _ (containment : Containment) (e a b : Form) (is : e ≡ contain_form con
   pub contain_cost : (text : Text) (bound : ℕ) → cost text bound e ≡ turns_cost text a b (cost text bound a) (cost text bound b)
   contain_cost text bound = ap (cost text bound) is ∙ costs containment text bound a b
 
--- what an access gives lies within the addresses
-pub access_spans : (access : Access) (text : Text) (form : Form) (k : ℕ) (o : Option Extent) → IsText text → o ≡ access_of access (concordance text form) k → IfSome o IsWithin
-access_spans access text form k None sound is = tt
-access_spans access text form k (Some a) sound is =
-    let of = member_of_text text form a (access_gives access (concordance text form) k a (sym is)) in
-    let below : a.end < text.next = of.below in
-    let bound : text.next ≤ 2 ^ 48 = sound.in_range in
-    record { proper = of.proper; below = omega arith }
+-- what an access gives is an interval of the addresses
+pub access_spans : (access : Access) (text : Text) (form : Form) (k : ℕ) (o : Option Extent) → IfSome o (λ a. a.end < address_end) → o ≡ access_of access (concordance text form) k → IfSome o IsWithin
+access_spans access text form k None below is = tt
+access_spans access text form k (Some a) below is = record { proper = access_proper access text form k a is; below = below }
 
-pub spans_below : (o : Option Extent) → IfSome o IsWithin → IfSome o (λ b. b.end < 2 ^ 62)
+pub spans_below : (o : Option Extent) → IfSome o IsWithin → IfSome o (λ b. b.end < far)
 spans_below None w = tt
-spans_below (Some b) w = let v : IsWithin b = w in let x : b.end < 2 ^ 48 = v.below in omega arith
+spans_below (Some b) w = let v : IsWithin b = w in let x : b.end < address_end = v.below in omega arith

@@ -1,10 +1,12 @@
 -- The eight loops of the containments: what a loop keeps from member to member, and how many turns it takes.
-use Rattle.std.proofs.Common.{◌≡◌, ℕ, ◌+◌, ◌*◌, ◌<◌, ◌≤◌, ◌^◌, Bool, leb, min, List, length, Option, Some, None, IfSome, inl, inr, sym, ap, ◌∙◌, arith, le_refl, filter, find}
+use Rattle.std.proofs.Common.{◌≡◌, ℕ, ◌+◌, ◌*◌, ◌<◌, ◌≤◌, Bool, leb, min, List, length, Option, Some, None, IfSome, inl, inr, sym, ap, ◌∙◌, arith, le_refl, filter, find}
 use Rattle.std.proofs.Math.Nat.{mul-le-mul_left}
 use Rattle.std.proofs.lemmas.Bool.{true≢false, leb-true, le-leb, cases_lt}
 use Rattle.gcl_model.specs.Extents.{Extent, IsRising}
 use Rattle.gcl_model.specs.Access.{find_last}
-use Rattle.gcl_model.specs.Turns.{accept, go_to, finish}
+use Rattle.gcl_model.specs.Limits.{address_end, far}
+use Rattle.gcl_contain.specs.Moves.{accept, go_to, finish}
+use Rattle.gcl_model.proofs.Covers.{find_agree_on, find_last_agree_on}
 use Rattle.gcl_model.proofs.Minimal.{has_filter, same_truth}
 use Rattle.gcl_contain.specs.Laws.{ForwardIsRight, BackwardIsRight}
 use Rattle.gcl_contain.proofs.Accesses.{IsPlace, start_is_place, end_is_place, found_first, found_last}
@@ -20,7 +22,6 @@ use Rattle.gcl_eval.specs.declared.direction.Access.{Access}
 use Rattle.gcl_eval.specs.declared.direction.Access.TheVariants.{FirstStart, FirstEnd, LastEnd, LastStart}
 use Rattle.gcl_eval.specs.declared.direction.Direction.{Direction}
 use Rattle.gcl_eval.specs.declared.direction.Direction.TheVariants.{Forward, Backward}
-use Rattle.gcl_eval.proofs.Found.{find_agree_on, find_last_agree_on}
 
 -- what is known of each loop
 forward_rises : (containment : Containment) → IsPlace (loop_of Forward containment).place
@@ -270,25 +271,25 @@ module _ (containment : Containment) (members others node : List Extent) (r : Is
 -- the place where the loop goes on is an address, or the one behind the last
 pub record IsWithin (b : Extent) : Type 0 where
   pub proper : b.start ≤ b.end
-  pub below : b.end < 2 ^ 48
+  pub below : b.end < address_end
 
-pub goes_below : (direction : Direction) (containment : Containment) (a : Extent) (o : Option Extent) (next : ℕ) → IfSome o IsWithin → go_to next ≡ (loop_of direction containment).move a o → next < 2 ^ 62
+pub goes_below : (direction : Direction) (containment : Containment) (a : Extent) (o : Option Extent) (next : ℕ) → IfSome o IsWithin → go_to next ≡ (loop_of direction containment).move a o → next < far
 goes_below Forward Containing a None next w is = let h : go_to next ≡ finish = is in absurd cc
-goes_below Forward Containing a (Some b) next w is = let v : IsWithin b = w in let x : b.start ≤ b.end = v.proper in let y : b.end < 2 ^ 48 = v.below in let g = (containing_goes a b next (sym is)).1 in omega arith
+goes_below Forward Containing a (Some b) next w is = let v : IsWithin b = w in let x : b.start ≤ b.end = v.proper in let y : b.end < address_end = v.below in let g = (containing_goes a b next (sym is)).1 in omega arith
 goes_below Forward ContainedIn a None next w is = let h : go_to next ≡ finish = is in absurd cc
-goes_below Forward ContainedIn a (Some b) next w is = let v : IsWithin b = w in let x : b.start ≤ b.end = v.proper in let y : b.end < 2 ^ 48 = v.below in let g = (contained_in_goes a b next (sym is)).1 in omega arith
+goes_below Forward ContainedIn a (Some b) next w is = let v : IsWithin b = w in let x : b.start ≤ b.end = v.proper in let y : b.end < address_end = v.below in let g = (contained_in_goes a b next (sym is)).1 in omega arith
 goes_below Forward NotContaining a None next w is = let h : go_to next ≡ accept = is in absurd cc
-goes_below Forward NotContaining a (Some b) next w is = let v : IsWithin b = w in let x : b.start ≤ b.end = v.proper in let y : b.end < 2 ^ 48 = v.below in let g = (not_containing_goes a b next (sym is)).1 in omega arith
+goes_below Forward NotContaining a (Some b) next w is = let v : IsWithin b = w in let x : b.start ≤ b.end = v.proper in let y : b.end < address_end = v.below in let g = (not_containing_goes a b next (sym is)).1 in omega arith
 goes_below Forward NotContainedIn a None next w is = let h : go_to next ≡ accept = is in absurd cc
-goes_below Forward NotContainedIn a (Some b) next w is = let v : IsWithin b = w in let x : b.start ≤ b.end = v.proper in let y : b.end < 2 ^ 48 = v.below in let g = (not_contained_in_goes a b next (sym is)).1 in omega arith
+goes_below Forward NotContainedIn a (Some b) next w is = let v : IsWithin b = w in let x : b.start ≤ b.end = v.proper in let y : b.end < address_end = v.below in let g = (not_contained_in_goes a b next (sym is)).1 in omega arith
 goes_below Backward Containing a None next w is = let h : go_to next ≡ finish = is in absurd cc
-goes_below Backward Containing a (Some b) next w is = let v : IsWithin b = w in let x : b.start ≤ b.end = v.proper in let y : b.end < 2 ^ 48 = v.below in let g = (containing_back_goes a b next (sym is)).1 in omega arith
+goes_below Backward Containing a (Some b) next w is = let v : IsWithin b = w in let x : b.start ≤ b.end = v.proper in let y : b.end < address_end = v.below in let g = (containing_back_goes a b next (sym is)).1 in omega arith
 goes_below Backward ContainedIn a None next w is = let h : go_to next ≡ finish = is in absurd cc
-goes_below Backward ContainedIn a (Some b) next w is = let v : IsWithin b = w in let x : b.start ≤ b.end = v.proper in let y : b.end < 2 ^ 48 = v.below in let g = (contained_in_back_goes a b next (sym is)).1 in omega arith
+goes_below Backward ContainedIn a (Some b) next w is = let v : IsWithin b = w in let x : b.start ≤ b.end = v.proper in let y : b.end < address_end = v.below in let g = (contained_in_back_goes a b next (sym is)).1 in omega arith
 goes_below Backward NotContaining a None next w is = let h : go_to next ≡ accept = is in absurd cc
-goes_below Backward NotContaining a (Some b) next w is = let v : IsWithin b = w in let x : b.start ≤ b.end = v.proper in let y : b.end < 2 ^ 48 = v.below in let g = (not_containing_back_goes a b next (sym is)).1 in omega arith
+goes_below Backward NotContaining a (Some b) next w is = let v : IsWithin b = w in let x : b.start ≤ b.end = v.proper in let y : b.end < address_end = v.below in let g = (not_containing_back_goes a b next (sym is)).1 in omega arith
 goes_below Backward NotContainedIn a None next w is = let h : go_to next ≡ accept = is in absurd cc
-goes_below Backward NotContainedIn a (Some b) next w is = let v : IsWithin b = w in let x : b.start ≤ b.end = v.proper in let y : b.end < 2 ^ 48 = v.below in let g = (not_contained_in_back_goes a b next (sym is)).1 in omega arith
+goes_below Backward NotContainedIn a (Some b) next w is = let v : IsWithin b = w in let x : b.start ≤ b.end = v.proper in let y : b.end < address_end = v.below in let g = (not_contained_in_back_goes a b next (sym is)).1 in omega arith
 
 -- the bound: `first` and `second` look-ups a turn, `most` turns that go on, and two accesses more
 pub no_more_turns : (entry before first second turn most : ℕ) → before ≤ entry + first + turn * (first + second) → turn ≤ most → (new : ℕ) → new ≤ before + second → new ≤ entry + (most + 2) * (first + second)

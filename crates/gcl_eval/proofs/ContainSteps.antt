@@ -5,14 +5,14 @@ use Rattle.gcl_model.specs.Texts.{Text}
 use Rattle.gcl_model.specs.Forms.{Form}
 use Rattle.gcl_model.specs.Meaning.{concordance}
 use Rattle.gcl_model.specs.Cost.{cost}
-use Rattle.gcl_model.specs.Turns.{accept, go_to, finish}
+use Rattle.gcl_contain.specs.Moves.{accept, go_to, finish}
 use Rattle.gcl_model.proofs.Meanings.{concordance_rises}
 use Rattle.gcl_eval.specs.Containments.{contain_form, loop_of, goes_by}
 use Rattle.gcl_eval.specs.Directions.{access_of, direction_of}
 use Rattle.gcl_eval.specs.declared.containment.Containment.{Containment}
 use Rattle.gcl_eval.specs.declared.direction.Access.{Access}
 use Rattle.gcl_eval.specs.declared.direction.Direction.{Direction}
-use Rattle.gcl_eval.proofs.Containments.{IsAt, turns, turns_le, enters, enters_none, accepts, finishes, ends, goes_on, more_turns, first_alone, and_more, no_more_turns, turns_end, one_turn_more}
+use Rattle.gcl_eval.proofs.ContainLoops.{IsAt, turns, turns_le, enters, enters_none, accepts, finishes, ends, goes_on, more_turns, first_alone, and_more, no_more_turns, turns_end, one_turn_more}
 use Rattle.gcl_eval.proofs.ContainForms.{contain_kept, contain_cost}
 
 module _ (containment : Containment) (text : Text) (e a b : Form) (is : e ≡ contain_form containment a b) where

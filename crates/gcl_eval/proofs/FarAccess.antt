@@ -8,15 +8,15 @@ use Rattle.gcl_model.specs.Texts.{Text}
 use Rattle.gcl_model.specs.Forms.{Form}
 use Rattle.gcl_model.specs.Meaning.{concordance}
 use Rattle.gcl_model.specs.Access.{first_start, first_end, last_end, last_start}
-use Rattle.gcl_model.proofs.Covers.{Has, find_gives, covered_from, covers_by_first_start, ends_by, same_member}
-use Rattle.gcl_model.proofs.Minimal.{same_truth, all_from_has}
+use Rattle.gcl_model.proofs.Covers.{Has, find_gives, covered_from, covers_by_first_start, ends_by, same_member, find_last_agree_on, all_from_has}
+use Rattle.gcl_model.proofs.Minimal.{same_truth}
 use Rattle.gcl_model.proofs.Meanings.{concordance_rises}
 use Rattle.gcl_model.proofs.Other.{first_end_after, first_end_first}
 use Rattle.gcl_order.specs.Walks.{address_before}
-use Rattle.gcl_eval.specs.Directions.{own_access, other_access, passed, resume}
+use Rattle.gcl_eval.specs.Directions.{near_access, far_access, passed, resume}
 use Rattle.gcl_eval.specs.declared.direction.Direction.{Direction}
 use Rattle.gcl_eval.specs.declared.direction.Direction.TheVariants.{Forward, Backward}
-use Rattle.gcl_eval.proofs.Found.{find_last_agree_on, member_of_text}
+use Rattle.gcl_eval.proofs.Found.{member_of_text}
 
 -- forward
 first_end_from_0 : (list : List Extent) (first : ℕ) → AllByRecursion (λ a. first ≤ a.start) list → first_end list 0 ≡ first_start list first
@@ -94,9 +94,9 @@ module _ (text : Text) (form : Form) where
             (omega arith, below)))
       ]
 
-  pub other_by_own : (direction : Direction) (k : ℕ) →
-      other_access direction (concordance text form) k ≡ option_and_then (own_access direction (concordance text form)) (resume direction text.first text.next (passed direction (concordance text form) text.next k))
-  other_by_own Forward k =
+  pub far_access-by_near : (direction : Direction) (k : ℕ) →
+      far_access direction (concordance text form) k ≡ option_and_then (near_access direction (concordance text form)) (resume direction text.first text.next (passed direction (concordance text form) text.next k))
+  far_access-by_near Forward k =
       other_forward (concordance text form) (concordance_rises text form) text.first text.next
       (all_from_has (λ a. text.first ≤ a.start) (concordance text form) (λ a m. (member_of_text text form a m).above)) k
-  other_by_own Backward k = other_backward k
+  far_access-by_near Backward k = other_backward k

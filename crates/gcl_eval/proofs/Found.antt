@@ -1,7 +1,8 @@
 -- Members that accesses find.
-use Rattle.std.proofs.Common.{◌≡◌, ℕ, ◌<◌, ◌≤◌, ◌^◌, Bool, cond, leb, List, [], ◌∷◌, Option, Some, None, IfSome, refl, sym, ap, arith, inl, inr, find}
+use Rattle.std.proofs.Common.{◌≡◌, ℕ, ◌<◌, ◌≤◌, Bool, cond, leb, List, [], ◌∷◌, Option, Some, None, IfSome, refl, sym, ap, arith, inl, inr, find}
 use Rattle.gcl_model.specs.Extents.{Extent}
 use Rattle.gcl_model.specs.Texts.{Text, IsText}
+use Rattle.gcl_model.specs.Limits.{address_end}
 use Rattle.gcl_model.specs.Forms.{Form}
 use Rattle.gcl_model.specs.Meaning.{concordance, denotes}
 use Rattle.gcl_model.specs.Access.{later_or, find_last}
@@ -10,15 +11,6 @@ use Rattle.gcl_model.proofs.Meanings.{IsOf, each_of_text}
 use Rattle.gcl_eval.specs.Directions.{access_of}
 use Rattle.gcl_eval.specs.declared.direction.Access.{Access}
 use Rattle.gcl_eval.specs.declared.direction.Access.TheVariants.{FirstStart, FirstEnd, LastEnd, LastStart}
-
--- two tests that agree on the members find the same
-pub find_agree_on : (p q : Extent → Bool) (list : List Extent) → ((x : Extent) → Has list x → p x ≡ q x) → find p list ≡ find q list
-find_agree_on p q [] same = refl
-find_agree_on p q (x ∷ xs) same = rw (same x (inl refl)) (ap (λ rest. cond (q x) (Some x) rest) (find_agree_on p q xs (λ y m. same y (inr m))))
-
-pub find_last_agree_on : (p q : Extent → Bool) (list : List Extent) → ((x : Extent) → Has list x → p x ≡ q x) → find_last p list ≡ find_last q list
-find_last_agree_on p q [] same = refl
-find_last_agree_on p q (x ∷ xs) same = rw (same x (inl refl)) (ap (λ rest. later_or rest (cond (q x) (Some x) None)) (find_last_agree_on p q xs (λ y m. same y (inr m))))
 
 -- what an access gives is a member
 pub access_gives : (access : Access) (list : List Extent) (k : ℕ) (a : Extent) → access_of access list k ≡ Some a → Has list a
@@ -31,12 +23,12 @@ pub member_of_text : (text : Text) (form : Form) (a : Extent) → Has (concordan
 member_of_text text form a m = of_each (IsOf text) (concordance text form) a (each_of_text text (denotes text form)) m
 
 -- and it lies within the addresses
-pub access_within : (access : Access) (text : Text) (form : Form) (k : ℕ) (o : Option Extent) → IsText text → o ≡ access_of access (concordance text form) k → IfSome o (λ a. a.end < 2 ^ 48)
+pub access_within : (access : Access) (text : Text) (form : Form) (k : ℕ) (o : Option Extent) → IsText text → o ≡ access_of access (concordance text form) k → IfSome o (λ a. a.end < address_end)
 access_within access text form k None sound is = tt
 access_within access text form k (Some a) sound is =
     let of = member_of_text text form a (access_gives access (concordance text form) k a (sym is)) in
     let below : a.end < text.next = of.below in
-    let bound : text.next ≤ 2 ^ 48 = sound.in_range in
+    let bound : text.next ≤ address_end = sound.in_range in
     omega arith
 
 -- and it starts before it ends

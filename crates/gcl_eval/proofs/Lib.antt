@@ -1,12 +1,13 @@
 pub mod Found
+pub mod CostLemmas
 pub mod TermAccess
-pub mod OtherForm
+pub mod FarAccess
 pub mod ChainRules
 pub mod OperandLemmas
 pub mod ChainSteps
 pub mod Listing
 mod Worked
-pub mod Containments
+pub mod ContainLoops
 pub mod ContainExprs
 pub mod ContainForms
 pub mod ContainSteps

@@ -5,11 +5,8 @@ use Rattle.std.proofs.lemmas.List.{append-nil, length-append, take_all}
 use Rattle.std.proofs.Math.Seq.{take-append_seam}
 use Rattle.gcl_model.specs.Extents.{Extent, IsAhead, IsRising}
 use Rattle.gcl_model.specs.Access.{first_start}
+use Rattle.gcl_eval.specs.Members.{members_from}
 use Rattle.gcl_model.proofs.Covers.{Has, find_gives, of_each}
-
--- the members that start at k or later
-abbrev pub members_from : List Extent → ℕ → List Extent
-members_from list k = filter (λ a. leb k a.start) list
 
 all_pass : (test : Extent → Bool) (list : List Extent) → ((a : Extent) → Has list a → test a ≡ true) → filter test list ≡ list
 all_pass test [] all = refl
@@ -50,19 +47,20 @@ pub from_le : (list : List Extent) (k : ℕ) (a : Extent) → first_start list k
 from_le list k a is = leb-true k a.start (find_gives (λ y. leb k y.start) list a is).1
 
 -- what is put and what is left
-pub put_next : (list members : List Extent) (a : Extent) (k n : ℕ) → members ++ members_from list k ≡ list → members_from list k ≡ a ∷ members_from list n → (members ++ a ∷ []) ++ members_from list n ≡ list
-put_next list members a k n kept next = append_assoc members (a ∷ []) (members_from list n) ∙ ap (λ rest. members ++ rest) (sym next) ∙ kept
+module _ (list all members : List Extent) (k : ℕ) (kept : members ++ members_from list k ≡ all) where
+  pub put_next : (a : Extent) (n : ℕ) → members_from list k ≡ a ∷ members_from list n → (members ++ a ∷ []) ++ members_from list n ≡ all
+  put_next a n next = append_assoc members (a ∷ []) (members_from list n) ∙ ap (λ rest. members ++ rest) (sym next) ∙ kept
 
-pub put_counted : (members new : List Extent) (a : Extent) (n : ℕ) → length members ≡ n → new ≡ members ++ a ∷ [] → length new ≡ n + 1
-put_counted members new a n is put = ap length put ∙ omega (arith, length-append members (a ∷ []))
+  pub full : (most : ℕ) → length members ≡ most → members ≡ take most all
+  full most is = sym (ap (λ l. take most l) (sym kept) ∙ ap (λ n. take n (members ++ members_from list k)) (sym is) ∙ take-append_seam members (members_from list k))
 
-pub full : (list members : List Extent) (k most : ℕ) → members ++ members_from list k ≡ list → length members ≡ most → members ≡ take most list
-full list members k most kept is = sym (ap (λ l. take most l) (sym kept) ∙ ap (λ n. take n (members ++ members_from list k)) (sym is) ∙ take-append_seam members (members_from list k))
+  pub none_left : (most : ℕ) → first_start list k ≡ None → length members ≤ most → members ≡ take most all
+  none_left most none le =
+      let is : members ≡ all = sym (append-nil members) ∙ ap (λ rest. members ++ rest) (sym (no_member list k none)) ∙ kept in
+      is ∙ sym (take_all most all (subst (λ l. length l ≤ most) is le))
 
-pub none_left : (list members : List Extent) (k most : ℕ) → members ++ members_from list k ≡ list → first_start list k ≡ None → length members ≤ most → members ≡ take most list
-none_left list members k most kept none le =
-    let is : members ≡ list = sym (append-nil members) ∙ ap (λ rest. members ++ rest) (sym (no_member list k none)) ∙ kept in
-    is ∙ sym (take_all most list (subst (λ l. length l ≤ most) is le))
+pub put_counted : (members new : List Extent) (a : Extent) → new ≡ members ++ a ∷ [] → length new ≡ length members + 1
+put_counted members new a put = ap length put ∙ length-append members (a ∷ [])
 
 -- one access more
 pub one_more : (entry before after turns bound : ℕ) → before ≤ entry + turns * bound → after ≤ before + bound → after ≤ entry + (turns + 1) * bound

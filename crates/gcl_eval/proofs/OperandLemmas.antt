@@ -4,19 +4,17 @@ use denote.Param.Weighed.{most, most-append}
 use Rattle.gcl_model.specs.declared.expr.Expr.{Expr, Both, One, Seq, size-Expr}
 use Rattle.gcl_model.specs.Extents.{Extent}
 use Rattle.gcl_model.specs.Texts.{Text}
-use Rattle.gcl_model.specs.Forms.{both, one, seq}
+use Rattle.gcl_model.specs.Forms.{Form, both, one, seq}
 use Rattle.gcl_model.specs.FormOf.{form_of}
 use Rattle.gcl_model.specs.WellFormed.{IsWellFormed, AreWellFormed}
 use Rattle.gcl_model.specs.Meaning.{concordance}
 use Rattle.gcl_model.specs.Cost.{cost}
 use Rattle.gcl_model.proofs.FormLemmas.{form_of-Both, form_of-One, form_of-Seq}
-use Rattle.gcl_eval.specs.Operands.{operand_forms, operand_lists, operand_costs, chain_form, chain_list, IsChain}
-use Rattle.gcl_eval.specs.Directions.{beside, access_of}
-use Rattle.gcl_eval.specs.declared.chain.Chain.{Chain}
-use Rattle.gcl_eval.specs.declared.chain.Chain.TheVariants.{BothOf, OneOf, FollowedBy}
+use Rattle.gcl_eval.specs.Operands.{operand_forms, operand_lists, operand_costs}
+use Rattle.gcl_eval.specs.Costs.{near_cost}
+use Rattle.gcl_eval.specs.Directions.{near_access, beside}
 use Rattle.gcl_eval.specs.declared.direction.Direction.{Direction}
 use Rattle.gcl_eval.specs.declared.direction.Direction.TheVariants.{Forward, Backward}
-use Rattle.gcl_eval.specs.declared.direction.Access.{Access}
 
 lists_at_end : (text : Text) (x : Expr) (others : List Expr) → operand_lists text (others ++ x ∷ []) ≡ operand_lists text others ++ concordance text (form_of x) ∷ []
 lists_at_end text x [] = refl
@@ -64,32 +62,23 @@ depth_beside Backward exprs x others e =
     let is = ap (most size-Expr) e ∙ most-append size-Expr others (x ∷ []) in
     record { operand = omega arith; rest = omega arith }
 
--- the form of a chain
-pub both_form : (e : Expr) (v : Vec Expr Global) (exprs : List Expr) → e ≡ Both v → exprs ≡ v.items → form_of e ≡ chain_form BothOf (operand_forms exprs)
-both_form e v exprs is same = ap form_of is ∙ form_of-Both v ∙ ap (λ es. both (operand_forms es)) (sym same)
+-- the form of a chain, by its kind
+pub form-Both : (e : Expr) (v : Vec Expr Global) (exprs : List Expr) → e ≡ Both v → exprs ≡ v.items → form_of e ≡ both (operand_forms exprs)
+form-Both e v exprs is same = ap form_of is ∙ form_of-Both v ∙ ap (λ es. both (operand_forms es)) (sym same)
 
-pub one_form : (e : Expr) (v : Vec Expr Global) (exprs : List Expr) → e ≡ One v → exprs ≡ v.items → form_of e ≡ chain_form OneOf (operand_forms exprs)
-one_form e v exprs is same = ap form_of is ∙ form_of-One v ∙ ap (λ es. one (operand_forms es)) (sym same)
+pub form-One : (e : Expr) (v : Vec Expr Global) (exprs : List Expr) → e ≡ One v → exprs ≡ v.items → form_of e ≡ one (operand_forms exprs)
+form-One e v exprs is same = ap form_of is ∙ form_of-One v ∙ ap (λ es. one (operand_forms es)) (sym same)
 
-pub seq_form : (e : Expr) (v : Vec Expr Global) (exprs : List Expr) → e ≡ Seq v → exprs ≡ v.items → form_of e ≡ chain_form FollowedBy (operand_forms exprs)
-seq_form e v exprs is same = ap form_of is ∙ form_of-Seq v ∙ ap (λ es. seq (operand_forms es)) (sym same)
+pub form-Seq : (e : Expr) (v : Vec Expr Global) (exprs : List Expr) → e ≡ Seq v → exprs ≡ v.items → form_of e ≡ seq (operand_forms exprs)
+form-Seq e v exprs is same = ap form_of is ∙ form_of-Seq v ∙ ap (λ es. seq (operand_forms es)) (sym same)
 
-chain_parts : (chain : Chain) (exprs : List Expr) → IsWellFormed (chain_form chain (operand_forms exprs)) → IsChain (operand_forms exprs)
-chain_parts BothOf exprs w = record { several = w.0; operands = w.1 }
-chain_parts OneOf exprs w = record { several = w.0; operands = w.1 }
-chain_parts FollowedBy exprs w = record { several = w.0; operands = w.1 }
+-- what is known of an expression by its form
+module _ (e : Expr) (form : Form) (is : form_of e ≡ form) where
+  pub by_form-near : (direction : Direction) (text : Text) (k : ℕ) (o : Option Extent) → o ≡ near_access direction (concordance text form) k → o ≡ near_access direction (concordance text (form_of e)) k
+  by_form-near direction text k o found = found ∙ ap (λ f. near_access direction (concordance text f) k) (sym is)
 
-chain_cost : (chain : Chain) (text : Text) (bound : ℕ) (exprs : List Expr) → cost text bound (chain_form chain (operand_forms exprs)) ≡ 4 * operand_costs text bound exprs
-chain_cost BothOf text bound exprs = refl
-chain_cost OneOf text bound exprs = refl
-chain_cost FollowedBy text bound exprs = refl
+  pub by_form-cost : (text : Text) (most old new : ℕ) → new ≤ old + near_cost text most form → new ≤ old + near_cost text most (form_of e)
+  by_form-cost text most old new le = subst (λ f. new ≤ old + near_cost text most f) (sym is) le
 
-module _ (chain : Chain) (e : Expr) (exprs : List Expr) (form : form_of e ≡ chain_form chain (operand_forms exprs)) where
-  pub chain_operands : IsWellFormed (form_of e) → IsChain (operand_forms exprs)
-  chain_operands w = chain_parts chain exprs (subst IsWellFormed form w)
-
-  pub chain_answer : (text : Text) (access : Access) (k : ℕ) (o : Option Extent) → o ≡ access_of access (chain_list text chain exprs) k → o ≡ access_of access (concordance text (form_of e)) k
-  chain_answer text access k o is = is ∙ ap (λ f. access_of access (concordance text f) k) (sym form)
-
-  pub chain_costs : (text : Text) (bound steps new : ℕ) → new ≤ steps + 4 * operand_costs text bound exprs → new ≤ steps + cost text bound (form_of e)
-  chain_costs text bound steps new le = let is = ap (cost text bound) form ∙ chain_cost chain text bound exprs in omega arith
+  pub by_form-well_formed : IsWellFormed (form_of e) → IsWellFormed form
+  by_form-well_formed w = subst IsWellFormed is w

@@ -7,13 +7,12 @@ use Rattle.gcl_model.specs.Texts.{Text, IsText}
 use Rattle.gcl_model.specs.Forms.{term}
 use Rattle.gcl_model.specs.Meaning.{concordance, denotes}
 use Rattle.gcl_model.specs.Access.{first_start, first_end, last_end, last_start}
-use Rattle.gcl_model.proofs.Covers.{Has}
+use Rattle.gcl_model.proofs.Covers.{Has, find_agree_on, find_last_agree_on}
 use Rattle.gcl_model.proofs.Minimal.{has_filter}
 use Rattle.gcl_model.proofs.Places.{point, first_start-term_found, last_end-term_found}
 use Rattle.gcl_eval.specs.Directions.{access_of, place_of}
 use Rattle.gcl_eval.specs.declared.direction.Access.{Access}
 use Rattle.gcl_eval.specs.declared.direction.Access.TheVariants.{FirstStart, FirstEnd, LastEnd, LastStart}
-use Rattle.gcl_eval.proofs.Found.{find_agree_on, find_last_agree_on}
 
 -- each member starts where it ends
 starts_where_it_ends : (text : Text) (token : List ℕ) (a : Extent) → Has (concordance text (term token)) a → a.start ≡ a.end

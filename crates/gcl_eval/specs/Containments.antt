@@ -9,12 +9,14 @@ use Rattle.gcl_eval.specs.declared.containment.Containment.TheVariants.{Containi
 use Rattle.gcl_eval.specs.declared.direction.Direction.{Direction}
 use Rattle.gcl_eval.specs.declared.direction.Direction.TheVariants.{Forward, Backward}
 
+-- the form of a containment of this kind
 abbrev pub contain_form : Containment → Form → Form → Form
 contain_form Containing = containing
 contain_form ContainedIn = contained_in
 contain_form NotContaining = not_containing
 contain_form NotContainedIn = not_contained_in
 
+-- the form is a containment: "to" > "be" is one, and "to" is none
 abbrev pub IsContainment : Form → Type 0
 IsContainment (containing a b) = Unit {0}
 IsContainment (contained_in a b) = Unit {0}
@@ -22,7 +24,8 @@ IsContainment (not_containing a b) = Unit {0}
 IsContainment (not_contained_in a b) = Unit {0}
 IsContainment _ = ⊥
 
--- which members the loop keeps, by which end it goes through the first operand, what it asks of the second, and its move
+-- which members the loop keeps, by which end it goes through the first operand, what it asks of the second, and its move:
+-- forward that of "containing" goes by the members' ends
 abbrev pub loop_of : Direction → Containment → Kind
 loop_of Forward Containing = Kinds.containing
 loop_of Forward ContainedIn = Kinds.contained_in
@@ -33,7 +36,7 @@ loop_of Backward ContainedIn = Kinds.contained_in_back
 loop_of Backward NotContaining = Kinds.not_containing_back
 loop_of Backward NotContainedIn = Kinds.not_contained_in_back
 
--- the access of the first operand by which the loop goes on
+-- the access of the first operand by which the loop goes on: forward by ends, of (1, 2) and (5, 6) at 2 it gives (1, 2)
 abbrev pub goes_by : Direction → Kind → List Extent → ℕ → Option Extent
 goes_by Forward = first_from
 goes_by Backward = last_upto

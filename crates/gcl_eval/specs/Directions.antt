@@ -1,24 +1,26 @@
 -- The accesses, and what a chain does, by the direction in which its operands are gone through.
+-- Going forward, the near side of a member is its start and the far side its end; going backward it is the other way round.
 use Rattle.std.specs.Prelude.{◌≤◌, ℕ, ◌+◌, List, [], ◌∷◌, ◌++◌, Option, Some, None, min, max, nat_lt, if◌then◌else◌}
 use Rattle.std.specs.Option.{option_and_then}
 use Rattle.gcl_model.specs.Extents.{Extent, extent}
 use Rattle.gcl_model.specs.Texts.{Word, next_place, previous_place}
 use Rattle.gcl_model.specs.Access.{first_start, first_end, last_end, last_start}
-use Rattle.gcl_model.specs.Rules.{greatest_end, least_start, nearer}
-use Rattle.gcl_combine.specs.Better.{nearer_back, best_forward, best_backward}
+use Rattle.gcl_combine.specs.Farthest.{end_so_far, start_so_far}
+use Rattle.gcl_combine.specs.Better.{nearer, nearer_back, best_forward, best_backward}
 use Rattle.gcl_order.specs.Walks.{address_before, joined, walk_forward, walk_backward}
 use Rattle.gcl_eval.specs.declared.direction.Direction.{Direction}
 use Rattle.gcl_eval.specs.declared.direction.Direction.TheVariants.{Forward, Backward}
 use Rattle.gcl_eval.specs.declared.direction.Access.{Access}
 use Rattle.gcl_eval.specs.declared.direction.Access.TheVariants.{FirstStart, FirstEnd, LastEnd, LastStart}
 
+-- the member that an access gives: of (1, 2) and (5, 6) at 2, `FirstEnd` gives (1, 2) and `FirstStart` (5, 6)
 abbrev pub access_of : Access → List Extent → ℕ → Option Extent
 access_of FirstStart = first_start
 access_of FirstEnd = first_end
 access_of LastEnd = last_end
 access_of LastStart = last_start
 
--- the place of a term that the access finds
+-- the place of a term that the access finds, each of whose members starts where it ends: of 1 and 5 at 2, `FirstEnd` finds 5
 abbrev pub place_of : Access → List Word → List ℕ → ℕ → Option ℕ
 place_of FirstStart = next_place
 place_of FirstEnd = next_place
@@ -32,79 +34,87 @@ direction_of FirstEnd = Forward
 direction_of LastEnd = Backward
 direction_of LastStart = Backward
 
+-- the other way: of forward it is backward
 abbrev pub opposite : Direction → Direction
 opposite Forward = Backward
 opposite Backward = Forward
 
--- the access that a chain has by those of its operands in this direction
-abbrev pub own_access : Direction → List Extent → ℕ → Option Extent
-own_access Forward = first_start
-own_access Backward = last_end
+-- the access by the near sides, which a chain has by those of its operands: forward, of (1, 2) and (5, 6) at 2 it gives (5, 6)
+abbrev pub near_access : Direction → List Extent → ℕ → Option Extent
+near_access Forward = first_start
+near_access Backward = last_end
 
--- and the one that it has by its own accesses in both directions
-abbrev pub other_access : Direction → List Extent → ℕ → Option Extent
-other_access Forward = first_end
-other_access Backward = last_start
+-- the access by the far sides, which a chain has by its near ones: forward, of (1, 2) and (5, 6) at 2 it gives (1, 2)
+abbrev pub far_access : Direction → List Extent → ℕ → Option Extent
+far_access Forward = first_end
+far_access Backward = last_start
 
--- x comes before the others in this direction
+-- a list in which x comes before the others in this direction: backward, 3 beside 1, 2 gives 1, 2, 3
 abbrev pub beside : {X : Type 0} → Direction → X → List X → List X
 beside Forward x others = x ∷ others
 beside Backward x others = others ++ x ∷ []
 
--- both of
+-- both of: the farther of a place and of the far side of an answer; forward, of 4 and (1, 6) it is 6
 abbrev pub farther : Direction → ℕ → Extent → ℕ
 farther Forward so_far a = max so_far a.end
 farther Backward so_far a = min so_far a.start
 
-abbrev pub farthest : Direction → List (List Extent) → ℕ → ℕ → Option ℕ
-farthest Forward = greatest_end
-farthest Backward = least_start
+-- the farthest of a place and of the far sides of the lists' answers at k; forward, of 4 and the answers (1, 6) and (2, 3) it is 6
+abbrev pub farthest : Direction → List (List Extent) → (k so_far : ℕ) → Option ℕ
+farthest Forward = end_so_far
+farthest Backward = start_so_far
 
--- v lies as far as u in this direction, or farther
+-- v lies as far as u in this direction, or farther: forward, 4 lies as far as 3
 abbrev pub IsAsFar : Direction → ℕ → ℕ → Type 0
 IsAsFar Forward u v = u ≤ v
 IsAsFar Backward u v = v ≤ u
 
+-- the interval with these sides: backward, from the near side 6 to the far side 4 it is (4, 6)
 abbrev pub between : Direction → ℕ → ℕ → Extent
 between Forward near far = extent near far
 between Backward near far = extent far near
 
--- one of
+-- one of: the answer that comes first in this direction; forward, of (1, 6) and (2, 4) it is (2, 4)
 abbrev pub better : Direction → Option Extent → Option Extent → Option Extent
 better Forward = nearer
 better Backward = nearer_back
 
+-- the best of an answer and of the lists' answers at k; forward, of none, (2, 5) and (3, 4) it is (3, 4)
 abbrev pub best : Direction → List (List Extent) → ℕ → Option Extent → Option Extent
 best Forward = best_forward
 best Backward = best_backward
 
--- followed by
+-- followed by: where the operand after this answer is asked, if anywhere; forward, after (1, 2) it is 3
 abbrev pub beyond : Direction → Extent → Option ℕ
 beyond Forward a = Some (a.end + 1)
 beyond Backward a = address_before a.start
 
+-- on from a member through these lists to the last one's; forward, from (1, 2) through a list of (2, 3) and (4, 4) it is (4, 4)
 abbrev pub walk : Direction → List (List Extent) → Extent → Option Extent
 walk Forward = walk_forward
 walk Backward = walk_backward
 
+-- from the near side of the near one to the far side of the far one; backward, of (4, 4) and (1, 2) it is (1, 4)
 abbrev pub join : Direction → Extent → Extent → Extent
 join Forward near far = joined near far
 join Backward near far = joined far near
 
--- the near one starts before the far one ends in this direction
+-- the near one starts before the far one ends in this direction: forward, (1, 2) and (4, 4) can be joined
 abbrev pub CanJoin : Direction → Extent → Extent → Type 0
 CanJoin Forward near far = near.start ≤ far.end
 CanJoin Backward near far = far.start ≤ near.end
 
--- the access of the other form: `passed` is the nearest member that the access passes over, and it goes on from there
-abbrev pub outside : Direction → ℕ → ℕ → Option ℕ
+-- where the nearest member that the access by the far sides at k passes over is looked for, if anywhere: forward at 3 up to 2
+abbrev pub outside : Direction → (next k : ℕ) → Option ℕ
 outside Forward next k = address_before k
 outside Backward next k = if nat_lt k next then Some (k + 1) else None
 
-abbrev pub passed : Direction → List Extent → ℕ → ℕ → Option Extent
-passed direction list next k = option_and_then (own_access (opposite direction) list) (outside direction next k)
+-- the nearest member that the access by the far sides at k passes over: forward, of (2, 2) and (4, 5) at 3 it is (2, 2)
+abbrev pub passed : Direction → List Extent → (next k : ℕ) → Option Extent
+passed direction list next k = option_and_then (near_access (opposite direction) list) (outside direction next k)
 
-abbrev pub resume : Direction → ℕ → ℕ → Option Extent → Option ℕ
+-- where that access goes on by the near sides, past this member or from the edge of the text: forward past (2, 2) it is 3
+abbrev pub resume : Direction → (first next : ℕ) → Option Extent → Option ℕ
 resume Forward first next None = Some first
 resume Forward first next (Some a) = Some (a.start + 1)
 resume Backward first next None = address_before next

@@ -1,4 +1,5 @@
 pub mod Operands
 pub mod Directions
-pub mod Sources
 pub mod Containments
+pub mod Costs
+pub mod Members

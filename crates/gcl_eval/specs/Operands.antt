@@ -5,31 +5,30 @@ use Rattle.gcl_model.specs.Extents.{Extent}
 use Rattle.gcl_model.specs.Texts.{Text}
 use Rattle.gcl_model.specs.Forms.{Form, Forms, both, one, seq, forms_count}
 use Rattle.gcl_model.specs.FormOf.{form_of, forms_from}
-use Rattle.gcl_model.specs.Meaning.{operands, concordance}
+use Rattle.gcl_model.specs.Meaning.{operands}
 use Rattle.gcl_model.specs.Cost.{costs}
 use Rattle.gcl_model.specs.WellFormed.{AreWellFormed}
-use Rattle.gcl_eval.specs.declared.chain.Chain.{Chain}
-use Rattle.gcl_eval.specs.declared.chain.Chain.TheVariants.{BothOf, OneOf, FollowedBy}
 
+-- the forms of the operands, in order
 abbrev pub operand_forms : List Expr → Forms
 operand_forms exprs = forms_from (map form_of exprs)
 
+-- their concordance lists: of "to" and "be" in `to be` at 1 and 2 these are (1, 1) and (2, 2)
 abbrev pub operand_lists : Text → List Expr → List (List Extent)
 operand_lists text exprs = operands text (operand_forms exprs)
 
+-- how many look-ups one access of each of them may make in all: of two terms 2, where a look-up is one step
 abbrev pub operand_costs : Text → ℕ → List Expr → ℕ
 operand_costs text most exprs = costs text most (operand_forms exprs)
 
-abbrev pub chain_form : Chain → Forms → Form
-chain_form BothOf = both
-chain_form OneOf = one
-chain_form FollowedBy = seq
-
--- the concordance list of the chain
-abbrev pub chain_list : Text → Chain → List Expr → List Extent
-chain_list text chain exprs = concordance text (chain_form chain (operand_forms exprs))
+-- the form is a chain: "to" ^ "be" is one, and "to" is none
+abbrev pub IsChain : Form → Type 0
+IsChain (both forms) = Unit {0}
+IsChain (one forms) = Unit {0}
+IsChain (seq forms) = Unit {0}
+IsChain _ = ⊥
 
 -- there are two of them or more, each well formed
-pub record IsChain (forms : Forms) : Type 0 where
+pub record AreOperands (forms : Forms) : Type 0 where
   pub several : 2 ≤ forms_count forms
-  pub operands : AreWellFormed forms
+  pub each : AreWellFormed forms

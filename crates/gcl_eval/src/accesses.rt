@@ -1,13 +1,15 @@
-ghost use Rattle.std.specs.Prelude.{◌≡◌, ◌+◌, ◌<◌, ◌≤◌, ◌^◌};
+ghost use Rattle.std.specs.Prelude.{◌≡◌, ◌+◌, ◌<◌, ◌≤◌};
+ghost use Rattle.gcl_model.specs.Limits.{far};
 ghost use Rattle.gcl_model.specs.FormOf.{form_of};
 ghost use Rattle.gcl_model.specs.Meaning.{concordance};
 ghost use Rattle.gcl_model.specs.Access.{first_start, first_end, last_end, last_start};
 ghost use Rattle.gcl_model.specs.Cost.{cost};
 ghost use Rattle.gcl_model.specs.WellFormed.{IsWellFormed};
+ghost use Rattle.gcl_eval.specs.Costs.{near_cost};
 
 use crate::access::access;
 use crate::direction::Access;
-use gcl_model::{Expr, Interval, Leaves, Ledger, Steps};
+use gcl_model::{Expr, Interval, Leaves, Ledger, LentLeaves, Steps};
 
 /// The first member that starts at or after `k`.
 pub fn first_start<L: Leaves, S: Ledger>(
@@ -17,11 +19,14 @@ pub fn first_start<L: Leaves, S: Ledger>(
     steps: &mut Steps<S>,
 ) -> Option<Interval>
     requires well_formed { IsWellFormed (form_of expr.now) }
-    requires below { k < 2 ^ 62 }
+    requires below { k < far }
     ensures answer { result ≡ first_start (concordance (L.text leaves.now) (form_of expr.now)) k }
+    ensures counted { steps.old ≤ steps.new }
     ensures cost { steps.new ≤ steps.old + cost (L.text leaves.now) (L.most leaves.now) (form_of expr.now) }
+    ensures near_cost { steps.new ≤ steps.old + near_cost (L.text leaves.now) (L.most leaves.now) (form_of expr.now) }
 {
-    access(expr, Access::FirstStart, leaves, leaves.span(), k, steps)
+    let source = LentLeaves::<L, S>::new(leaves);
+    access(expr, Access::FirstStart, &source, k, steps)
 }
 
 /// The first member that ends at or after `k`.
@@ -32,11 +37,13 @@ pub fn first_end<L: Leaves, S: Ledger>(
     steps: &mut Steps<S>,
 ) -> Option<Interval>
     requires well_formed { IsWellFormed (form_of expr.now) }
-    requires below { k < 2 ^ 62 }
+    requires below { k < far }
     ensures answer { result ≡ first_end (concordance (L.text leaves.now) (form_of expr.now)) k }
+    ensures counted { steps.old ≤ steps.new }
     ensures cost { steps.new ≤ steps.old + cost (L.text leaves.now) (L.most leaves.now) (form_of expr.now) }
 {
-    access(expr, Access::FirstEnd, leaves, leaves.span(), k, steps)
+    let source = LentLeaves::<L, S>::new(leaves);
+    access(expr, Access::FirstEnd, &source, k, steps)
 }
 
 /// The last member that ends at or before `k`.
@@ -47,11 +54,14 @@ pub fn last_end<L: Leaves, S: Ledger>(
     steps: &mut Steps<S>,
 ) -> Option<Interval>
     requires well_formed { IsWellFormed (form_of expr.now) }
-    requires below { k < 2 ^ 62 }
+    requires below { k < far }
     ensures answer { result ≡ last_end (concordance (L.text leaves.now) (form_of expr.now)) k }
+    ensures counted { steps.old ≤ steps.new }
     ensures cost { steps.new ≤ steps.old + cost (L.text leaves.now) (L.most leaves.now) (form_of expr.now) }
+    ensures near_cost { steps.new ≤ steps.old + near_cost (L.text leaves.now) (L.most leaves.now) (form_of expr.now) }
 {
-    access(expr, Access::LastEnd, leaves, leaves.span(), k, steps)
+    let source = LentLeaves::<L, S>::new(leaves);
+    access(expr, Access::LastEnd, &source, k, steps)
 }
 
 /// The last member that starts at or before `k`.
@@ -62,9 +72,11 @@ pub fn last_start<L: Leaves, S: Ledger>(
     steps: &mut Steps<S>,
 ) -> Option<Interval>
     requires well_formed { IsWellFormed (form_of expr.now) }
-    requires below { k < 2 ^ 62 }
+    requires below { k < far }
     ensures answer { result ≡ last_start (concordance (L.text leaves.now) (form_of expr.now)) k }
+    ensures counted { steps.old ≤ steps.new }
     ensures cost { steps.new ≤ steps.old + cost (L.text leaves.now) (L.most leaves.now) (form_of expr.now) }
 {
-    access(expr, Access::LastStart, leaves, leaves.span(), k, steps)
+    let source = LentLeaves::<L, S>::new(leaves);
+    access(expr, Access::LastStart, &source, k, steps)
 }

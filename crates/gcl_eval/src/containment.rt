@@ -1,4 +1,5 @@
-ghost use Rattle.std.specs.Prelude.{◌≡◌, ◌<◌, ◌^◌, List, IfSome};
+ghost use Rattle.std.specs.Prelude.{◌≡◌, ◌<◌, List, IfSome};
+ghost use Rattle.gcl_model.specs.Limits.{address_end, far};
 ghost use Rattle.gcl_model.specs.declared.expr.Expr.{size-Expr};
 ghost use Rattle.gcl_model.specs.Extents.{Extent};
 ghost use Rattle.gcl_model.specs.FormOf.{form_of};
@@ -57,9 +58,9 @@ impl Containment {
 
     /// What the loop asks of the second operand at a member of the first: an access and its position.
     pub(crate) fn question(self, direction: Direction, member: Interval) -> (Access, u64)
-        requires { member.end < 2 ^ 48 }
+        requires { member.end < address_end }
         ensures asks { (list : List Extent) → access_of result.0 list result.1 ≡ (loop_of direction self).ask list member }
-        ensures below { result.1 < 2 ^ 62 }
+        ensures below { result.1 < far }
     {
         match (direction, self) {
             (Direction::Forward, Containment::Containing) => (Access::FirstStart, member.start),
@@ -80,8 +81,8 @@ impl Containment {
         member: Interval,
         answer: Option<Interval>,
     ) -> Turn
-        requires member_below { member.end < 2 ^ 62 }
-        requires answer_below { IfSome answer (λ b. b.end < 2 ^ 62) }
+        requires member_below { member.end < far }
+        requires answer_below { IfSome answer (λ b. b.end < far) }
         ensures { move_of result ≡ (loop_of direction self).move member answer }
     {
         match (direction, self) {

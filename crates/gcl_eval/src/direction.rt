@@ -1,5 +1,6 @@
-ghost use Rattle.std.specs.Prelude.{◌≡◌, ◌<◌, ◌^◌, [], MatchOption, IfSome};
-ghost use Rattle.gcl_eval.specs.Directions.{access_of, direction_of, own_access, opposite, beside, farther, IsAsFar, between, better, beyond, join, CanJoin, outside, resume};
+ghost use Rattle.std.specs.Prelude.{◌≡◌, ◌<◌, [], MatchOption, IfSome};
+ghost use Rattle.gcl_model.specs.Limits.{address_end, far};
+ghost use Rattle.gcl_eval.specs.Directions.{access_of, direction_of, near_access, opposite, beside, farther, IsAsFar, between, better, beyond, join, CanJoin, outside, resume};
 
 use gcl_combine::{both_backward_start, both_forward_end, one_backward, one_forward};
 use gcl_model::{Expr, Interval, Span};
@@ -44,8 +45,8 @@ impl Direction {
     }
 
     /// The access of an operand that a chain asks.
-    pub(crate) fn own_access(self) -> Access
-        ensures { access_of result ≡ own_access self }
+    pub(crate) fn near_access(self) -> Access
+        ensures { access_of result ≡ near_access self }
     {
         match self {
             Direction::Forward => Access::FirstStart,
@@ -95,9 +96,9 @@ impl Direction {
 
     /// Where the next operand of "followed by" is asked, if anywhere.
     pub(crate) fn beyond(self, answer: Interval) -> Option<u64>
-        requires { answer.end < 2 ^ 48 }
+        requires { answer.end < address_end }
         ensures value { result ≡ beyond self answer }
-        ensures below { IfSome result (λ k. k < 2 ^ 62) }
+        ensures below { IfSome result (λ k. k < far) }
     {
         match self {
             Direction::Forward => Some(after(answer)),
@@ -117,9 +118,9 @@ impl Direction {
 
     /// Where the nearest member that the access of the other form passes over is looked for, if anywhere.
     pub(crate) fn outside(self, span: Span, k: u64) -> Option<u64>
-        requires { k < 2 ^ 62 }
+        requires { k < far }
         ensures value { result ≡ outside self span.next k }
-        ensures below { IfSome result (λ k. k < 2 ^ 62) }
+        ensures below { IfSome result (λ k. k < far) }
     {
         match self {
             Direction::Forward => k.checked_sub(1),
@@ -129,9 +130,9 @@ impl Direction {
 
     /// Where the access of the other form goes on, past that member or from the span's edge.
     pub(crate) fn resume(self, span: Span, passed: Option<Interval>) -> Option<u64>
-        requires { IfSome passed (λ a. a.end < 2 ^ 48) }
+        requires { IfSome passed (λ a. a.end < address_end) }
         ensures value { result ≡ resume self span.first span.next passed }
-        ensures below { IfSome result (λ k. k < 2 ^ 62) }
+        ensures below { IfSome result (λ k. k < far) }
     {
         match (self, passed) {
             (Direction::Forward, None) => Some(span.first),

@@ -1,18 +1,18 @@
 //! Whole expressions, evaluated by leaping from answer to answer, with no list of an operand ever made.
 //!
-//! Contracts see an expression by its form and its concordance list over the text of the leaves. Crates above use the four accesses of that list (`first_start`,
-//! `first_end`, `last_end`, `last_start`), which take no memory and make no more look-ups than the cost of the
-//! expression, and `count` and `list`, within that cost for each member and once more. The first member of
+//! Contracts see an expression by its form and its concordance list over the text of the leaves. Crates above use the
+//! four accesses of that list (`first_start`, `first_end`, `last_end`, `last_start`), which take no memory and make no
+//! more look-ups than the cost of the expression, and `count`, `list` and `list_from`, within that cost for each member
+//! and once more. Each look-up is counted on the caller's counter: the code has no other one. The first member of
 //! `("to"^"not")+"be"` that ends at 3 or later in `<file!> to be or not to be </file!>` is (4, 5).
 #![tactic(auto)]
 
 mod access;
-mod calls;
-mod chain;
+mod accesses;
+mod chains;
 mod containment;
+mod containments;
 mod direction;
-#[cfg(test)]
-mod leaf_tests;
 mod members;
 mod phrase;
 mod term;
@@ -20,5 +20,5 @@ mod term;
 mod tests;
 mod width;
 
-pub use calls::{first_end, first_start, last_end, last_start};
-pub use members::{count, list};
+pub use accesses::{first_end, first_start, last_end, last_start};
+pub use members::{count, list, list_from};

@@ -5,37 +5,39 @@ ghost use Rattle.gcl_model.specs.Meaning.{concordance};
 ghost use Rattle.gcl_eval.specs.Directions.{access_of, place_of};
 
 use crate::direction::Access;
-use gcl_model::{Bytes, Interval, Leaves, Ledger, Steps};
+use gcl_model::{Bytes, CountedLeaves, Interval};
 
 /// An access of a term.
-pub(crate) fn term_access<L: Leaves, S: Ledger>(
+pub(crate) fn term_access<C: CountedLeaves>(
     token: &Bytes,
     access: Access,
-    leaves: &L,
+    source: &C,
     k: u64,
-    steps: &mut Steps<S>,
+    counter: &mut C::Counter,
 ) -> Option<Interval>
-    ensures answer { result ≡ access_of access (concordance (L.text leaves.now) (term token.now)) k }
-    ensures cost { steps.new ≤ steps.old + L.most leaves.now }
+    ensures answer { result ≡ access_of access (concordance (C.text source.now) (term token.now)) k }
+    ensures counted { C.count counter.old ≤ C.count counter.new }
+    ensures cost { C.count counter.new ≤ C.count counter.old + C.most source.now }
 {
-    let place = look_up(token.as_slice(), access, leaves, k, steps)?;
+    let place = look_up(token.as_slice(), access, source, k, counter)?;
     Some(Interval::new(place, place))
 }
 
 /// The place that the access of a term finds: each of its members starts where it ends.
-fn look_up<L: Leaves, S: Ledger>(
+fn look_up<C: CountedLeaves>(
     token: &[u8],
     access: Access,
-    leaves: &L,
+    source: &C,
     k: u64,
-    steps: &mut Steps<S>,
+    counter: &mut C::Counter,
 ) -> Option<u64>
-    ensures answer { result ≡ place_of access (L.text leaves.now).words token.now k }
-    ensures sound { IsText (L.text leaves.now) }
-    ensures cost { steps.new ≤ steps.old + L.most leaves.now }
+    ensures answer { result ≡ place_of access (C.text source.now).words token.now k }
+    ensures sound { IsText (C.text source.now) }
+    ensures counted { C.count counter.old ≤ C.count counter.new }
+    ensures cost { C.count counter.new ≤ C.count counter.old + C.most source.now }
 {
     match access {
-        Access::FirstStart | Access::FirstEnd => leaves.next(token, k, steps),
-        Access::LastEnd | Access::LastStart => leaves.prev(token, k, steps),
+        Access::FirstStart | Access::FirstEnd => source.next(token, k, counter),
+        Access::LastEnd | Access::LastStart => source.prev(token, k, counter),
     }
 }

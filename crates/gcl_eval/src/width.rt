@@ -1,4 +1,5 @@
-ghost use Rattle.std.specs.Prelude.{◌≡◌, ◌≤◌, ◌^◌};
+ghost use Rattle.std.specs.Prelude.{◌≡◌, ◌≤◌};
+ghost use Rattle.gcl_model.specs.Limits.{address_end};
 ghost use Rattle.gcl_model.specs.Texts.{Text};
 ghost use Rattle.gcl_eval.specs.Directions.{access_of};
 ghost use Rattle.fixed_width.specs.Widths.{width_list, HasSpan};
@@ -10,7 +11,7 @@ use gcl_model::{Interval, Span};
 /// An access of the intervals of one width, which looks nothing up.
 pub(crate) fn width_access(width: u64, access: Access, span: Span, k: u64) -> Option<Interval>
     requires some { 1 ≤ width }
-    requires most { width ≤ 2 ^ 48 }
+    requires most { width ≤ address_end }
     ensures { (text : Text) → HasSpan text span.first span.next → result ≡ access_of access (width_list text width) k }
 {
     match access {

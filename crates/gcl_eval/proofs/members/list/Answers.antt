@@ -1,41 +1,22 @@
-use Rattle.std.proofs.Common.{◌+◌, ◌∷◌, refl, ap, sym, ◌∙◌, arith}
-use Rattle.gcl_model.specs.Extents.{Extent}
+use Rattle.std.proofs.Common.{◌≡◌, ◌+◌, ◌*◌, ◌≤◌, length, take, IfOk, subst}
 use Rattle.gcl_model.specs.FormOf.{form_of}
 use Rattle.gcl_model.specs.Meaning.{concordance}
-use Rattle.gcl_model.proofs.Meanings.{concordance_rises}
 use Rattle.gcl_model.specs.Cost.{cost}
-use Rattle.gcl_eval.proofs.Listing.{members_from, all_members, next_member, put_next, put_counted, full, none_left, one_more}
+use Rattle.gcl_eval.specs.Costs.{near_cost}
+use Rattle.gcl_eval.proofs.Listing.{all_members}
 use Rattle.gcl_eval.proofs.members.list.Goals as goal
-use Rattle.gcl_eval.proofs.members.list.Goals.{else-loop-test, then-loop-test+in_default}
-
-pub loop-init : goal.loop-init
-loop-init g c =
-    let list = concordance (g.L.Leaves.text c.args.leaves.now) (form_of c.args.expr.now) in
-    record { kept = rw c.new-members.ensures (all_members list); counted = rw c.new-members.ensures refl; below = omega arith; cost = omega arith }
-
-pub loop-preserved : goal.loop-preserved
-loop-preserved g c =
-    let text = g.L.Leaves.text c.args.leaves.now in
-    let list = concordance text (form_of c.args.expr.now) in
-    let at = ap (λ (a : Extent). a.start) c.member.view_is in
-    let ends = ap (λ (a : Extent). a.end) c.member.view_is in
-    let next = next_member list (concordance_rises text (form_of c.args.expr.now)) c.loop.from c.in-Some.member (sym c.in-Some.ensures.answer)
-    ∙ ap (λ n. c.in-Some.member ∷ members_from list (n + 1)) (sym {b = c.in-Some.member.start} at) in
-    let proper = c.member.invariant in
-    let within = c.in-Some.ensures.within in
-    record {
-      kept = rw c.in_ok-push.ensures.ok (put_next list c.loop.members c.in-Some.member c.loop.from (c.member.inside.start + 1) c.loop.invariant.kept next);
-      counted = put_counted c.loop.members c.push.new.self c.in-Some.member c.loop.counter c.loop.invariant.counted c.in_ok-push.ensures.ok;
-      below = omega arith;
-      cost = one_more c.args.steps.now c.loop.steps c.access.new.steps c.loop.counter (cost text (g.L.Leaves.most c.args.leaves.now) (form_of c.args.expr.now)) c.loop.invariant.cost c.access.ensures.cost;
-    }
 
 pub returns-clause-ok : goal.returns-clause-ok
-returns-clause-ok g c =
-    let list = concordance (g.L.Leaves.text c.args.leaves.now) (form_of c.args.expr.now) in
-    let upto = c.loop.auto.counter-end in
-    let counted = c.loop.invariant.counted in
-    elim c.loop-test.branch [
-      | else-loop-test w ↦ full list c.loop.members c.loop.from c.args.most c.loop.invariant.kept (let done = w.loop-test.false in omega arith)
-      | then-loop-test+in_default w ↦ none_left list c.loop.members c.loop.from c.args.most c.loop.invariant.kept (sym w.access.ensures.answer ∙ w.in_default.is) (omega arith)
-    ]
+returns-clause-ok g c = subst (λ list. IfOk c.list_from.result (λ members. members ≡ take c.args.most list)) (all_members (concordance (g.L.Leaves.text c.args.leaves.now) (form_of c.args.expr.now))) c.list_from.ensures.ok
+
+pub returns-clause-cost : goal.returns-clause-cost
+returns-clause-cost g c =
+    let text = g.L.Leaves.text c.args.leaves.now in
+    subst (λ list. c.list_from.new.steps ≤ c.args.steps.now + (length (take c.args.most list) + 1) * cost text (g.L.Leaves.most c.args.leaves.now) (form_of c.args.expr.now))
+    (all_members (concordance text (form_of c.args.expr.now))) c.list_from.ensures.cost
+
+pub returns-clause-near_cost : goal.returns-clause-near_cost
+returns-clause-near_cost g c =
+    let text = g.L.Leaves.text c.args.leaves.now in
+    subst (λ list. c.list_from.new.steps ≤ c.args.steps.now + (length (take c.args.most list) + 1) * near_cost text (g.L.Leaves.most c.args.leaves.now) (form_of c.args.expr.now))
+    (all_members (concordance text (form_of c.args.expr.now))) c.list_from.ensures.near_cost

@@ -1,0 +1,54 @@
+use Rattle.std.proofs.Common.{◌+◌, ◌∷◌, length, refl, ap, sym, ◌∙◌, arith}
+use Rattle.gcl_model.specs.Extents.{Extent}
+use Rattle.gcl_model.specs.FormOf.{form_of}
+use Rattle.gcl_model.specs.Meaning.{concordance}
+use Rattle.gcl_model.proofs.Meanings.{concordance_rises}
+use Rattle.gcl_eval.specs.Costs.{near_cost}
+use Rattle.gcl_eval.specs.Members.{members_from}
+use Rattle.gcl_eval.proofs.CostLemmas.{within_cost}
+use Rattle.gcl_eval.proofs.Listing.{next_member, put_next, put_counted, full, none_left, one_more}
+use Rattle.gcl_eval.proofs.members.members_of.Goals as goal
+use Rattle.gcl_eval.proofs.members.members_of.Goals.{else-loop-page-test, then-loop-page-test+in_default}
+
+pub loop-page-init : goal.loop-page-init
+loop-page-init g c =
+    let below = c.requires.below in
+    record { kept = rw c.new-members.ensures refl; few = rw c.new-members.ensures (omega arith); below = below; counted = omega arith; cost = rw c.new-members.ensures (omega arith) }
+
+pub loop-page-smaller : goal.loop-page-smaller
+loop-page-smaller g c =
+    let text = g.C.CountedLeaves.text c.args.source.now in
+    let list = concordance text (form_of c.args.expr.now) in
+    let next = next_member list (concordance_rises text (form_of c.args.expr.now)) c.loop-page.from c.in-Some.member (sym c.in-Some.ensures.answer) in
+    let fewer = ap length (next ∙ ap (λ n. c.in-Some.member ∷ members_from list (n + 1)) (sym {b = c.in-Some.member.start} (ap (λ (a : Extent). a.start) c.member.view_is))) in
+    omega arith
+
+pub loop-page-preserved : goal.loop-page-preserved
+loop-page-preserved g c =
+    let text = g.C.CountedLeaves.text c.args.source.now in
+    let list = concordance text (form_of c.args.expr.now) in
+    let at = ap (λ (a : Extent). a.start) c.member.view_is in
+    let ends = ap (λ (a : Extent). a.end) c.member.view_is in
+    let next = next_member list (concordance_rises text (form_of c.args.expr.now)) c.loop-page.from c.in-Some.member (sym c.in-Some.ensures.answer)
+    ∙ ap (λ n. c.in-Some.member ∷ members_from list (n + 1)) (sym {b = c.in-Some.member.start} at) in
+    let put = put_counted c.loop-page.members c.push.new.self c.in-Some.member c.in_ok-push.ensures.ok in
+    let room = c.loop-page-test.true in
+    let proper = c.member.invariant in
+    let within = c.in-Some.ensures.within in
+    record {
+      kept = rw c.in_ok-push.ensures.ok (put_next list (members_from list c.args.page.from) c.loop-page.members c.loop-page.from c.loop-page.invariant.kept c.in-Some.member (c.member.inside.start + 1) next);
+      few = omega arith;
+      below = omega arith;
+      counted = omega (arith, c.loop-page.invariant.counted, c.access.ensures.counted);
+      cost = rw put (one_more (g.C.CountedLeaves.count c.args.counter.now) (g.C.CountedLeaves.count c.loop-page.counter) (g.C.CountedLeaves.count c.access.new.counter) (length c.loop-page.members)
+          (near_cost text (g.C.CountedLeaves.most c.args.source.now) (form_of c.args.expr.now)) c.loop-page.invariant.cost c.access.ensures.cost_by_access);
+    }
+
+pub returns-clause-ok : goal.returns-clause-ok
+returns-clause-ok g c =
+    let list = concordance (g.C.CountedLeaves.text c.args.source.now) (form_of c.args.expr.now) in
+    let few = c.loop-page.invariant.few in
+    elim c.loop-page-test.branch [
+      | else-loop-page-test w ↦ full list (members_from list c.args.page.from) c.loop-page.members c.loop-page.from c.loop-page.invariant.kept c.args.page.most (let done = w.loop-page-test.false in omega arith)
+      | then-loop-page-test+in_default w ↦ none_left list (members_from list c.args.page.from) c.loop-page.members c.loop-page.from c.loop-page.invariant.kept c.args.page.most (sym w.access.ensures.answer ∙ w.in_default.is) few
+    ]

@@ -1,0 +1,57 @@
+use Rattle.std.proofs.Common.{◌+◌, ◌∷◌, length, ap, sym, ◌∙◌, arith}
+use Rattle.gcl_model.specs.Extents.{Extent}
+use Rattle.gcl_model.specs.FormOf.{form_of}
+use Rattle.gcl_model.specs.Meaning.{concordance}
+use Rattle.gcl_model.proofs.Meanings.{concordance_rises}
+use Rattle.gcl_eval.specs.Costs.{near_cost}
+use Rattle.gcl_eval.specs.Members.{members_from}
+use Rattle.gcl_eval.proofs.CostLemmas.{within_cost}
+use Rattle.gcl_eval.proofs.Listing.{all_members, next_member, no_member, from_le, one_more}
+use Rattle.gcl_eval.proofs.members.number_of_members.Goals as goal
+
+pub loop-member-init : goal.loop-member-init
+loop-member-init g c =
+    let all = ap length (all_members (concordance (g.C.CountedLeaves.text c.args.source.now) (form_of c.args.expr.now))) in
+    record { kept = omega arith; few = omega arith; below = omega arith; counted = omega arith; cost = omega arith }
+
+pub loop-member-smaller : goal.loop-member-smaller
+loop-member-smaller g c =
+    let text = g.C.CountedLeaves.text c.args.source.now in
+    let list = concordance text (form_of c.args.expr.now) in
+    let next = next_member list (concordance_rises text (form_of c.args.expr.now)) c.loop-member.from c.in-Some.member (sym c.in-Some.ensures.answer) in
+    let fewer = ap length (next ∙ ap (λ n. c.in-Some.member ∷ members_from list (n + 1)) (sym {b = c.in-Some.member.start} (ap (λ (a : Extent). a.start) c.member.view_is))) in
+    omega arith
+
+pub loop-member-preserved : goal.loop-member-preserved
+loop-member-preserved g c =
+    let text = g.C.CountedLeaves.text c.args.source.now in
+    let list = concordance text (form_of c.args.expr.now) in
+    let at = ap (λ (a : Extent). a.start) c.member.view_is in
+    let ends = ap (λ (a : Extent). a.end) c.member.view_is in
+    let next = next_member list (concordance_rises text (form_of c.args.expr.now)) c.loop-member.from c.in-Some.member (sym c.in-Some.ensures.answer) in
+    let fewer = ap length (next ∙ ap (λ n. c.in-Some.member ∷ members_from list (n + 1)) (sym {b = c.in-Some.member.start} at)) in
+    let from = from_le list c.loop-member.from c.in-Some.member (sym c.in-Some.ensures.answer) in
+    let proper = c.member.invariant in
+    let within = c.in-Some.ensures.within in
+    record {
+      kept = omega arith;
+      few = omega arith;
+      below = omega arith;
+      counted = omega (arith, c.loop-member.invariant.counted, c.access.ensures.counted);
+      cost = one_more (g.C.CountedLeaves.count c.args.counter.now) (g.C.CountedLeaves.count c.loop-member.counter) (g.C.CountedLeaves.count c.access.new.counter) c.loop-member.members
+          (near_cost text (g.C.CountedLeaves.most c.args.source.now) (form_of c.args.expr.now)) c.loop-member.invariant.cost c.access.ensures.cost_by_access;
+    }
+
+pub returns-clause-value : goal.returns-clause-value
+returns-clause-value g c =
+    let none = ap length (no_member (concordance (g.C.CountedLeaves.text c.args.source.now) (form_of c.args.expr.now)) c.loop-member.from (sym c.access.ensures.answer ∙ c.in_default.is)) in
+    omega arith
+
+pub returns-clause-cost : goal.returns-clause-cost
+returns-clause-cost g c =
+    let text = g.C.CountedLeaves.text c.args.source.now in
+    let most = g.C.CountedLeaves.most c.args.source.now in
+    let old = g.C.CountedLeaves.count c.args.counter.now in
+    let new = g.C.CountedLeaves.count c.access.new.counter in
+    within_cost text most (form_of c.args.expr.now) old new (c.loop-member.members + 1)
+    (one_more old (g.C.CountedLeaves.count c.loop-member.counter) new c.loop-member.members (near_cost text most (form_of c.args.expr.now)) c.loop-member.invariant.cost c.access.ensures.cost_by_access)

@@ -1,0 +1,221 @@
+ghost use Rattle.std.specs.Prelude.{◌≡◌, ◌+◌, ◌*◌, ◌<◌, ◌≤◌, IfSome};
+ghost use Rattle.gcl_model.specs.Limits.{address_end, far};
+ghost use Rattle.gcl_model.specs.Forms.{both, one, seq};
+ghost use Rattle.gcl_model.specs.FormOf.{form_of};
+ghost use Rattle.gcl_model.specs.Meaning.{concordance};
+ghost use Rattle.gcl_model.specs.Cost.{cost};
+ghost use Rattle.gcl_model.specs.WellFormed.{IsWellFormed, AreWellFormed};
+ghost use Rattle.gcl_eval.specs.Costs.{cost_in, near_cost, rounds};
+ghost use Rattle.gcl_eval.specs.Operands.{operand_forms, operand_lists, operand_costs, IsChain, AreOperands};
+ghost use Rattle.gcl_eval.specs.Directions.{access_of, near_access, far_access, farthest, walk, passed};
+
+use crate::access::access;
+use crate::direction::{Access, Direction};
+use gcl_model::{CountedLeaves, Expr, Interval};
+
+/// An access of a chain: by two rounds of its operands' near accesses at most, or by four.
+#[cycle(access)]
+pub(crate) fn chain_access<C: CountedLeaves>(
+    expr: &Expr,
+    access: Access,
+    source: &C,
+    k: u64,
+    counter: &mut C::Counter,
+) -> Option<Interval>
+    requires chain { IsChain (form_of expr.now) }
+    requires well_formed { IsWellFormed (form_of expr.now) }
+    requires below { k < far }
+    ensures answer { result ≡ access_of access (concordance (C.text source.now) (form_of expr.now)) k }
+    ensures counted { C.count counter.old ≤ C.count counter.new }
+    ensures cost { C.count counter.new ≤ C.count counter.old + cost_in (rounds access) (C.text source.now) (C.most source.now) (form_of expr.now) }
+{
+    match access {
+        Access::FirstStart => near_access(expr, Direction::Forward, source, k, counter),
+        Access::FirstEnd => far_access(expr, Direction::Forward, source, k, counter),
+        Access::LastEnd => near_access(expr, Direction::Backward, source, k, counter),
+        Access::LastStart => far_access(expr, Direction::Backward, source, k, counter),
+    }
+}
+
+/// The access by the far sides: on from the nearest member that it passes over.
+#[cycle(access)]
+fn far_access<C: CountedLeaves>(
+    expr: &Expr,
+    direction: Direction,
+    source: &C,
+    k: u64,
+    counter: &mut C::Counter,
+) -> Option<Interval>
+    requires chain { IsChain (form_of expr.now) }
+    requires well_formed { IsWellFormed (form_of expr.now) }
+    requires below { k < far }
+    ensures answer { result ≡ far_access direction (concordance (C.text source.now) (form_of expr.now)) k }
+    ensures counted { C.count counter.old ≤ C.count counter.new }
+    ensures cost { C.count counter.new ≤ C.count counter.old + cost (C.text source.now) (C.most source.now) (form_of expr.now) }
+{
+    let span = source.span();
+    let passed = passed_member(expr, direction, source, k, counter);
+    let from = direction.resume(span, passed)?;
+    near_access(expr, direction, source, from, counter)
+}
+
+/// The nearest member in this direction that the access by the far sides passes over.
+#[cycle(access)]
+fn passed_member<C: CountedLeaves>(
+    expr: &Expr,
+    direction: Direction,
+    source: &C,
+    k: u64,
+    counter: &mut C::Counter,
+) -> Option<Interval>
+    requires chain { IsChain (form_of expr.now) }
+    requires well_formed { IsWellFormed (form_of expr.now) }
+    requires below { k < far }
+    ensures answer { result ≡ passed direction (concordance (C.text source.now) (form_of expr.now)) (C.text source.now).next k }
+    ensures within { IfSome result (λ a. a.end < address_end) }
+    ensures counted { C.count counter.old ≤ C.count counter.new }
+    ensures cost { C.count counter.new ≤ C.count counter.old + near_cost (C.text source.now) (C.most source.now) (form_of expr.now) }
+{
+    let outside = direction.outside(source.span(), k)?;
+    near_access(expr, direction.opposite(), source, outside, counter)
+}
+
+/// The access by the near sides.
+#[cycle(access)]
+fn near_access<C: CountedLeaves>(
+    expr: &Expr,
+    direction: Direction,
+    source: &C,
+    k: u64,
+    counter: &mut C::Counter,
+) -> Option<Interval>
+    requires chain { IsChain (form_of expr.now) }
+    requires well_formed { IsWellFormed (form_of expr.now) }
+    requires below { k < far }
+    ensures answer { result ≡ near_access direction (concordance (C.text source.now) (form_of expr.now)) k }
+    ensures counted { C.count counter.old ≤ C.count counter.new }
+    ensures cost { C.count counter.new ≤ C.count counter.old + near_cost (C.text source.now) (C.most source.now) (form_of expr.now) }
+{
+    match expr {
+        Expr::Both(operands) => both_of(operands, direction, source, k, counter),
+        Expr::One(operands) => one_of(operands, direction, source, k, counter),
+        Expr::Seq(operands) => followed_by(operands, direction, source, k, counter),
+        _ => unreachable!(),
+    }
+}
+
+/// "Both of": to the farthest side of the operands' answers, and back from it.
+#[cycle(access)]
+fn both_of<C: CountedLeaves>(
+    operands: &[Expr],
+    direction: Direction,
+    source: &C,
+    k: u64,
+    counter: &mut C::Counter,
+) -> Option<Interval>
+    requires operands { AreOperands (operand_forms operands.now) }
+    requires below { k < far }
+    ensures answer { result ≡ near_access direction (concordance (C.text source.now) (both (operand_forms operands.now))) k }
+    ensures counted { C.count counter.old ≤ C.count counter.new }
+    ensures cost { C.count counter.new ≤ C.count counter.old + 2 * operand_costs (C.text source.now) (C.most source.now) operands.now }
+{
+    let far = farthest(operands, direction, source, k, counter)?;
+    let near = farthest(operands, direction.opposite(), source, far, counter)?;
+    Some(direction.between(near, far))
+}
+
+/// The farthest side of the operands' answers at `k`, or `k` where that is farther.
+#[cycle(access)]
+fn farthest<C: CountedLeaves>(
+    operands: &[Expr],
+    direction: Direction,
+    source: &C,
+    k: u64,
+    counter: &mut C::Counter,
+) -> Option<u64>
+    requires operands { AreWellFormed (operand_forms operands.now) }
+    requires below { k < far }
+    ensures answer { result ≡ farthest direction (operand_lists (C.text source.now) operands.now) k k }
+    ensures below { IfSome result (λ side. side < far) }
+    ensures counted { C.count counter.old ≤ C.count counter.new }
+    ensures cost { C.count counter.new ≤ C.count counter.old + operand_costs (C.text source.now) (C.most source.now) operands.now }
+{
+    let mut side = k;
+    for operand in operands {
+        let answer = access(operand, direction.near_access(), source, k, counter)?;
+        side = direction.farther(side, answer);
+    }
+    Some(side)
+}
+
+/// "One of": the best of the operands' answers.
+#[cycle(access)]
+fn one_of<C: CountedLeaves>(
+    operands: &[Expr],
+    direction: Direction,
+    source: &C,
+    k: u64,
+    counter: &mut C::Counter,
+) -> Option<Interval>
+    requires operands { AreOperands (operand_forms operands.now) }
+    requires below { k < far }
+    ensures answer { result ≡ near_access direction (concordance (C.text source.now) (one (operand_forms operands.now))) k }
+    ensures counted { C.count counter.old ≤ C.count counter.new }
+    ensures cost { C.count counter.new ≤ C.count counter.old + operand_costs (C.text source.now) (C.most source.now) operands.now }
+{
+    let mut best = None;
+    for operand in operands {
+        let answer = access(operand, direction.near_access(), source, k, counter);
+        best = direction.better(best, answer);
+    }
+    best
+}
+
+/// "Followed by": through all operands, and back from the answer of the last through the others.
+#[cycle(access)]
+fn followed_by<C: CountedLeaves>(
+    operands: &[Expr],
+    direction: Direction,
+    source: &C,
+    k: u64,
+    counter: &mut C::Counter,
+) -> Option<Interval>
+    requires operands { AreOperands (operand_forms operands.now) }
+    requires below { k < far }
+    ensures answer { result ≡ near_access direction (concordance (C.text source.now) (seq (operand_forms operands.now))) k }
+    ensures counted { C.count counter.old ≤ C.count counter.new }
+    ensures cost { C.count counter.new ≤ C.count counter.old + 2 * operand_costs (C.text source.now) (C.most source.now) operands.now }
+{
+    let (nearest, after_nearest) = direction.next_operand(operands)?;
+    let (_, before_farthest) = direction.opposite().next_operand(operands)?;
+    let found = access(nearest, direction.near_access(), source, k, counter)?;
+    let far = walk(after_nearest, direction, source, found, counter)?;
+    let near = walk(before_farthest, direction.opposite(), source, far, counter)?;
+    Some(direction.join(near, far))
+}
+
+/// On from an answer: each operand's answer beyond that of the one before it, up to the last one's.
+#[cycle(access)]
+fn walk<C: CountedLeaves>(
+    operands: &[Expr],
+    direction: Direction,
+    source: &C,
+    start: Interval,
+    counter: &mut C::Counter,
+) -> Option<Interval>
+    requires operands { AreWellFormed (operand_forms operands.now) }
+    requires within { start.end < address_end }
+    ensures answer { result ≡ walk direction (operand_lists (C.text source.now) operands.now) start }
+    ensures within { IfSome result (λ a. a.end < address_end) }
+    ensures counted { C.count counter.old ≤ C.count counter.new }
+    ensures cost { C.count counter.new ≤ C.count counter.old + operand_costs (C.text source.now) (C.most source.now) operands.now }
+{
+    let mut answer = start;
+    let mut rest = operands;
+    while let Some((operand, others)) = direction.next_operand(rest) {
+        let from = direction.beyond(answer)?;
+        answer = access(operand, direction.near_access(), source, from, counter)?;
+        rest = others;
+    }
+    Some(answer)
+}

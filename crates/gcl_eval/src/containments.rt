@@ -1,0 +1,48 @@
+ghost use Rattle.std.specs.Prelude.{◌≡◌, ◌+◌, ◌<◌, ◌≤◌, IfSome};
+ghost use Rattle.gcl_model.specs.Limits.{address_end, far};
+ghost use Rattle.gcl_model.specs.FormOf.{form_of};
+ghost use Rattle.gcl_model.specs.Meaning.{concordance};
+ghost use Rattle.gcl_model.specs.Cost.{cost};
+ghost use Rattle.gcl_model.specs.WellFormed.{IsWellFormed};
+ghost use Rattle.gcl_eval.specs.Containments.{IsContainment};
+ghost use Rattle.gcl_eval.specs.Directions.{access_of};
+
+use crate::access::access;
+use crate::containment::operands;
+use crate::direction::Access;
+use gcl_contain::Turn;
+use gcl_model::{CountedLeaves, Expr, Interval};
+
+/// An access of a containment: from member to member of the first operand, each with one access of the second.
+#[cycle(access)]
+pub(crate) fn containment_access<C: CountedLeaves>(
+    expr: &Expr,
+    wanted: Access,
+    source: &C,
+    k: u64,
+    counter: &mut C::Counter,
+) -> Option<Interval>
+    requires containment { IsContainment (form_of expr.now) }
+    requires well_formed { IsWellFormed (form_of expr.now) }
+    requires below { k < far }
+    ensures answer { result ≡ access_of wanted (concordance (C.text source.now) (form_of expr.now)) k }
+    ensures within { IfSome result (λ a. a.end < address_end) }
+    ensures counted { C.count counter.old ≤ C.count counter.new }
+    ensures cost { C.count counter.new ≤ C.count counter.old + cost (C.text source.now) (C.most source.now) (form_of expr.now) }
+{
+    let (containment, first, second) = operands(expr);
+    let direction = wanted.direction();
+    let onward = containment.goes_by(direction);
+    let mut member = access(first, wanted, source, k, counter)?;
+    loop {
+        let (asked, at) = containment.question(direction, member);
+        let answer = access(second, asked, source, at, counter);
+        match containment.turn(direction, member, answer) {
+            Turn::Accept => return Some(member),
+            Turn::Finish => return None,
+            Turn::GoTo(next) => {
+                member = access(first, onward, source, next, counter)?;
+            }
+        }
+    }
+}
