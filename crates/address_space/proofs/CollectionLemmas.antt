@@ -3,7 +3,6 @@ use Rattle.std.proofs.Common.{◌≡◌, ℕ, ◌+◌, ◌-◌, ◌*◌, ◌≤�
 use Rattle.std.specs.List.{AllByRecursion}
 use Rattle.gcl_model.specs.Collections.{File, Collection, FitsHole, AreFilesFrom, IsToken, IsSound, with_file, without_file, width_of}
 use Rattle.gcl_model.specs.Laws.{StartIsSound, AddingKeepsSoundness, DeletingKeepsSoundness, StepsKeepSoundness}
-use Rattle.gcl_model.specs.Steps.{Adds, Deletes, Opens}
 use Rattle.gcl_model.specs.Names.{is_name}
 
 pub start_is_sound : StartIsSound

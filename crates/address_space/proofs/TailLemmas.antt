@@ -1,7 +1,7 @@
 -- Which of the slots an add makes one.
-use Rattle.std.proofs.Common.{◌≡◌, ℕ, zero, suc, ◌+◌, ◌-◌, ◌*◌, ◌≤◌, Bool, true, false, cond, leb, List, [], ◌∷◌, ◌++◌, length, take, drop, reverse, refl, sym, ap, ◌∙◌, arith, length-append}
+use Rattle.std.proofs.Common.{◌≡◌, ℕ, ◌+◌, ◌-◌, ◌*◌, Bool, true, false, cond, leb, List, [], ◌∷◌, ◌++◌, length, take, drop, reverse, refl, sym, ap, ◌∙◌, arith, length-append}
 use Rattle.std.proofs.lemmas.List.{take_at, drop_at, reverse-reverse, reverse-append, length-reverse}
-use Rattle.gcl_model.specs.Slots.{SlotRange, slot_width, joined, settled, joined_count, tail_count, spanned, ranges_spanned, slots_after_add}
+use Rattle.gcl_model.specs.Slots.{SlotRange, slot_width, joined, settled, joined_count, tail_count, spanned, ranges_spanned}
 use Rattle.gcl_model.specs.Laws.{TailsAreJoined}
 use Rattle.address_space.proofs.TierLemmas.{reverse-cons, reverse-cons-append}
 

@@ -1,13 +1,12 @@
 -- The slots of a collection stay tiers as files are added, slots merged and images opened, and tiers are few.
-use Rattle.std.proofs.Common.{◌≡◌, ℕ, zero, suc, ◌+◌, ◌-◌, ◌*◌, ◌^◌, ◌≤◌, ◌<◌, Bool, true, false, cond, leb, List, [], ◌∷◌, ◌++◌, length, map, reverse, refl, sym, ap, subst, ◌∙◌, arith, append_assoc, le_refl, inl, inr}
+use Rattle.std.proofs.Common.{◌≡◌, ℕ, suc, ◌+◌, ◌-◌, ◌*◌, ◌^◌, ◌≤◌, ◌<◌, Bool, true, false, cond, leb, List, [], ◌∷◌, ◌++◌, length, map, reverse, refl, sym, ap, subst, ◌∙◌, arith, append_assoc, le_refl, inl, inr}
 use Rattle.std.specs.List.{AllByRecursion}
 use Rattle.std.proofs.lemmas.Bool.{leb-false, cases_lt}
 use Rattle.std.proofs.lemmas.List.{append-nil}
 use Rattle.std.proofs.lemmas.Grind.{reverse_onto}
 use Rattle.std.proofs.Math.Nat.{pow-succ', pow-le-pow_right}
-use Rattle.gcl_model.specs.Limits.{address_end, most_tiers}
 use Rattle.gcl_model.specs.Collections.{File, Collection, AreFilesFrom, width_of}
-use Rattle.gcl_model.specs.Slots.{SlotRange, slot_range, slot_width, joined, settled, spanned, file_range, ranges_spanned, AreRangesWithin, AreTiered}
+use Rattle.gcl_model.specs.Slots.{SlotRange, slot_width, joined, settled, spanned, file_range, ranges_spanned, AreRangesWithin, AreTiered}
 use Rattle.gcl_model.specs.Laws.{AreTiers, AddingKeepsTiers, MergingKeepsTiers, OpeningMakesTiers, TiersAreFew}
 use Rattle.address_space.proofs.CollectionLemmas.{up_to}
 

@@ -6,7 +6,7 @@ use Rattle.std.proofs.Math.Seq.{drop-length}
 use Rattle.std.specs.Prelude.{take_while, ◌&&◌}
 use Rattle.std.specs.Char.{is_ascii_digit}
 use Rattle.gcl_model.specs.Tokens.{is_blank, starts_with_byte}
-use Rattle.gcl_parser.specs.declared.token.Lexeme.{Lexeme}
+use Rattle.gcl_parser.specs.declared.token.PlacedToken.{PlacedToken}
 use Rattle.gcl_parser.specs.declared.fault.QueryKind.TheVariants.{Character}
 use Rattle.gcl_parser.specs.declared.token.Joint.TheVariants.{FollowedBy, BothOf, OneOf}
 use Rattle.gcl_parser.specs.declared.token.Containment.TheVariants.{Containing, ContainedIn, NotContaining, NotContainedIn}
@@ -90,7 +90,7 @@ tokens_from-step text at piece lt is =
     (subst (λ p. tokens_from text at ≡ placed at p.tokens ++ tokens_from text (at + p.size)) is cut, subst (λ p. 1 ≤ p.size) is (piece_size b bytes).at_least)
 
 -- the piece at a place is the first token there
-pub next_at : (text : List ℕ) (at : ℕ) (l : Lexeme) → at < length text → IsPiece text at (first_piece (get_or text at 0) (drop (at + 1) text)) l → IsNext text at l
+pub next_at : (text : List ℕ) (at : ℕ) (l : PlacedToken) → at < length text → IsPiece text at (first_piece (get_or text at 0) (drop (at + 1) text)) l → IsNext text at l
 next_at text at l lt piece =
     let p = first_piece (get_or text at 0) (drop (at + 1) text) in
     let cut = tokens_from-step text at p lt refl in
@@ -106,7 +106,7 @@ next_at text at l lt piece =
     }
 
 -- blanks before it do not matter
-pub next_from : (text : List ℕ) (from at : ℕ) (l : Lexeme) → from ≤ at → tokens_from text at ≡ tokens_from text from → IsNext text at l → IsNext text from l
+pub next_from : (text : List ℕ) (from at : ℕ) (l : PlacedToken) → from ≤ at → tokens_from text at ≡ tokens_from text from → IsNext text at l → IsNext text from l
 next_from text from at l le same next =
     let later : at < l.end = next.later in
     record { tokens = sym same ∙ next.tokens; later = omega arith; within = next.within; range = next.range }

@@ -8,7 +8,7 @@ use Rattle.gcl_parser.specs.declared.token.Joint.{Joint}
 use Rattle.gcl_parser.specs.declared.token.Joint.TheVariants.{OneOf}
 use Rattle.gcl_parser.specs.declared.token.Containment.{Containment}
 use Rattle.gcl_parser.specs.declared.token.Token.TheVariants as T
-use Rattle.gcl_parser.specs.declared.token.Lexeme.{Lexeme}
+use Rattle.gcl_parser.specs.declared.token.PlacedToken.{PlacedToken}
 use Rattle.gcl_parser.specs.declared.parsed.Parsed.{Parsed}
 use Rattle.gcl_parser.specs.QueryTokens.{QueryToken, operand, joint, containment, open_bracket, close_bracket, broken, token_of, query_tokens}
 use Rattle.gcl_parser.specs.Refusal.{refused, is_operand, is_open}
@@ -67,8 +67,8 @@ more_snoc_form (and_then first part more) form operator last = more_snoc_form mo
 query_snoc_form : (q : Query) (operator : Containment) (last : Part (joined OneOf)) → form_of_query (query_snoc q operator last) ≡ containment_form operator (form_of_query q) (form_of_part last)
 query_snoc_form (query part more) operator last = more_snoc_form more (form_of_part part) operator last
 
--- the lexeme that is next, without places
-pub next_bare : (text : List ℕ) (from : ℕ) (l : Lexeme) → IsNext text from l → bare_from text from ≡ shown text l.token ∷ bare_from text l.end
+-- the placed that is next, without places
+pub next_bare : (text : List ℕ) (from : ℕ) (l : PlacedToken) → IsNext text from l → bare_from text from ≡ shown text l.token ∷ bare_from text l.end
 next_bare text from l next = ap (λ ps. map token_of ps) next.tokens
 
 -- a chain with the joint behind it, which the program has read up to the next place
@@ -210,7 +210,7 @@ query_can text at next operator whole can q is =
     record { opened = can.opened; count = can.count + query_operands q.tree; deep = can.deep; faultless = behind.faultless.1 }
 
 -- a quoted text or a width
-pub single_read : (text : List ℕ) (at : ℕ) (l : Lexeme) (form : Form) (parsed : Parsed) → IsNext text at l → shown text l.token ≡ operand form → form_of parsed.expr ≡ form → parsed.end ≡ l.end →
+pub single_read : (text : List ℕ) (at : ℕ) (l : PlacedToken) (form : Form) (parsed : Parsed) → IsNext text at l → shown text l.token ≡ operand form → form_of parsed.expr ≡ form → parsed.end ≡ l.end →
     IsParsed single text at parsed
 single_read text at l form parsed next is form_is end =
     let later : at < l.end = next.later in
@@ -226,7 +226,7 @@ single_read text at l form parsed next is form_is end =
       within = omega arith;
     }
 
-pub bracket_read : (text : List ℕ) (at : ℕ) (l : Lexeme) (parsed : Parsed) → IsNext text at l → l.token ≡ T.Open → IsBracketParsed text l.end parsed → IsParsed single text at parsed
+pub bracket_read : (text : List ℕ) (at : ℕ) (l : PlacedToken) (parsed : Parsed) → IsNext text at l → l.token ≡ T.Open → IsBracketParsed text l.end parsed → IsParsed single text at parsed
 bracket_read text at l parsed next is inside =
     let later : at < l.end = next.later in
     let then : l.end < parsed.end = inside.later in
@@ -270,7 +270,7 @@ not_at_end text at is none = not_empty (bare_from text at) is (ap (λ ps. map to
 head_closes : (tokens : List QueryToken) → Closed tokens → (token : QueryToken) (rest : List QueryToken) → tokens ≡ token ∷ rest → tokens ≡ close_bracket ∷ rest
 head_closes tokens (closes tail) token rest is = cc
 
-pub bracket_ends : (text : List ℕ) (at : ℕ) (inside parsed : Parsed) (close : Lexeme) → CanReadInside (bare_from text at) → IsQueryParsed text at inside → IsNext text inside.end close →
+pub bracket_ends : (text : List ℕ) (at : ℕ) (inside parsed : Parsed) (close : PlacedToken) → CanReadInside (bare_from text at) → IsQueryParsed text at inside → IsNext text inside.end close →
     parsed.expr ≡ inside.expr → parsed.end ≡ close.end → IsBracketParsed text at parsed
 bracket_ends text at inside parsed close can q next expr end =
     let first : at < inside.end = q.later in

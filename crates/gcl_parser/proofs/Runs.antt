@@ -13,11 +13,11 @@ use Rattle.gcl_model.specs.Tokens.{starts_with_byte}
 use Rattle.gcl_parser.specs.declared.fault.QueryKind.TheVariants.{OpenQuote, BadWidth}
 use Rattle.gcl_parser.specs.declared.fault.QueryKind.{QueryKind}
 use Rattle.gcl_parser.specs.declared.token.Token.{Token}
-use Rattle.gcl_parser.specs.declared.token.Lexeme.{Lexeme}
+use Rattle.gcl_parser.specs.declared.token.PlacedToken.{PlacedToken}
 use Rattle.gcl_parser.specs.QueryTokens.{QueryToken, Piece, width_piece, width_token, quoted_piece, quoted_token, terms_of, is_no_quote, one_token, broken_piece}
 use Rattle.gcl_parser.specs.Scanned.{shown, HasRange, IsPiece}
 
-pub piece_of : (text : List ℕ) (at : ℕ) (piece : Piece) (l : Lexeme) (size : ℕ) (token : Token) → l ≡ record { at = at; end = at + size; token = token } →
+pub piece_of : (text : List ℕ) (at : ℕ) (piece : Piece) (l : PlacedToken) (size : ℕ) (token : Token) → l ≡ record { at = at; end = at + size; token = token } →
     piece ≡ one_token (shown text token) size → at + size ≤ length text → HasRange text token → IsPiece text at piece l
 piece_of text at piece l size token is piece_is le range =
     let end : l.end ≡ at + size = ap (λ l. l.end) is in

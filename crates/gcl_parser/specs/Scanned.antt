@@ -3,7 +3,7 @@ use Rattle.std.specs.Prelude.{◌≡◌, ℕ, ◌+◌, ◌<◌, ◌≤◌, List,
 use Rattle.gcl_model.specs.Forms.{width}
 use Rattle.gcl_parser.specs.declared.token.Token.{Token}
 use Rattle.gcl_parser.specs.declared.token.Token.TheVariants as T
-use Rattle.gcl_parser.specs.declared.token.Lexeme.{Lexeme}
+use Rattle.gcl_parser.specs.declared.token.PlacedToken.{PlacedToken}
 use Rattle.gcl_parser.specs.QueryTokens.{QueryToken, operand, joint, containment, open_bracket, close_bracket, broken, Piece, Placed, quoted_form, terms_of, tokens_behind, token_of}
 
 -- the query token that a token of the program stands for in a text
@@ -21,8 +21,8 @@ abbrev pub HasRange : List ℕ → Token → Type 0
 HasRange text (T.Quoted from to) = (from ≤ to) × (to ≤ length text)
 HasRange text token = Unit {0}
 
--- the lexeme is the piece of the text that begins at its place
-pub record IsPiece (text : List ℕ) (at : ℕ) (piece : Piece) (l : Lexeme) : Type 0 where
+-- the placed is the piece of the text that begins at its place
+pub record IsPiece (text : List ℕ) (at : ℕ) (piece : Piece) (l : PlacedToken) : Type 0 where
   pub begins : l.at ≡ at
   pub size : at + piece.size ≡ l.end
   pub tokens : piece.tokens ≡ shown text l.token ∷ []
@@ -33,8 +33,8 @@ pub record IsPiece (text : List ℕ) (at : ℕ) (piece : Piece) (l : Lexeme) : T
 abbrev pub tokens_from : List ℕ → ℕ → List Placed
 tokens_from text at = tokens_behind at (drop at text)
 
--- the lexeme is the first query token from a place on
-pub record IsNext (text : List ℕ) (from : ℕ) (l : Lexeme) : Type 0 where
+-- the placed is the first query token from a place on
+pub record IsNext (text : List ℕ) (from : ℕ) (l : PlacedToken) : Type 0 where
   pub tokens : tokens_from text from ≡ record { at = l.at; token = shown text l.token } ∷ tokens_from text l.end
   pub later : from < l.end
   pub within : l.end ≤ length text

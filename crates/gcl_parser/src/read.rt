@@ -8,7 +8,7 @@ ghost use Rattle.gcl_parser.specs.Parsed.{IsParsed, IsQueryParsed, IsBracketPars
 
 use crate::node::{chain_node, containment_node, quoted_node, width_node};
 use crate::parsed::Parsed;
-use crate::scan::next_lexeme;
+use crate::scan::next_placed;
 use crate::token::{Containment, Joint, Token};
 use std::alloc::{AllocError, Global};
 
@@ -101,19 +101,19 @@ fn operand(alloc: Global, text: &[u8], at: usize) -> Result<Parsed, AllocError>
     requires can { CanRead (bare_from text.now at) }
     ensures { IfOk result (λ parsed. IsParsed single text.now at parsed) }
 {
-    let Some(lexeme) = next_lexeme(text, at) else {
+    let Some(placed) = next_placed(text, at) else {
         unreachable!()
     };
-    match lexeme.token {
+    match placed.token {
         Token::Quoted(from, to) => Ok(Parsed {
             expr: quoted_node(alloc, &text[from..to])?,
-            end: lexeme.end,
+            end: placed.end,
         }),
         Token::Width(width) => Ok(Parsed {
             expr: width_node(width),
-            end: lexeme.end,
+            end: placed.end,
         }),
-        Token::Open => bracketed(alloc, text, lexeme.end),
+        Token::Open => bracketed(alloc, text, placed.end),
         _ => unreachable!(),
     }
 }
@@ -126,7 +126,7 @@ fn bracketed(alloc: Global, text: &[u8], at: usize) -> Result<Parsed, AllocError
     ensures { IfOk result (λ parsed. IsBracketParsed text.now at parsed) }
 {
     let inside = query(alloc, text, at)?;
-    let Some(close) = next_lexeme(text, inside.end) else {
+    let Some(close) = next_placed(text, inside.end) else {
         unreachable!()
     };
     Ok(Parsed {
@@ -143,9 +143,9 @@ fn joined(text: &[u8], from: usize, joint: Joint) -> Option<usize>
     ensures within { IfSome result (λ place. place ≤ length text.now) }
     ensures none { IfNone result (IsNotNext (joint_token joint) (bare_from text.now from)) }
 {
-    let lexeme = next_lexeme(text, from)?;
-    if lexeme.token == Token::Joint(joint) {
-        Some(lexeme.end)
+    let placed = next_placed(text, from)?;
+    if placed.token == Token::Joint(joint) {
+        Some(placed.end)
     } else {
         None
     }
@@ -159,9 +159,9 @@ fn compared(text: &[u8], from: usize) -> Option<(Containment, usize)>
     ensures within { IfSome result (λ found. found.1 ≤ length text.now) }
     ensures none { IfNone result (IsNoContainment (bare_from text.now from)) }
 {
-    let lexeme = next_lexeme(text, from)?;
-    match lexeme.token {
-        Token::Containment(containment) => Some((containment, lexeme.end)),
+    let placed = next_placed(text, from)?;
+    match placed.token {
+        Token::Containment(containment) => Some((containment, placed.end)),
         _ => None,
     }
 }

@@ -2,7 +2,7 @@ ghost use Rattle.std.specs.Prelude.{◌≡◌};
 ghost use Rattle.gcl_parser.specs.Refusal.{refused};
 
 use crate::fault::{QueryFault, QueryKind};
-use crate::scan::next_lexeme;
+use crate::scan::next_placed;
 use crate::state::State;
 
 /// The first fault of a text. It takes no memory, and one pass over the text.
@@ -11,12 +11,12 @@ pub fn refusal(text: &[u8]) -> Option<QueryFault>
 {
     let mut state = State::start();
     let mut at = 0;
-    while let Some(lexeme) = next_lexeme(text, at) {
-        match state.pass(lexeme.token) {
+    while let Some(placed) = next_placed(text, at) {
+        match state.pass(placed.token) {
             Ok(next) => state = next,
-            Err(kind) => return Some(fault(lexeme.at, kind)),
+            Err(kind) => return Some(fault(placed.at, kind)),
         }
-        at = lexeme.end;
+        at = placed.end;
     }
     match state.fault_at_end() {
         None => None,

@@ -5,22 +5,22 @@ ghost use Rattle.gcl_parser.specs.QueryTokens.{terms_of, quoted_token, quoted_pi
 ghost use Rattle.gcl_parser.specs.Scanned.{shown, HasRange, IsPiece, IsNext, tokens_from};
 
 use crate::fault::QueryKind;
-use crate::token::{Containment, Joint, Lexeme, Token};
+use crate::token::{Containment, Joint, PlacedToken, Token};
 use crate::width::{digit_count, width_of};
 use memchr::memchr;
 use word_tokens::token_count;
 
 /// The first query token from a place on; none where only blanks are left.
-pub fn next_lexeme(text: &[u8], from: usize) -> Option<Lexeme>
+pub fn next_placed(text: &[u8], from: usize) -> Option<PlacedToken>
     requires { from ≤ length text.now }
     ensures none { IfNone result (tokens_from text.now from ≡ []) }
-    ensures some { IfSome result (λ lexeme. IsNext text.now from lexeme) }
+    ensures some { IfSome result (λ placed. IsNext text.now from placed) }
 {
     let at = after_blanks(text, from);
     if at == text.len() {
         return None;
     }
-    Some(lexeme_at(text, at))
+    Some(placed_at(text, at))
 }
 
 /// The place of the first byte from a place on that is no blank, or the length of the text.
@@ -45,7 +45,7 @@ fn is_blank(byte: u8) -> bool
 }
 
 /// The query token at a place that holds no blank.
-fn lexeme_at(text: &[u8], at: usize) -> Lexeme
+fn placed_at(text: &[u8], at: usize) -> PlacedToken
     requires within { at < length text.now }
     requires no_blank { is_blank_byte (slice_index text.now at) ≡ false }
     ensures { IsPiece text.now at (first_piece (slice_index text.now at) (drop (at + 1) text.now)) result }
@@ -58,14 +58,14 @@ fn lexeme_at(text: &[u8], at: usize) -> Lexeme
 }
 
 /// The quoted text whose first quote stands at the place.
-fn quoted(text: &[u8], at: usize) -> Lexeme
+fn quoted(text: &[u8], at: usize) -> PlacedToken
     requires { at < length text.now }
     ensures { IsPiece text.now at (quoted_piece (drop (at + 1) text.now)) result }
 {
     let from = at + 1;
     match memchr(b'"', &text[from..]) {
-        None => lexeme(at, 1, Token::Broken(QueryKind::OpenQuote)),
-        Some(size) => lexeme(at, size + 2, content(text, from, from + size)),
+        None => placed(at, 1, Token::Broken(QueryKind::OpenQuote)),
+        Some(size) => placed(at, size + 2, content(text, from, from + size)),
     }
 }
 
@@ -97,38 +97,38 @@ pub fn is_boundary(bytes: &[u8]) -> bool
 }
 
 /// The width whose `[` stands at the place.
-fn width(text: &[u8], at: usize) -> Lexeme
+fn width(text: &[u8], at: usize) -> PlacedToken
     requires { at < length text.now }
     ensures { IsPiece text.now at (width_piece (drop (at + 1) text.now)) result }
 {
     let from = at + 1;
     let size = digit_count(&text[from..]);
     if !stands(text, from + size, b']') {
-        return lexeme(at, 1, Token::Broken(QueryKind::BadWidth));
+        return placed(at, 1, Token::Broken(QueryKind::BadWidth));
     }
-    lexeme(at, size + 2, width_of(&text[from..from + size]))
+    placed(at, size + 2, width_of(&text[from..from + size]))
 }
 
 /// The operator or the bracket at the place.
-fn sign(text: &[u8], at: usize) -> Lexeme
+fn sign(text: &[u8], at: usize) -> PlacedToken
     requires { at < length text.now }
     ensures { IsPiece text.now at (sign_piece (slice_index text.now at) (drop (at + 1) text.now)) result }
 {
     match text[at] {
-        b'^' => lexeme(at, 1, Token::Joint(Joint::BothOf)),
-        b'+' => lexeme(at, 1, Token::Joint(Joint::OneOf)),
-        b'>' => lexeme(at, 1, Token::Containment(Containment::Containing)),
-        b'<' => lexeme(at, 1, Token::Containment(Containment::ContainedIn)),
-        b'(' => lexeme(at, 1, Token::Open),
-        b')' => lexeme(at, 1, Token::Close),
-        b'.' if stands(text, at + 1, b'.') => lexeme(at, 2, Token::Joint(Joint::FollowedBy)),
+        b'^' => placed(at, 1, Token::Joint(Joint::BothOf)),
+        b'+' => placed(at, 1, Token::Joint(Joint::OneOf)),
+        b'>' => placed(at, 1, Token::Containment(Containment::Containing)),
+        b'<' => placed(at, 1, Token::Containment(Containment::ContainedIn)),
+        b'(' => placed(at, 1, Token::Open),
+        b')' => placed(at, 1, Token::Close),
+        b'.' if stands(text, at + 1, b'.') => placed(at, 2, Token::Joint(Joint::FollowedBy)),
         b'/' if stands(text, at + 1, b'>') => {
-            lexeme(at, 2, Token::Containment(Containment::NotContaining))
+            placed(at, 2, Token::Containment(Containment::NotContaining))
         }
         b'/' if stands(text, at + 1, b'<') => {
-            lexeme(at, 2, Token::Containment(Containment::NotContainedIn))
+            placed(at, 2, Token::Containment(Containment::NotContainedIn))
         }
-        _ => lexeme(at, 1, Token::Broken(QueryKind::Character)),
+        _ => placed(at, 1, Token::Broken(QueryKind::Character)),
     }
 }
 
@@ -139,11 +139,11 @@ fn stands(text: &[u8], at: usize, byte: u8) -> bool
     at < text.len() && text[at] == byte
 }
 
-fn lexeme(at: usize, size: usize, token: Token) -> Lexeme
+fn placed(at: usize, size: usize, token: Token) -> PlacedToken
     requires { at + size < 2 ^ 64 }
     ensures { result ≡ record { at = at; end = at + size; token = token } }
 {
-    Lexeme {
+    PlacedToken {
         at,
         end: at + size,
         token,

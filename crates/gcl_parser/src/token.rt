@@ -40,7 +40,7 @@ pub enum Token {
 
 /// A query token with the place where it begins and the place behind it.
 #[derive(Clone, Copy, Debug, PartialEq, Eq)]
-pub struct Lexeme {
+pub struct PlacedToken {
     pub at: usize,
     pub end: usize,
     pub token: Token,

@@ -50,23 +50,23 @@ chain-loop-members-preserved t c =
 pub operand-returns-in_ok-quoted_node-in-Quoted : goal.operand-returns-in_ok-quoted_node-in-Quoted
 operand-returns-in_ok-quoted_node-in-Quoted t c =
     let text = c.args.text.now in
-    let lexeme = c.in-Some.lexeme in
-    single_read text c.args.at lexeme _ record { expr = c.in_ok-quoted_node-in-Quoted.field-0; end = lexeme.end } c.in-Some.ensures.some (ap (λ token. shown text token) c.in-Quoted.is)
+    let placed = c.in-Some.placed in
+    single_read text c.args.at placed _ record { expr = c.in_ok-quoted_node-in-Quoted.field-0; end = placed.end } c.in-Some.ensures.some (ap (λ token. shown text token) c.in-Quoted.is)
     c.in_ok-quoted_node-in-Quoted.ensures refl
 
 pub operand-returns-in-Width : goal.operand-returns-in-Width
 operand-returns-in-Width t c =
     let text = c.args.text.now in
-    let lexeme = c.in-Some.lexeme in
-    single_read text c.args.at lexeme (width c.in-Width.width) record { expr = c.width_node.result; end = lexeme.end } c.in-Some.ensures.some
+    let placed = c.in-Some.placed in
+    single_read text c.args.at placed (width c.in-Width.width) record { expr = c.width_node.result; end = placed.end } c.in-Some.ensures.some
     (ap (λ token. shown text token) c.in-Width.is) c.width_node.ensures refl
 
 pub operand-returns-in-Open : goal.operand-returns-in-Open
 operand-returns-in-Open t c =
     let text = c.args.text.now in
-    let lexeme = c.in-Some.lexeme in
-    IfOk-weaker c.bracketed.result (λ parsed. IsBracketParsed text lexeme.end parsed) (λ parsed. IsParsed single text c.args.at parsed)
-    (λ parsed inside. bracket_read text c.args.at lexeme parsed c.in-Some.ensures.some c.in-Open.is inside) c.bracketed.ensures
+    let placed = c.in-Some.placed in
+    IfOk-weaker c.bracketed.result (λ parsed. IsBracketParsed text placed.end parsed) (λ parsed. IsParsed single text c.args.at parsed)
+    (λ parsed inside. bracket_read text c.args.at placed parsed c.in-Some.ensures.some c.in-Open.is inside) c.bracketed.ensures
 
 pub query-loop-containment-init : goal.query-loop-containment-init
 query-loop-containment-init t c = query_starts c.args.text.now c.args.at c.in_ok-whole.whole c.in_ok-whole.ensures

@@ -19,5 +19,5 @@ returns c =
     let stands : starts_with_byte 93 (drop (from + size) text) ≡ true = search rules in
     let found = width_behind text from size (from + size - from) c.digit_count-size.ensures (omega arith) stands in
     let short : from + size < length text = found.short in
-    piece_of text at (width_piece (drop from text)) c.lexeme-2.result (size + 2) c.width_of.result c.lexeme-2.ensures
+    piece_of text at (width_piece (drop from text)) c.placed-2.result (size + 2) c.width_of.result c.placed-2.ensures
     (found.piece ∙ ap (λ token. one_token token (size + 2)) (sym (c.width_of.ensures.token text))) (omega arith) (c.width_of.ensures.range text)
