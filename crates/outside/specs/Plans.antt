@@ -1,17 +1,20 @@
 -- The calls at which an object in memory is to fail, and how many were made.
 use Rattle.std.specs.Prelude.{◌≡◌, ℕ, ◌+◌, ◌-◌, ◌^◌, min, List, Contains}
-use Rattle.outside.specs.declared.calls.FailList.{FailList}
+use Rattle.outside.specs.declared.fail_list.FailList.{FailList}
 use Rattle.outside.specs.declared.source.MemSource.{MemSource}
 use Rattle.outside.specs.declared.sink.MemSink.{MemSink}
 use Rattle.outside.specs.declared.files.MemFiles.{MemFiles}
 use Rattle.outside.specs.declared.files.SureFiles.{SureFiles}
 
+-- the calls at which a source in memory is to fail, and how many were made
 abbrev pub source_plan : MemSource → FailList
 source_plan s = s.calls
 
+-- those of a sink in memory
 abbrev pub sink_plan : MemSink → FailList
 sink_plan s = s.calls
 
+-- those of files in memory
 abbrev pub files_plan : MemFiles → FailList
 files_plan f = f.calls
 

@@ -55,7 +55,7 @@ fn put_content(content: &[u8], most: u64, out: &mut Vec<u8>) -> Result<Loaded, A
     Ok(Loaded::Long)
 }
 
-/// Files in memory. It fails at the calls with these numbers, counted from 1, and where a name isn't held.
+/// Files in memory. They fail at the calls with these numbers, counted from 1, and at each name that they don't hold.
 #[derive(Drop)]
 pub struct MemFiles {
     held: Vec<(Bytes, Bytes)>,
@@ -97,6 +97,7 @@ impl Files for MemFiles {
         ensures cause { HasFileCause (⟦<MemFiles as Files>⟧.faults self.old) (⟦<MemFiles as Files>⟧.faults self.new) result }
         ensures planned { IsErrOf result FileError.Failed → IsDue (files_plan self.old) ⊎ IfSome (⟦<MemFiles as Files>⟧.held self.old) (λ contents. contents name.now ≡ None) }
         ensures due { IsDue (files_plan self.old) → IsErrOf result FileError.Failed }
+        ensures missing { IfSome (⟦<MemFiles as Files>⟧.held self.old) (λ contents. contents name.now ≡ None → IsErrOf result FileError.Failed) }
         ensures called { IsOneCallLater (files_plan self.old) (files_plan self.new) }
     {
         out.clear();

@@ -32,7 +32,6 @@ impl FailList {
         ensures fails { self.new.fails ≡ self.old.fails }
     {
         self.calls = self.calls.saturating_add(1);
-        let _faults = self.faults;
         if self.fails.contains(&self.calls) {
             self.fault();
             return Err(Failed);
