@@ -1,9 +1,11 @@
 //! The outside as it is: a source over any reader, a sink over any writer, and the file system.
 //!
-//! Each adapter keeps its trait's contract. It tells what its reader or writer tells, which is nothing of a real
-//! object, and raises its count of faults at each error of that object, so contracts above see of it the counts
-//! alone. A call that a signal interrupted is made again, and counts no fault. The layer above makes the three and
-//! lends them to a run: a `StdSource` over standard input hands out the script.
+//! Each adapter keeps its trait's contract, and raises its count of faults at each error of what it is over. Contracts
+//! know its bytes where they know those of that reader or writer; of a real one they know only the counts. A call that
+//! a signal interrupted is made again, and counts no fault. A sink never wants memory.
+//!
+//! The layer above makes the three and lends them to a run. Example: a `StdSource` over a file of `to be`, asked for
+//! three bytes at a time, hands out `to `, then `be`, and then nothing, which is the end.
 #![tactic(auto)]
 
 mod files;

@@ -1,11 +1,12 @@
-ghost use Rattle.std.specs.Prelude.{◌≡◌, ◌≤◌, IfOk, length};
+ghost use Rattle.std.specs.Prelude.{◌≡◌, ◌<◌, ◌≤◌, IfOk, IsErrOf, length};
 ghost use Rattle.std.specs.Io.KnownBytes.{WriteAppends};
+ghost use Rattle.outside.specs.Causes.{HasWriteCause};
 
 use outside::{Sink, WriteError};
 use std::io;
 use std::io::{ErrorKind, Write};
 
-/// A sink over a writer. It tells what the writer tells, which is nothing of a real one.
+/// A sink over a writer. Its bytes are known where the writer's are, which is so of no real one. It never wants memory.
 #[derive(Drop)]
 pub struct StdSink<W> {
     inner: W,
@@ -41,7 +42,13 @@ impl<W: Write> Sink for StdSink<W> {
 
     ghost faults = { λ s. s.faults };
 
-    fn write(&mut self, piece: &[u8]) -> Result<usize, WriteError> {
+    fn write(&mut self, piece: &[u8]) -> Result<usize, WriteError>
+        ensures bound { IfOk result (λ n. n ≤ length piece.now) }
+        ensures some { IfOk result (λ n. 0 < length piece.now → 0 < n) }
+        ensures bytes { WriteAppends (⟦<StdSink<W> as Sink>⟧.written self.old) (⟦<StdSink<W> as Sink>⟧.written self.new) result piece.now }
+        ensures cause { HasWriteCause (⟦<StdSink<W> as Sink>⟧.faults self.old) (⟦<StdSink<W> as Sink>⟧.faults self.new) result }
+        ensures never { ¬ IsErrOf result WriteError.NoMemory }
+    {
         match write_again(&mut self.inner, piece) {
             Ok(count) if count > 0 || piece.is_empty() => Ok(count),
             // a writer that takes nothing of a piece never will

@@ -6,7 +6,7 @@ use outside::{Failed, Source};
 use std::io;
 use std::io::{ErrorKind, Read};
 
-/// A source over a reader. It tells what the reader tells, which is nothing of a real one.
+/// A source over a reader. Its bytes are known where the reader's are, which is so of no real one.
 #[derive(Drop)]
 pub struct StdSource<R> {
     inner: R,

@@ -1,5 +1,5 @@
 use crate::{StdFiles, StdSink, StdSource};
-use outside::{FileError, Files, Loaded, Sink, Source};
+use outside::{FileError, Files, Loaded, Sink, Source, WriteError};
 use std::{env, fs, io};
 
 #[test]
@@ -24,6 +24,9 @@ fn what_a_sink_took_a_source_hands_out_and_files_load(rt: HostRuntime) -> io::Re
     assert_eq!(rt; out.as_slice(), b"to be".as_slice());
     assert_eq!(rt; files.load(b"\xff", 4, &mut out), Err(FileError::Failed));
     assert_eq!(rt; files.last_fault(), b"\xff".as_slice());
+    // a file that was opened for reading takes nothing
+    let mut shut = StdSink::new(fs::open(&rt, &place)?);
+    assert_eq!(rt; shut.write(b"to be"), Err(WriteError::Failed));
     fs::remove_file(&rt, &place)?;
     assert_eq!(rt; files.load(name, 5, &mut out), Err(FileError::Failed));
     assert_eq!(rt; files.last_fault(), name);
