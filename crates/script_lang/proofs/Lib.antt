@@ -1,7 +1,8 @@
+pub mod AnswerLemmas
+pub mod CommandLemmas
 pub mod LineLemmas
 pub mod NumberLemmas
 pub mod PutLemmas
-pub mod AnswerLemmas
-mod WorkedLines
-mod WorkedCommands
 mod WorkedAnswers
+mod WorkedCommands
+mod WorkedLines

@@ -6,7 +6,8 @@ use Rattle.std.proofs.lemmas.Bool.Decides.{nat_tests}
 use Rattle.std.proofs.lemmas.List.{length-drop, drop-drop, take-take, drop_min, drop-take}
 use Rattle.std.proofs.lemmas.List.Sums.{prefix_len_is, prefix_len-le-length}
 use Rattle.memchr.specs.Find.{NoneBefore, Nowhere, Passes, is_byte}
-use Rattle.script_lang.specs.Blanks.{is_blank, without_front, without_back}
+use Rattle.gcl_model.specs.Tokens.{is_blank}
+use Rattle.script_lang.specs.Blanks.{without_front, without_back}
 use Rattle.script_lang.specs.Lines.{Line, line_of, lines, line_end, cut_at_newlines, without_return}
 
 not_true : (t : Bool) → (t ≡ true → ⊥) → not t ≡ true

@@ -1,5 +1,6 @@
 -- The lines of answers, each without its newline.
-use Rattle.std.specs.Prelude.{ℕ, ◌+◌, ◌-◌, ◌==◌, ◌≡◌, Bool, false, List, [], ◌∷◌, ◌++◌, codes, decimal}
+use Rattle.std.specs.Prelude.{ℕ, ◌+◌, ◌-◌, ◌≡◌, Bool, List, ◌++◌, codes, decimal}
+use Rattle.gcl_model.specs.Tokens.{starts_with_byte}
 use Rattle.gcl_model.specs.Extents.{Extent}
 use Rattle.address_space.specs.Runs.{FileEntry}
 use Rattle.gcl_parser.specs.declared.fault.QueryFault.{QueryFault}
@@ -52,10 +53,9 @@ refusal_line (NoFile id) = codes "! no file " ++ decimal id
 refusal_line TooLong = codes "! file too long"
 refusal_line NoAddresses = codes "! no addresses"
 
--- the line begins with an exclamation mark
+-- the line begins with an exclamation mark: "! command" does, and "= 2" does not
 abbrev pub is_refusal : List ℕ → Bool
-is_refusal [] = false
-is_refusal (b ∷ rest) = b == 33
+is_refusal = starts_with_byte 33
 
 -- the new bytes begin with the old ones
 pub record Grows (old new : List ℕ) : Type 0 where

@@ -1,10 +1,7 @@
 -- Blanks, and what stands between them.
-use Rattle.std.specs.Prelude.{ℕ, ◌-◌, Bool, ◌||◌, ◌==◌, List, length, take, drop}
+use Rattle.std.specs.Prelude.{ℕ, ◌-◌, List, length, take, drop}
 use Rattle.std.specs.List.{prefix_len, suffix_len, position_or_len}
-
--- a space or a tab
-abbrev pub is_blank : ℕ → Bool
-is_blank b = b == 32 || b == 9
+use Rattle.gcl_model.specs.Tokens.{is_blank}
 
 -- the bytes without the blanks at their front
 abbrev pub without_front : List ℕ → List ℕ
@@ -14,6 +11,6 @@ without_front bytes = drop (prefix_len is_blank bytes) bytes
 abbrev pub without_back : List ℕ → List ℕ
 without_back bytes = take (length bytes - suffix_len is_blank bytes) bytes
 
--- what stands behind the first word and the blanks after it: of "top 2 a" it is "2 a"
+-- what follows the first word and the blanks after it: of "top 2 a" it is "2 a"
 abbrev pub behind_word : List ℕ → List ℕ
 behind_word bytes = without_front (drop (position_or_len is_blank bytes) bytes)

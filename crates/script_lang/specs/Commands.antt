@@ -1,9 +1,10 @@
 -- The command of a line.
-use Rattle.std.specs.Prelude.{ℕ, ◌≡◌, true, ⊤, ◌==◌, List, [], ◌∷◌, length, codes, bytes_eq, unwrap_or, if◌then◌else◌}
+use Rattle.std.specs.Prelude.{ℕ, ◌≡◌, true, ⊤, ◌==◌, List, [], ◌∷◌, length, codes, bytes_eq, unwrap_or, Option, None, Some, if◌then◌else◌}
 use Rattle.std.specs.Option.{option_map}
 use Rattle.std.specs.List.{before_first}
 use Rattle.gcl_model.specs.Names.{is_name}
-use Rattle.script_lang.specs.Blanks.{is_blank, behind_word}
+use Rattle.gcl_model.specs.Tokens.{is_blank}
+use Rattle.script_lang.specs.Blanks.{behind_word}
 use Rattle.script_lang.specs.Numbers.{number_of}
 use Rattle.script_lang.specs.declared.commands.Command.{Command}
 use Rattle.script_lang.specs.declared.commands.Command.TheVariants.{Blank, Add, Del, Find, Count, Top, Files, Merge, Shards, Save, Load, Wrong}
@@ -15,9 +16,13 @@ IsNamed (Save name) = is_name name ≡ true
 IsNamed (Load name) = is_name name ≡ true
 IsNamed _ = ⊤
 
+-- the argument where it is a name
+abbrev pub name_of : List ℕ → Option (List ℕ)
+name_of argument = if is_name argument then Some argument else None
+
 -- the argument is a name
 abbrev pub named : (List ℕ → Command) → List ℕ → Command
-named make argument = if is_name argument then make argument else Wrong
+named make argument = unwrap_or (option_map make (name_of argument)) Wrong
 
 -- the argument is a number
 abbrev pub numbered : (ℕ → Command) → List ℕ → Command

@@ -1,15 +1,16 @@
 ghost use Rattle.std.specs.Prelude.{◌≡◌, ◌≤◌, length, drop};
 ghost use Rattle.std.specs.List.{prefix_len, suffix_len, position_or_len, before_first};
-ghost use Rattle.script_lang.specs.Blanks.{is_blank, behind_word};
+ghost use Rattle.gcl_model.specs.Tokens.{is_blank};
+ghost use Rattle.script_lang.specs.Blanks.{behind_word};
 
-// A space or a tab.
+/// A space or a tab.
 pub fn is_blank(b: u8) -> bool
     ensures { result ≡ is_blank b }
 {
     b == b' ' || b == b'\t'
 }
 
-// How many blanks stand at the front.
+/// How many blanks are at the front.
 pub fn front_blanks(bytes: &[u8]) -> usize
     ensures value { result ≡ prefix_len is_blank bytes.now }
     ensures bound { result ≤ length bytes.now }
@@ -17,7 +18,7 @@ pub fn front_blanks(bytes: &[u8]) -> usize
     bytes.iter().take_while(|b| is_blank(**b)).count()
 }
 
-// How many blanks stand at the end.
+/// How many blanks are at the end.
 pub fn back_blanks(bytes: &[u8]) -> usize
     ensures value { result ≡ suffix_len is_blank bytes.now }
     ensures bound { result ≤ length bytes.now }
@@ -25,22 +26,22 @@ pub fn back_blanks(bytes: &[u8]) -> usize
     bytes.iter().rev().take_while(|b| is_blank(**b)).count()
 }
 
-// The length of the first word: of the bytes up to the first blank.
-pub fn word_len(bytes: &[u8]) -> usize
+// The length of the first word.
+fn word_len(bytes: &[u8]) -> usize
     ensures value { result ≡ position_or_len is_blank bytes.now }
     ensures bound { result ≤ length bytes.now }
 {
     bytes.iter().take_while(|b| !is_blank(**b)).count()
 }
 
-// The bytes up to the first blank.
+/// The bytes up to the first blank: `top` of `top 2 a`.
 pub fn first_word(bytes: &[u8]) -> &[u8]
     ensures { result.now ≡ before_first is_blank bytes.now }
 {
     &bytes[..word_len(bytes)]
 }
 
-// What stands behind the first word and the blanks after it.
+/// What follows the first word and the blanks after it: `2 a` of `top 2 a`.
 pub fn behind_word(bytes: &[u8]) -> &[u8]
     ensures { result.now ≡ behind_word bytes.now }
 {

@@ -1,6 +1,6 @@
 ghost use Rattle.std.specs.Prelude.{◌≡◌, IfOk};
-ghost use Rattle.script_lang.specs.Commands.{IsNamed, command_of, named, numbered, top_of, alone};
-ghost use Rattle.script_lang.specs.declared.commands.Command.TheVariants.{Add, Del, Save, Load, Files, Merge, Shards};
+ghost use Rattle.script_lang.specs.Commands.{IsNamed, command_of, name_of, numbered, top_of, alone};
+ghost use Rattle.script_lang.specs.declared.commands.Command.TheVariants.{Del};
 
 use crate::blanks::{behind_word, first_word};
 use crate::commands::Command;
@@ -9,34 +9,14 @@ use address_space::is_name;
 use gcl_model::Bytes;
 use std::alloc::{AllocError, Global};
 
-fn add(alloc: Global, argument: &[u8]) -> Result<Command, AllocError>
-    ensures value { IfOk result (λ command. command ≡ named Add argument.now) }
-    ensures named { IfOk result IsNamed }
+// A copy of the argument, None where it is no name.
+fn name_of(alloc: Global, argument: &[u8]) -> Result<Option<Bytes>, AllocError>
+    ensures { IfOk result (λ name. name ≡ name_of argument.now) }
 {
     if !is_name(argument) {
-        return Ok(Command::Wrong);
+        return Ok(None);
     }
-    Ok(Command::Add(Bytes::copy_of(alloc, argument)?))
-}
-
-fn save(alloc: Global, argument: &[u8]) -> Result<Command, AllocError>
-    ensures value { IfOk result (λ command. command ≡ named Save argument.now) }
-    ensures named { IfOk result IsNamed }
-{
-    if !is_name(argument) {
-        return Ok(Command::Wrong);
-    }
-    Ok(Command::Save(Bytes::copy_of(alloc, argument)?))
-}
-
-fn load(alloc: Global, argument: &[u8]) -> Result<Command, AllocError>
-    ensures value { IfOk result (λ command. command ≡ named Load argument.now) }
-    ensures named { IfOk result IsNamed }
-{
-    if !is_name(argument) {
-        return Ok(Command::Wrong);
-    }
-    Ok(Command::Load(Bytes::copy_of(alloc, argument)?))
+    Ok(Some(Bytes::copy_of(alloc, argument)?))
 }
 
 fn del(argument: &[u8]) -> Command
@@ -83,7 +63,7 @@ pub fn command(alloc: Global, line: &[u8]) -> Result<Command, AllocError>
     let word = first_word(line);
     let argument = behind_word(line);
     if word == b"add".as_slice() {
-        add(alloc, argument)
+        Ok(name_of(alloc, argument)?.map_or(Command::Wrong, Command::Add))
     } else if word == b"del".as_slice() {
         Ok(del(argument))
     } else if word == b"find".as_slice() {
@@ -99,9 +79,9 @@ pub fn command(alloc: Global, line: &[u8]) -> Result<Command, AllocError>
     } else if word == b"shards".as_slice() {
         Ok(alone(Command::Shards, argument))
     } else if word == b"save".as_slice() {
-        save(alloc, argument)
+        Ok(name_of(alloc, argument)?.map_or(Command::Wrong, Command::Save))
     } else if word == b"open".as_slice() {
-        load(alloc, argument)
+        Ok(name_of(alloc, argument)?.map_or(Command::Wrong, Command::Load))
     } else {
         Ok(Command::Wrong)
     }

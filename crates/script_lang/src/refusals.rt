@@ -13,6 +13,6 @@ pub enum Refusal {
     NoFile(u64),
     /// A file has more bytes than it may have.
     TooLong,
-    /// A file needs addresses at or above 2^48.
+    /// A file needs addresses at or above 2^56.
     NoAddresses,
 }
