@@ -1,11 +1,9 @@
 -- The query tokens of a text are those of its first piece and those of the rest.
 use Rattle.std.proofs.Common.{◌≡◌, ℕ, zero, suc, ◌+◌, ◌<◌, ◌≤◌, Bool, true, false, cond, List, [], ◌∷◌, ◌++◌, length, drop, get_or, ◌==◌, refl, ap, sym, subst, ◌∙◌, arith, length-drop}
-use Rattle.std.proofs.lemmas.Bool.{cond-true}
 use Rattle.std.proofs.lemmas.List.{drop_more, drop-drop}
-use Rattle.std.proofs.Math.Seq.{drop-length}
 use Rattle.std.specs.Prelude.{take_while, ◌&&◌}
 use Rattle.std.specs.Char.{is_ascii_digit}
-use Rattle.gcl_model.specs.Tokens.{is_blank, starts_with_byte}
+use Rattle.gcl_model.specs.Tokens.{starts_with_byte}
 use Rattle.gcl_parser.specs.declared.token.PlacedToken.{PlacedToken}
 use Rattle.gcl_parser.specs.declared.fault.QueryKind.TheVariants.{Character}
 use Rattle.gcl_parser.specs.declared.token.Joint.TheVariants.{FollowedBy, BothOf, OneOf}

@@ -1,4 +1,4 @@
--- The words of a block of bytes that is cut by entries.
+-- For proofs alone: the words of a block of bytes that is cut by entries.
 use Rattle.std.specs.Prelude.{◌≡◌, ℕ, zero, suc, ◌≤◌, List, [], ◌∷◌, length, slice_range}
 use Rattle.gcl_model.specs.Texts.{Word, IsText}
 use Rattle.plain_text.specs.declared.entry.Entry.{Entry}
