@@ -1,2 +1,8 @@
+pub mod Numbers
+pub mod Spellings
 pub mod Rising
+pub mod Packed
+pub mod Around
+pub mod Unpacking
 mod Worked
+mod WorkedNumbers

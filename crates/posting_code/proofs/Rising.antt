@@ -1,6 +1,7 @@
 -- Laws of strictly rising lists.
-use Rattle.std.proofs.Common.{ℕ, zero, suc, ◌+◌, ◌<◌, ◌≤◌, List, [], ◌∷◌, ◌++◌, length, drop, get_or, arith}
+use Rattle.std.proofs.Common.{ℕ, zero, suc, ◌+◌, ◌<◌, ◌≤◌, List, [], ◌∷◌, ◌++◌, length, take, drop, get_or, ◌-◌, ◌≡◌, refl, arith}
 use Rattle.posting_code.specs.Postings.{RiseWithin}
+use Rattle.posting_code.specs.Packed.{last_of}
 
 -- wider bounds hold too
 pub rise_wider : (low low' end end' : ℕ) (xs : List ℕ) → RiseWithin low end xs → low' ≤ low → end ≤ end' → RiseWithin low' end' xs
@@ -29,3 +30,24 @@ rise_index low end (x ∷ xs) zero r lt = (r.0, r.1)
 rise_index low end (x ∷ xs) (suc i) r lt =
     let h = rise_index (x + 1) end xs i r.2 (omega arith) in
     let p = r.0 in let a = h.0 in (omega arith, h.1)
+
+-- a rising list is no longer than its bounds are apart
+pub rise_length : (low end : ℕ) (xs : List ℕ) → RiseWithin low end xs → length xs ≤ end - low
+rise_length low end [] r = omega arith
+rise_length low end (x ∷ xs) r = let p = r.0 in let q = r.1 in let inner = rise_length (x + 1) end xs r.2 in omega (arith, p, q, inner)
+
+-- what rises behind a list is above its last member
+pub rise_last : (low end : ℕ) (xs : List ℕ) (y : ℕ) → RiseWithin low end (xs ++ y ∷ []) → 0 < length xs → (last_of xs < y) × (y < end)
+rise_last low end [] y r some = absurd (omega (arith, some))
+rise_last low end (x ∷ []) y r some = let p = r.2 in let low = p.0 in (omega (arith, low), p.1)
+rise_last low end (x ∷ z ∷ xs) y r some = rise_last (x + 1) end (z ∷ xs) y r.2 (omega arith)
+
+pub rise_take_next : (low end : ℕ) (xs : List ℕ) (i : ℕ) → RiseWithin low end xs → i < length xs → RiseWithin low end (take i xs ++ get_or xs i 0 ∷ [])
+rise_take_next low end [] i r lt = absurd (omega (arith, lt))
+rise_take_next low end (x ∷ xs) zero r lt = (r.0, r.1, tt)
+rise_take_next low end (x ∷ xs) (suc i) r lt = (r.0, r.1, rise_take_next (x + 1) end xs i r.2 (omega (arith, lt)))
+
+pub last_of-push : (xs : List ℕ) (y : ℕ) → last_of (xs ++ y ∷ []) ≡ y
+last_of-push [] y = refl
+last_of-push (x ∷ []) y = refl
+last_of-push (x ∷ z ∷ xs) y = last_of-push (z ∷ xs) y

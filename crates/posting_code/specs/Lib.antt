@@ -1,1 +1,5 @@
+pub mod Numbers
+pub mod Laws
+pub mod Reader
 pub mod Postings
+pub mod Packed

@@ -6,9 +6,9 @@ abbrev pub RiseWithin : ℕ → ℕ → List ℕ → Type 0
 RiseWithin low end [] = Unit {0}
 RiseWithin low end (p ∷ ps) = (low ≤ p) × (p < end) × RiseWithin (p + 1) end ps
 
--- the addresses of one term: below 2^48, strictly rising
+-- the addresses of one term: below 2^56, strictly rising
 abbrev pub ArePostings : List ℕ → Type 0
-ArePostings addresses = RiseWithin 0 (2 ^ 48) addresses
+ArePostings addresses = RiseWithin 0 (2 ^ 56) addresses
 
 -- how many members a block has at most
 abbrev pub block_size : ℕ

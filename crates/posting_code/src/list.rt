@@ -1,48 +1,97 @@
-ghost use Rattle.std.specs.Prelude.{◌≡◌, ◌*◌, ◌<◌, ◌≤◌, length, slice_index, take, IfOk};
+ghost use Rattle.std.specs.Prelude.{◌≡◌, ◌+◌, ◌*◌, ◌<◌, ◌≤◌, ◌++◌, ◌∷◌, [], length, slice_index, take, reverse, find, nat_lt, nat_le, OnOk, OnErr};
 ghost use Rattle.posting_code.specs.Postings.{ArePostings, blocks_of, block_of};
+ghost use Rattle.posting_code.specs.Packed.{last_of};
 
+use crate::head::{Head, head_of, push_head};
+use crate::number::{NUMBER_END, put_number};
+use crate::unpack::{around_in, unpack};
 use std::alloc::{AllocError, Global};
 use std::marker::Model;
 
 /// Addresses are below this.
-pub const ADDRESS_END: u64 = 0x1_0000_0000_0000;
+pub const ADDRESS_END: u64 = NUMBER_END;
 
 /// How many members a block has at most.
 pub const BLOCK: usize = 64;
 
 /// The addresses of one term.
+// The first address of the whole list stands apart, so that a list of one needs no memory beside itself. The differences
+// of all members stand in one row, so that a list grows behind, and a block is read from its head on.
 #[derive(Drop)]
 pub struct PostingList {
-    addresses: Vec<u64>,
+    count: usize,
+    first: u64,
+    packed: Vec<u8>,
+    // of the blocks from the second on
+    heads: Vec<Head>,
 }
 
 impl Model for PostingList {
     ghost use Rattle.std.specs.Prelude.{List, ℕ};
-    ghost use Rattle.posting_code.specs.Postings.{ArePostings};
+    ghost use Rattle.posting_code.specs.Packed.{kept, IsKept};
 
     ghost Value = { List ℕ };
 
-    ghost view = { λ l. l.addresses.items };
+    ghost view = { λ l. kept l.count l.first l.packed.items };
 
-    ghost invariant = { λ l. ArePostings l.addresses.items };
-}
-
-/// The list of exactly these addresses.
-pub fn encode(alloc: Global, addresses: &[u64]) -> Result<PostingList, AllocError>
-    requires { ArePostings addresses.now }
-    ensures { IfOk result (λ list. list ≡ addresses.now) }
-{
-    let addresses = Vec::from_slice(alloc, addresses)?;
-    Ok(PostingList { addresses })
+    ghost invariant = { λ l. IsKept l.count l.first l.packed.items l.heads.items };
 }
 
 impl PostingList {
+    /// No addresses. It takes no memory.
+    pub(crate) fn new(alloc: Global) -> Self
+        ensures { result ≡ [] }
+    {
+        PostingList {
+            count: 0,
+            first: 0,
+            packed: Vec::new(alloc),
+            heads: Vec::new(alloc),
+        }
+    }
+
+    /// Puts an address behind the last one.
+    pub(crate) fn push_behind(&mut self, last: u64, address: u64) -> Result<(), AllocError>
+        requires last { last ≡ last_of self.old }
+        requires rising { ArePostings (self.old ++ address ∷ []) }
+        ensures ok { OnOk result (self.new ≡ self.old ++ address ∷ []) }
+        ensures err { OnErr result (self.new ≡ self.old) }
+    {
+        if self.count == 0 {
+            self.first = address;
+            self.count = 1;
+            return Ok(());
+        }
+        let before = self.packed.len();
+        put_number(&mut self.packed, address - last)?;
+        let at = self.packed.len();
+        let head = Head { first: address, at };
+        match push_head(&mut self.heads, self.count, head) {
+            Ok(()) => {
+                self.count += 1;
+                Ok(())
+            }
+            Err(fault) => {
+                self.packed.truncate(before);
+                Err(fault)
+            }
+        }
+    }
+
+    /// Gives back the memory that growing took and no address needs.
+    pub(crate) fn fit(&mut self)
+        ensures { self.new ≡ self.old }
+    {
+        self.packed.shrink_to_fit();
+        self.heads.shrink_to_fit();
+    }
+
     /// The number of addresses.
     pub fn len(&self) -> usize
         ensures value { result ≡ length self.now }
         ensures rising { ArePostings self.now }
     {
-        self.addresses.len()
+        self.count
     }
 
     /// The number of blocks. None of them is empty, so an empty list has none.
@@ -50,7 +99,7 @@ impl PostingList {
         ensures value { result ≡ blocks_of self.now }
         ensures rising { ArePostings self.now }
     {
-        self.addresses.len().div_ceil(BLOCK)
+        self.count.div_ceil(BLOCK)
     }
 
     /// The first address of a block.
@@ -59,7 +108,7 @@ impl PostingList {
         ensures value { result ≡ slice_index self.now (64 * block) }
         ensures rising { ArePostings self.now }
     {
-        self.addresses[BLOCK * block]
+        head_of(self.first, &self.heads, block).first
     }
 
     /// Puts the members of a block at the front of `into`, and gives their number. It says nothing of the rest of `into`.
@@ -69,18 +118,21 @@ impl PostingList {
         ensures members { take result into.new ≡ block_of self.now block }
         ensures rising { ArePostings self.now }
     {
-        let members = self.members(block);
-        into[..members.len()].copy_from_slice(members);
-        members.len()
+        let count = BLOCK.min(self.count - BLOCK * block);
+        let head = head_of(self.first, &self.heads, block);
+        unpack(&self.packed, head.first, head.at, &mut into[..count]);
+        count
     }
 
-    fn members(&self, block: usize) -> &[u64]
+    /// The greatest member of a block before `k`, and the least from `k` on. It reads no further than the second.
+    pub fn around(&self, block: usize, k: u64) -> (Option<u64>, Option<u64>)
         requires { block < blocks_of self.now }
-        ensures value { result.now ≡ block_of self.now block }
-        ensures few { length result.now ≤ 64 }
+        ensures below { result.0 ≡ find (λ p. nat_lt p k) (reverse (block_of self.now block)) }
+        ensures from { result.1 ≡ find (λ p. nat_le k p) (block_of self.now block) }
         ensures rising { ArePostings self.now }
     {
-        let rest = &self.addresses[BLOCK * block..];
-        &rest[..BLOCK.min(rest.len())]
+        let behind = BLOCK.min(self.count - BLOCK * block) - 1;
+        let head = head_of(self.first, &self.heads, block);
+        around_in(&self.packed, head.first, head.at, behind, k)
     }
 }

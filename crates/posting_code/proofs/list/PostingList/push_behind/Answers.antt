@@ -1,0 +1,37 @@
+use Rattle.std.proofs.Common.{◌<◌, ◌^◌, ◌++◌, ◌∷◌, [], length, refl, ap, ◌∙◌, arith}
+use Rattle.posting_code.proofs.Rising.{rise_last, rise_length}
+use Rattle.posting_code.proofs.Packed.{grown_list, kept_next, is_grown}
+use Rattle.posting_code.proofs.list.PostingList.push_behind.Goals as goal
+
+pub overflow_sub-address : goal.overflow_sub-address
+overflow_sub-address c =
+    let counted = c.self.invariant.counted in
+    let some : 0 < length c.args.self.now = let e = ap length c.self.view_is in omega (arith, counted, e) in
+    let above = rise_last 0 (2 ^ 56) c.args.self.now c.args.address c.requires.rising some in
+    let low = above.0 in
+    let last = c.requires.last in
+    omega (arith, low, last)
+
+pub put_number-requires : goal.put_number-requires
+put_number-requires c =
+    let counted = c.self.invariant.counted in
+    let some : 0 < length c.args.self.now = let e = ap length c.self.view_is in omega (arith, counted, e) in
+    let above = rise_last 0 (2 ^ 56) c.args.self.now c.args.address c.requires.rising some in
+    let high = above.1 in
+    omega (arith, high)
+
+pub overflow_add-self : goal.overflow_add-self
+overflow_add-self c =
+    let counted = c.self.invariant.counted in
+    let short = rise_length 0 (2 ^ 56) _ c.self.invariant.rising in
+    omega (arith, counted, short)
+
+pub invariant_of-self-in-Ok : goal.invariant_of-self-in-Ok
+invariant_of-self-in-Ok c =
+    let grown = is_grown _ _ _ _ _ _ _ (omega arith) c.self.view_is c.requires.last c.requires.rising c.in_ok-put_number.ensures.ok in
+    kept_next _ _ _ _ _ _ _ _ _ _ c.self.invariant grown refl refl (omega (arith, c.len-at.ensures, c.put_number.new.out.ok.0)) c.in-Ok.ensures.ok
+
+pub returns-in-Ok-clause-ok : goal.returns-in-Ok-clause-ok
+returns-in-Ok-clause-ok c =
+    let grown = is_grown _ _ _ _ _ _ _ (omega arith) c.self.view_is c.requires.last c.requires.rising c.in_ok-put_number.ensures.ok in
+    (grown_list _ _ _ _ _ _ _ _ c.self.invariant grown refl).0 ∙ ap (λ xs. xs ++ c.args.address ∷ []) c.self.view_is

@@ -1,0 +1,34 @@
+ghost use Rattle.std.specs.Prelude.{◌≡◌, ◌≤◌, length, OnOk, OnErr};
+ghost use Rattle.posting_code.specs.Packed.{head_at, heads_behind};
+
+use std::alloc::AllocError;
+
+/// Where a block stands: its first member, and the place of the packed differences behind it.
+#[derive(Clone, Copy, Debug)]
+pub(crate) struct Head {
+    pub(crate) first: u64,
+    pub(crate) at: usize,
+}
+
+/// Where a block stands in a list that begins with `first`.
+#[inline(always)]
+pub(crate) fn head_of(first: u64, heads: &[Head], block: usize) -> Head
+    requires { block ≤ length heads.now }
+    ensures { result ≡ head_at first heads.now block }
+{
+    if block == 0 {
+        return Head { first, at: 0 };
+    }
+    heads[block - 1]
+}
+
+/// Puts a head behind the others where the member behind `count` others begins a block.
+pub(crate) fn push_head(heads: &mut Vec<Head>, count: usize, head: Head) -> Result<(), AllocError>
+    ensures ok { OnOk result (heads.new.items ≡ heads_behind count heads.old.items head) }
+    ensures err { OnErr result (heads.new.items ≡ heads.old.items) }
+{
+    if count % 64 == 0 {
+        heads.push(head)?;
+    }
+    Ok(())
+}

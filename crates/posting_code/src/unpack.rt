@@ -1,0 +1,70 @@
+ghost use Rattle.std.specs.Prelude.{◌≡◌, ◌+◌, ◌<◌, ◌≤◌, ◌^◌, ◌∷◌, length, take, reverse, find, nat_lt, nat_le};
+ghost use Rattle.posting_code.specs.Packed.{CanUnpack, members_behind};
+
+use crate::number::{Number, get_number};
+
+/// The member behind another one, and the place behind its difference.
+#[inline(always)]
+fn next_member(packed: &[u8], before: u64, at: usize) -> Number
+    requires can { CanUnpack packed.now before at }
+    requires some { 0 < length (members_behind packed.now before at) }
+    ensures next { members_behind packed.now before at ≡ result.value ∷ members_behind packed.now result.value result.after }
+    ensures above { before < result.value }
+    ensures can { CanUnpack packed.now result.value result.after }
+{
+    match get_number(packed, at) {
+        Some(number) => Number {
+            value: before + number.value,
+            after: number.after,
+        },
+        None => unreachable!(),
+    }
+}
+
+/// Fills `into` with the first member and those behind it.
+pub(crate) fn unpack(packed: &[u8], first: u64, at: usize, into: &mut [u64])
+    requires can { CanUnpack packed.now first at }
+    requires some { 0 < length into.old }
+    requires enough { length into.old ≤ length (members_behind packed.now first at) + 1 }
+    ensures { into.new ≡ take (length into.old) (first ∷ members_behind packed.now first at) }
+{
+    into[0] = first;
+    let mut member = Number {
+        value: first,
+        after: at,
+    };
+    for i in 1..into.len() {
+        member = next_member(packed, member.value, member.after);
+        into[i] = member.value;
+    }
+}
+
+/// Of the first member and some behind it the greatest before `k`, and the least from `k` on.
+pub(crate) fn around_in(
+    packed: &[u8],
+    first: u64,
+    at: usize,
+    behind: usize,
+    k: u64,
+) -> (Option<u64>, Option<u64>)
+    requires can { CanUnpack packed.now first at }
+    requires enough { behind ≤ length (members_behind packed.now first at) }
+    ensures below { result.0 ≡ find (λ p. nat_lt p k) (reverse (first ∷ take behind (members_behind packed.now first at))) }
+    ensures from { result.1 ≡ find (λ p. nat_le k p) (first ∷ take behind (members_behind packed.now first at)) }
+{
+    let mut member = Number {
+        value: first,
+        after: at,
+    };
+    let mut left = behind;
+    let mut below = None;
+    while member.value < k {
+        below = Some(member.value);
+        if left == 0 {
+            return (below, None);
+        }
+        member = next_member(packed, member.value, member.after);
+        left -= 1;
+    }
+    (below, Some(member.value))
+}
