@@ -1,14 +1,17 @@
 -- A look-up in a rising list, by the block that decides.
-use Rattle.std.proofs.Common.{◌≡◌, ℕ, zero, suc, ◌+◌, ◌-◌, ◌*◌, ◌^◌, ◌<◌, ◌≤◌, Bool, true, false, cond, leb, List, [], ◌∷◌, ◌++◌, length, take, drop, get_or, reverse, find, nat_le, Option, Some, None, refl, sym, ap, ◌∙◌, arith}
+use Rattle.std.proofs.Common.{◌≡◌, ℕ, zero, suc, ◌+◌, ◌-◌, ◌*◌, ◌^◌, ◌<◌, ◌≤◌, min, Bool, true, false, cond, leb, ltb, List, [], ◌∷◌, ◌++◌, length, take, drop, get_or, reverse, find, nat_le, Option, Some, None, inl, inr, refl, subst, sym, ap, ◌∙◌, arith}
 use Rattle.std.specs.List.{slice_get}
-use Rattle.std.specs.Option.{option_or}
-use Rattle.std.proofs.lemmas.Bool.{le-leb, lt-leb}
+use Rattle.std.specs.Option.{option_or, option_to_list}
+use Rattle.std.proofs.lemmas.Option.{none-some, slice_get_past}
+use Rattle.std.proofs.lemmas.Bool.{le-leb, lt-leb, lt-ltb, le-ltb, cases_lt}
 use Rattle.std.proofs.lemmas.List.{take-append-drop, drop-drop, length-drop, length-take, get_or-take, get_or-drop, reverse-append}
 use Rattle.std.proofs.lemmas.List.Folds.{find-append}
 use Rattle.gcl_model.specs.Access.{later_or, find_last}
 use Rattle.posting_code.specs.Postings.{RiseWithin, ArePostings, blocks_of, block_of}
-use Rattle.posting_code.proofs.Rising.{rise_index}
-use Rattle.posting_access.specs.Search.{least_from, greatest_to}
+use Rattle.posting_code.proofs.Rising.{rise_index, rise_drop}
+use Rattle.posting_code.proofs.Around.{take_rises}
+use Rattle.posting_access.specs.Search.{least_from, greatest_to, RisesByDigits}
+use Rattle.posting_access.proofs.Digits.{digits_of_blocks, digits_of_one_more}
 
 later_or-none : {X : Type 0} (o : Option X) → later_or o None ≡ o
 later_or-none None = refl
@@ -92,14 +95,10 @@ block_begins xs n lt = omega arith
 least_at_near : (xs : List ℕ) (k near : ℕ) → IsNear xs k near → least_from (drop (64 * near) xs) k ≡ slice_get xs (64 * near)
 least_at_near xs k near i = least_beyond xs (64 * near) k (λ lt. i.after (block_exists xs near lt))
 
--- no block begins at or before k
-pub least_first : (xs : List ℕ) (k : ℕ) → IsNear xs k 0 → least_from xs k ≡ slice_get xs 0
-least_first xs k i = least_at_near xs k 0 i
-
 -- the least is in the last block that begins at or before k, or else begins the next one
-least_near : (xs : List ℕ) (k last near : ℕ) → IsNear xs k near → near ≡ last + 1 →
+least_behind : (xs : List ℕ) (k last near : ℕ) → IsNear xs k near → near ≡ last + 1 →
     least_from xs k ≡ option_or (least_from (block_of xs last) k) (slice_get xs (64 * near))
-least_near xs k last near i is =
+least_behind xs k last near i is =
     let exists : last < blocks_of xs = let w = i.within in omega arith in
     let back : near - 1 ≡ last = omega arith in
     let before : get_or xs (64 * last) 0 ≤ k = let b = i.before (omega arith) in let b = rw back at b in b in
@@ -107,21 +106,50 @@ least_near xs k last near i is =
     let behind = drop (64 * last) xs in
     let parts : take 64 behind ++ drop 64 behind ≡ behind = take-append-drop 64 behind in
     let rest : drop 64 behind ≡ drop (64 * near) xs = drop-drop 64 (64 * last) xs ∙ ap (λ n. drop n xs) next in
-    least_skips 0 (2 ^ 48) xs (64 * last) k i.rising (block_begins xs last exists) before
+    least_skips 0 (2 ^ 56) xs (64 * last) k i.rising (block_begins xs last exists) before
     ∙ ap (λ ys. least_from ys k) (sym parts)
     ∙ find-append (λ p. nat_le k p) (take 64 behind) (drop 64 behind)
     ∙ ap (λ ys. option_or (least_from (block_of xs last) k) (least_from ys k)) rest
     ∙ ap (λ o. option_or (least_from (block_of xs last) k) o) (least_at_near xs k near i)
 
-pub least_found : (xs : List ℕ) (k last near x : ℕ) → IsNear xs k near → near ≡ last + 1 → Some x ≡ least_from (block_of xs last) k → Some x ≡ least_from xs k
-least_found xs k last near x i is e = sym (least_near xs k last near i is ∙ ap (λ o. option_or o (slice_get xs (64 * near))) (sym e))
+-- the first member begins the first block
+least_before : (xs : List ℕ) (k : ℕ) → IsNear xs k 0 → 0 < length xs → least_from xs k ≡ option_or (least_from (block_of xs 0) k) (slice_get xs 0)
+least_before [] k i some = absurd (omega (arith, some))
+least_before (x ∷ xs) k i some =
+    let below : k < x = i.after (block_exists (x ∷ xs) 0 (omega arith)) in
+    let e : leb k x ≡ true = le-leb k x (omega (arith, below)) in
+    rw e refl
 
-pub least_not_found : (xs : List ℕ) (k last near : ℕ) → IsNear xs k near → near ≡ last + 1 → None ≡ least_from (block_of xs last) k → least_from xs k ≡ slice_get xs (64 * near)
-least_not_found xs k last near i is e = least_near xs k last near i is ∙ ap (λ o. option_or o (slice_get xs (64 * near))) (sym e)
+-- the least is in the last block that begins at or before k, or in the first, or else begins the next one
+pub least_near : (xs : List ℕ) (k last near : ℕ) → IsNear xs k near → last ≡ near - 1 → 0 < length xs → least_from xs k ≡ option_or (least_from (block_of xs last) k) (slice_get xs (64 * near))
+least_near xs k last zero i is some = let first : last ≡ 0 = omega (arith, is) in subst (λ b. least_from xs k ≡ option_or (least_from (block_of xs b) k) (slice_get xs 0)) (sym first) (least_before xs k i some)
+least_near xs k last (suc near) i is some = least_behind xs k last (suc near) i (omega (arith, is))
+
+pub least_found : (xs : List ℕ) (k last near x : ℕ) → IsNear xs k near → last ≡ near - 1 → 0 < length xs → Some x ≡ least_from (block_of xs last) k → Some x ≡ least_from xs k
+least_found xs k last near x i is some e = sym (least_near xs k last near i is some ∙ ap (λ o. option_or o (slice_get xs (64 * near))) (sym e))
+
+pub least_not_found : (xs : List ℕ) (k last near : ℕ) → IsNear xs k near → last ≡ near - 1 → 0 < length xs → None ≡ least_from (block_of xs last) k → slice_get xs (64 * near) ≡ least_from xs k
+least_not_found xs k last near i is some e = sym (least_near xs k last near i is some ∙ ap (λ o. option_or o (slice_get xs (64 * near))) (sym e))
+
+-- where the next block was asked, there are two
+pub block_behind : (xs : List ℕ) (k near : ℕ) (r : Option ℕ) → IsNear xs k near → 0 < length xs → None ≡ least_from (block_of xs (near - 1)) k → r ≡ slice_get xs (64 * near) → 0 < length (option_to_list r) → 64 < length xs
+block_behind xs k zero r i some e is has = absurd (none-some _ (e ∙ ap (λ o. o) (first_found xs k i some)))
+  where
+    first_found : (xs : List ℕ) (k : ℕ) → IsNear xs k 0 → 0 < length xs → least_from (block_of xs 0) k ≡ Some (get_or xs 0 0)
+    first_found [] k i some = absurd (omega (arith, some))
+    first_found (x ∷ xs) k i some =
+        let below : k < x = i.after (block_exists (x ∷ xs) 0 (omega arith)) in
+        let e : leb k x ≡ true = le-leb k x (omega (arith, below)) in
+        rw e refl
+block_behind xs k (suc near) r i some e is has =
+    elim (cases_lt (64 * suc near) (length xs)) [
+      | inl lt ↦ omega (arith, lt)
+      | inr past ↦ let none : r ≡ None = is ∙ slice_get_past xs (64 * suc near) past in let empty = ap (λ o. length (option_to_list o)) none in absurd (omega (arith, has, empty))
+    ]
 
 -- no member is at most k
 pub greatest_first : (xs : List ℕ) (k : ℕ) → IsNear xs k 0 → greatest_to xs k ≡ None
-greatest_first xs k i = greatest_beyond 0 (2 ^ 48) xs 0 k i.rising (λ lt. i.after (block_exists xs 0 (omega arith)))
+greatest_first xs k i = greatest_beyond 0 (2 ^ 56) xs 0 k i.rising (λ lt. i.after (block_exists xs 0 (omega arith)))
 
 -- the greatest is in the last block that begins at or before k
 pub greatest_near : (xs : List ℕ) (k last near : ℕ) → IsNear xs k near → near ≡ last + 1 → greatest_to xs k ≡ greatest_to (block_of xs last) k
@@ -137,7 +165,7 @@ greatest_near xs k last near i is =
     let parts : take 64 behind ++ drop 64 behind ≡ behind = take-append-drop 64 behind in
     let rest : drop 64 behind ≡ drop (64 * near) xs = drop-drop 64 (64 * last) xs ∙ ap (λ n. drop n xs) next in
     let none : greatest_to (drop 64 behind) k ≡ None =
-    ap (λ ys. greatest_to ys k) rest ∙ greatest_beyond 0 (2 ^ 48) xs (64 * near) k i.rising (λ lt. i.after (block_exists xs near lt)) in
+    ap (λ ys. greatest_to ys k) rest ∙ greatest_beyond 0 (2 ^ 56) xs (64 * near) k i.rising (λ lt. i.after (block_exists xs near lt)) in
     let block : greatest_to behind k ≡ greatest_to (take 64 behind) k =
     ap (λ ys. greatest_to ys k) (sym parts)
     ∙ find_last-append (λ p. nat_le p k) (take 64 behind) (drop 64 behind)
@@ -151,3 +179,35 @@ greatest_near xs k last near i is =
     ∙ find_last-append (λ p. nat_le p k) front behind
     ∙ ap (λ o. later_or o (greatest_to front k)) block
     ∙ greatest_met (take 64 behind) k (greatest_to front k) some low
+
+-- the two ways to say a bound
+greatest_agrees : (low k above : ℕ) (xs : List ℕ) → RiseWithin low (2 ^ 56) xs → ((p : ℕ) → p < 2 ^ 56 → ltb p above ≡ leb p k) → find_last (λ p. ltb p above) xs ≡ greatest_to xs k
+greatest_agrees low k above [] r same = refl
+greatest_agrees low k above (x ∷ xs) r same =
+    ap (λ o. later_or o (cond (ltb x above) (Some x) None)) (greatest_agrees (x + 1) k above xs r.2 same)
+    ∙ ap (λ b. later_or (greatest_to xs k) (cond b (Some x) None)) (same x r.1)
+
+one_above : (k above p : ℕ) → above ≡ min (k + 1) (2 ^ 64 - 1) → p < 2 ^ 56 → ltb p above ≡ leb p k
+one_above k above p is small =
+    elim (cases_lt k p) [
+      | inl beyond ↦ le-ltb p above (omega (arith, beyond, is)) ∙ sym (lt-leb p k beyond)
+      | inr within ↦ lt-ltb p above (omega (arith, within, is, small)) ∙ sym (le-leb p k within)
+    ]
+
+block_rises : (xs : List ℕ) (b : ℕ) → ArePostings xs → RiseWithin 0 (2 ^ 56) (block_of xs b)
+block_rises xs b r = take_rises 0 (2 ^ 56) (drop (64 * b) xs) 64 (rise_drop 0 (2 ^ 56) xs (64 * b) r)
+
+pub greatest_found : (xs : List ℕ) (k last near above : ℕ) (r : Option ℕ) → IsNear xs k near → near ≡ last + 1 → above ≡ min (k + 1) (2 ^ 64 - 1) →
+    r ≡ find (λ p. ltb p above) (reverse (block_of xs last)) → r ≡ greatest_to xs k
+greatest_found xs k last near above r i is above_is e =
+    e ∙ find-reverse (λ p. ltb p above) (block_of xs last)
+    ∙ greatest_agrees 0 k above (block_of xs last) (block_rises xs last i.rising) (λ p small. one_above k above p above_is small)
+    ∙ sym (greatest_near xs k last near i is)
+
+-- the probes of the search, and the one of the next block
+pub probed_after : (xs : List ℕ) (k last near before now later : ℕ) (r : Option ℕ) → IsNear xs k near → last ≡ near - 1 → 0 < length xs → None ≡ least_from (block_of xs last) k →
+    r ≡ slice_get xs (64 * near) → RisesByDigits (blocks_of xs) before now → later ≡ now + length (option_to_list r) → RisesByDigits (length xs) before later
+probed_after xs k last near before now later None i is some e got probes counted = digits_of_blocks (length xs) (blocks_of xs) before later refl (subst (RisesByDigits (blocks_of xs) before) (omega (arith, counted)) probes)
+probed_after xs k last near before now later (Some x) i is some e got probes counted =
+    let many = block_behind xs k near (Some x) i some (subst (λ b. None ≡ least_from (block_of xs b) k) is e) got (omega arith) in
+    digits_of_one_more (length xs) (blocks_of xs) before now later refl many probes (omega (arith, counted))

@@ -1,6 +1,6 @@
 -- Look-ups, computed.
-use Rattle.std.proofs.Common.{◌≡◌, [], ◌∷◌, Some, None, refl}
-use Rattle.posting_access.specs.Search.{least_from, greatest_to}
+use Rattle.std.proofs.Common.{◌≡◌, ◌≤◌, [], ◌∷◌, Some, None, refl}
+use Rattle.posting_access.specs.Search.{least_from, greatest_to, HasDigits}
 
 -- between two members, at a member, and past the last
 least_from-between : least_from (2 ∷ 5 ∷ 9 ∷ []) 3 ≡ Some 5
@@ -20,3 +20,13 @@ greatest_to-met = refl
 
 greatest_to-before : greatest_to (2 ∷ 5 ∷ 9 ∷ []) 1 ≡ None
 greatest_to-before = refl
+
+-- 5 has three binary digits, and 0 has none
+digits-of_five : HasDigits 5 3 ≡ (8 ≤ 11)
+digits-of_five = refl
+
+digits-of_five_not_four : HasDigits 5 4 ≡ (16 ≤ 11)
+digits-of_five_not_four = refl
+
+digits-of_none : HasDigits 0 0 ≡ (1 ≤ 1)
+digits-of_none = refl

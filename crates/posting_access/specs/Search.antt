@@ -1,5 +1,5 @@
--- The two look-ups in a rising list.
-use Rattle.std.specs.Prelude.{ℕ, nat_le, List, find, Option}
+-- The two look-ups in a rising list, and how many probes they may make.
+use Rattle.std.specs.Prelude.{ℕ, ◌+◌, ◌*◌, ◌^◌, ◌≤◌, nat_le, List, find, Option}
 use Rattle.gcl_model.specs.Access.{find_last}
 
 -- the least member at or after k: of 2, 5, 9 from 3 on it is 5, and from 10 on there is none
@@ -9,3 +9,14 @@ least_from addresses k = find (λ p. nat_le k p) addresses
 -- the greatest member at or before k: of 2, 5, 9 up to 3 it is 2, and up to 1 there is none
 abbrev pub greatest_to : List ℕ → ℕ → Option ℕ
 greatest_to addresses k = find_last (λ p. nat_le p k) addresses
+
+-- a number has c binary digits or more: 5 has three, since 2^3 is at most 11, and not four; 0 has none
+abbrev pub HasDigits : ℕ → ℕ → Type 0
+HasDigits n c = 2 ^ c ≤ 2 * n + 1
+
+-- a counter rose, by no more than the number has binary digits: by 3 at most for 5
+pub record RisesByDigits (n before after : ℕ) : Type 0 where
+  pub digits : ℕ
+  pub few : HasDigits n digits
+  pub most : after ≤ before + digits
+  pub rises : before ≤ after

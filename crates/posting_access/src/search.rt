@@ -1,19 +1,42 @@
-ghost use Rattle.std.specs.Prelude.{◌≡◌, ◌*◌, ◌-◌, ◌<◌, ◌≤◌, nat_le, find, reverse, slice_index, slice_get};
+ghost use Rattle.std.specs.Prelude.{◌≡◌, ◌+◌, ◌*◌, ◌-◌, ◌<◌, ◌≤◌, length, slice_index, slice_get};
+ghost use Rattle.std.specs.Option.{option_to_list};
 ghost use Rattle.posting_code.specs.Postings.{blocks_of, block_of, ArePostings};
-ghost use Rattle.posting_access.specs.Search.{least_from, greatest_to};
+ghost use Rattle.posting_access.specs.Search.{least_from, greatest_to, RisesByDigits};
 
+use crate::halving::{Test, border};
 use gcl_model::{Ledger, Steps};
-use posting_code::{BLOCK, PostingList};
+use posting_code::PostingList;
+
+/// The blocks of a list that begin at `k` or before.
+#[derive(Drop)]
+pub struct BlocksUpTo<'a> {
+    pub list: &'a PostingList,
+    pub k: u64,
+}
+
+impl<'a> Test for BlocksUpTo<'a> {
+    ghost use Rattle.std.specs.Prelude.{◌≡◌, ◌*◌, nat_le, slice_index};
+    ghost use Rattle.posting_code.specs.Postings.{blocks_of};
+
+    ghost places = { λ t. blocks_of t.list.now };
+
+    ghost passes = { λ t i. nat_le (slice_index t.list.now (64 * i)) t.k };
+
+    fn passes_at(&self, i: usize) -> bool {
+        self.list.block_first(i) <= self.k
+    }
+}
 
 /// The least address at or after `k`.
 pub fn at_or_after<L: Ledger>(list: &PostingList, k: u64, probes: &mut Steps<L>) -> Option<u64>
-    ensures { result ≡ least_from list.now k }
+    ensures answer { result ≡ least_from list.now k }
+    ensures probes { RisesByDigits (length list.now) probes.old probes.new }
 {
     let near = blocks_up_to(list, k, probes);
-    let Some(last) = near.checked_sub(1) else {
-        return first_of_block(list, near, probes);
-    };
-    match least_in_block(list, last, k) {
+    if list.len() == 0 {
+        return None;
+    }
+    match least_in_block(list, near.saturating_sub(1), k) {
         Some(address) => Some(address),
         None => first_of_block(list, near, probes),
     }
@@ -21,11 +44,12 @@ pub fn at_or_after<L: Ledger>(list: &PostingList, k: u64, probes: &mut Steps<L>)
 
 /// The greatest address at or before `k`.
 pub fn at_or_before<L: Ledger>(list: &PostingList, k: u64, probes: &mut Steps<L>) -> Option<u64>
-    ensures { result ≡ greatest_to list.now k }
+    ensures answer { result ≡ greatest_to list.now k }
+    ensures probes { RisesByDigits (length list.now) probes.old probes.new }
 {
     let near = blocks_up_to(list, k, probes);
     let last = near.checked_sub(1)?;
-    greatest_in_block(list, last, k)
+    list.around(last, k.saturating_add(1)).0
 }
 
 /// How many blocks begin at or before `k`: they are the first ones.
@@ -34,49 +58,28 @@ fn blocks_up_to<L: Ledger>(list: &PostingList, k: u64, probes: &mut Steps<L>) ->
     ensures before { 0 < result → slice_index list.now (64 * (result - 1)) ≤ k }
     ensures after { result < blocks_of list.now → k < slice_index list.now (64 * result) }
     ensures rising { ArePostings list.now }
+    ensures probes { RisesByDigits (blocks_of list.now) probes.old probes.new }
 {
-    for block in 0..list.block_count() {
-        probes.tick();
-        if k < list.block_first(block) {
-            return block;
-        }
-    }
-    list.block_count()
+    border(&BlocksUpTo { list, k }, 0, list.block_count(), probes)
+}
+
+/// The least address of a block from `k` on.
+fn least_in_block(list: &PostingList, block: usize, k: u64) -> Option<u64>
+    requires { block < blocks_of list.now }
+    ensures { result ≡ least_from (block_of list.now block) k }
+{
+    list.around(block, k).1
 }
 
 /// The first address of a block, if there is such a block.
 fn first_of_block<L: Ledger>(list: &PostingList, block: usize, probes: &mut Steps<L>) -> Option<u64>
     requires { block ≤ blocks_of list.now }
-    ensures { result ≡ slice_get list.now (64 * block) }
+    ensures answer { result ≡ slice_get list.now (64 * block) }
+    ensures probe { probes.new ≡ probes.old + length (option_to_list result) }
 {
     if block == list.block_count() {
         return None;
     }
     probes.tick();
     Some(list.block_first(block))
-}
-
-fn least_in_block(list: &PostingList, block: usize, k: u64) -> Option<u64>
-    requires { block < blocks_of list.now }
-    ensures { result ≡ least_from (block_of list.now block) k }
-{
-    let mut members = [0; BLOCK];
-    let count = list.read_block(block, &mut members);
-    members[..count]
-        .iter()
-        .copied()
-        .find(|address| k <= *address)
-}
-
-fn greatest_in_block(list: &PostingList, block: usize, k: u64) -> Option<u64>
-    requires { block < blocks_of list.now }
-    ensures { result ≡ find (λ p. nat_le p k) (reverse (block_of list.now block)) }
-{
-    let mut members = [0; BLOCK];
-    let count = list.read_block(block, &mut members);
-    members[..count]
-        .iter()
-        .rev()
-        .copied()
-        .find(|address| *address <= k)
 }
