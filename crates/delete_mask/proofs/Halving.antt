@@ -1,10 +1,11 @@
 -- Where halving finds the range that an address may be in.
 use Rattle.std.proofs.Common.{subst, ◌≡◌, ℕ, zero, suc, ◌+◌, ◌^◌, ◌<◌, ◌≤◌, Bool, true, false, ◌&&◌, cond, leb, ltb, List, [], ◌∷◌, length, take, drop, get_or, le_refl, Option, Some, None, refl, sym, ap, ◌∙◌, arith, inl, inr, ◌⊎◌, ◌↔◌}
+use Rattle.gcl_model.specs.Limits.{address_end}
 use Rattle.std.specs.List.{prefix_len, slice_get}
 use Rattle.std.specs.List.Sorted.{IsPartitionPoint, IsNonDecreasingBy}
 use Rattle.std.proofs.lemmas.Bool.{cond_both, cond-true, cond-false, ltb-true, ltb-false, cases_lt, lt-ltb, le-ltb, le-leb, lt-leb, or_from}
-use Rattle.gcl_model.specs.Slots.{SlotRange}
-use Rattle.delete_mask.specs.Masks.{is_within, is_dead, dead_range, AreRangesWithin, IsApart}
+use Rattle.gcl_model.specs.Slots.{SlotRange, AreRangesWithin}
+use Rattle.delete_mask.specs.Masks.{is_within, is_dead, dead_range, IsApart}
 use Rattle.delete_mask.proofs.MaskLemmas.{is_within-before, is_within-behind, is_within-bounds, dead_range-before, is_dead-before, IsApart-rest, IsApart-behind}
 
 -- how many ranges end before p, where there is a first range
@@ -32,15 +33,6 @@ AreRangesWithin-after low end (dead ∷ mask) range h apart le =
     prefix_len-cases (λ n. AreRangesWithin (range.last + 1) end (drop n (dead ∷ mask))) dead mask range.first
     (λ before. AreRangesWithin-after (dead.last + 1) end mask range h.3 (IsApart-rest range dead mask apart) le)
     (λ after. (let behind = IsApart-behind range dead mask le h.1 apart after in omega arith, h.1, h.2, h.3))
-
--- a partition point is the length of the front that passes
-pub prefix_len_at_point : (p : SlotRange → Bool) (mask : List SlotRange) (n : ℕ) → n ≤ length mask → IsPartitionPoint (λ r. p r ≡ true) (λ r. p r ≡ false) mask n → n ≡ prefix_len p mask
-prefix_len_at_point p [] n le point = omega arith
-prefix_len_at_point p (range ∷ mask) zero le point = let fails : p range ≡ false = point.1 0 range (le_refl 0) (omega arith) in rw fails refl
-prefix_len_at_point p (range ∷ mask) (suc n) le point =
-    let passes : p range ≡ true = point.0 0 range (le_refl 0) (omega arith) in
-    let rest : n ≡ prefix_len p mask = prefix_len_at_point p mask n (omega arith) (λ k d ge lt. point.0 (suc k) d (omega arith) (omega arith), λ k d ge lt. point.1 (suc k) d (omega arith) (omega arith)) in
-    rw passes (omega arith)
 
 last_from : (low end : ℕ) (mask : List SlotRange) (j : ℕ) (d : SlotRange) → AreRangesWithin low end mask → j < length mask → low ≤ (get_or mask j d).last
 last_from low end [] j d h lt = absurd (omega arith)
@@ -89,8 +81,8 @@ dead_range-halved low end (range ∷ mask) p h = by_order (cases_lt range.last p
         ap (λ t. cond t (Some range) (dead_range mask p)) within ∙ ap (λ o. cond (leb range.first p) (Some range) o) none ∙ sym (ap (λ n. reached p (slice_get (range ∷ mask) n)) count)
 
 -- the range at the place that halving finds
-pub reached_is_dead_range : (mask : List SlotRange) (p at : ℕ) (found : Option SlotRange) → AreRangesWithin 0 (2 ^ 48) mask → at ≡ prefix_len (λ range. ltb range.last p) mask → found ≡ slice_get mask at → reached p found ≡ dead_range mask p
-reached_is_dead_range mask p at found h count e = ap (reached p) e ∙ ap (λ n. reached p (slice_get mask n)) count ∙ sym (dead_range-halved 0 (2 ^ 48) mask p h)
+pub reached_is_dead_range : (mask : List SlotRange) (p at : ℕ) (found : Option SlotRange) → AreRangesWithin 0 address_end mask → at ≡ prefix_len (λ range. ltb range.last p) mask → found ≡ slice_get mask at → reached p found ≡ dead_range mask p
+reached_is_dead_range mask p at found h count e = ap (reached p) e ∙ ap (λ n. reached p (slice_get mask n)) count ∙ sym (dead_range-halved 0 address_end mask p h)
 
 pub reached-inside : (range : SlotRange) (p : ℕ) → range.first ≤ p → Some range ≡ reached p (Some range)
 reached-inside range p h = sym (cond-true (leb range.first p) (Some range) None (le-leb range.first p h))
@@ -122,9 +114,9 @@ is_clear-apart low end (dead ∷ mask) range h le =
     ))
 
 -- the same at the place that halving finds
-pub is_clear_is_apart : (mask : List SlotRange) (range : SlotRange) (at : ℕ) (found : Option SlotRange) → AreRangesWithin 0 (2 ^ 48) mask → range.first ≤ range.last
+pub is_clear_is_apart : (mask : List SlotRange) (range : SlotRange) (at : ℕ) (found : Option SlotRange) → AreRangesWithin 0 address_end mask → range.first ≤ range.last
     → at ≡ prefix_len (λ dead. ltb dead.last range.first) mask → found ≡ slice_get mask at → (is_clear range found ≡ true) ↔ IsApart range mask
 is_clear_is_apart mask range at found h le count e =
-    let clear = is_clear-apart 0 (2 ^ 48) mask range h le in
+    let clear = is_clear-apart 0 address_end mask range h le in
     let same = ap (is_clear range) e ∙ ap (λ n. is_clear range (slice_get mask n)) count in
     (λ is. clear.0 (sym same ∙ is), λ apart. same ∙ clear.1 apart)

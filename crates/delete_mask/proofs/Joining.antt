@@ -1,18 +1,15 @@
 -- What one range more makes of a mask.
 use Rattle.std.proofs.Common.{◌≡◌, ℕ, suc, ◌+◌, ◌-◌, ◌<◌, ◌≤◌, Bool, true, false, ◌&&◌, ◌||◌, eqb, leb, ltb, List, [], ◌∷◌, ◌++◌, length, take, get_or, refl, sym, ap, ◌∙◌, arith, inl, inr, ◌⊎◌}
 use Rattle.std.proofs.lemmas.Bool.{cond_both, cond-true, cond-false, ltb-true, ltb-false, eqb-true, eqb-false, cases_lt, lt-ltb, le-ltb, le-leb, eq-eqb}
-use Rattle.gcl_model.specs.Slots.{SlotRange, joined}
-use Rattle.delete_mask.specs.Masks.{is_within, is_dead, AreRangesWithin, IsApart, with_range}
+use Rattle.std.proofs.Math.Bool.{or_assoc}
+use Rattle.gcl_model.specs.Slots.{SlotRange, joined, AreRangesWithin}
+use Rattle.delete_mask.specs.Masks.{is_within, is_dead, IsApart, with_range}
 use Rattle.delete_mask.proofs.MaskLemmas.{is_within-before, is_within-behind, AreRangesWithin-earlier, IsApart-rest, IsApart-joined, IsApart-behind}
 
-or_swap : (x y z : Bool) → (x || (y || z)) ≡ (y || (x || z))
+pub or_swap : (x y z : Bool) → (x || (y || z)) ≡ (y || (x || z))
 or_swap true true z = refl
 or_swap true false z = refl
 or_swap false y z = refl
-
-or_assoc : (x y z : Bool) → ((x || y) || z) ≡ (x || (y || z))
-or_assoc true y z = refl
-or_assoc false y z = refl
 
 -- two ranges that touch have the addresses of both
 pub is_within-joined : (a b : SlotRange) (p : ℕ) → a.first ≤ a.last → b.first ≤ b.last → a.last + 1 ≡ b.first → is_within (joined a b) p ≡ (is_within a p || is_within b p)

@@ -2,8 +2,8 @@
 use Rattle.std.proofs.Common.{◌≡◌, ℕ, suc, ◌+◌, ◌<◌, ◌≤◌, Bool, true, false, ◌||◌, cond, leb, List, [], ◌∷◌, length, Some, None, refl, sym, ap, ◌∙◌, arith, inl, inr, ◌⊎◌, ◌↔◌}
 use Rattle.std.specs.List.{Contains}
 use Rattle.std.proofs.lemmas.Bool.{cases_lt, le-leb, lt-leb, leb-true, false≢true, and_left, and_right, and_from, and_parts, or_parts}
-use Rattle.gcl_model.specs.Slots.{SlotRange, joined}
-use Rattle.delete_mask.specs.Masks.{is_within, is_dead, dead_range, AreRangesWithin, IsApart}
+use Rattle.gcl_model.specs.Slots.{SlotRange, joined, AreRangesWithin}
+use Rattle.delete_mask.specs.Masks.{is_within, is_dead, dead_range, IsApart}
 
 pub is_within-inside : (range : SlotRange) (p : ℕ) → range.first ≤ p → p ≤ range.last → is_within range p ≡ true
 is_within-inside range p h k = and_from (leb range.first p) (leb p range.last) (le-leb range.first p h) (le-leb p range.last k)
@@ -36,14 +36,6 @@ dead_range-within (dead ∷ mask) p range e = here (is_within dead p) refl e (de
     here : (t : Bool) → is_within dead p ≡ t → cond t (Some dead) (dead_range mask p) ≡ Some range → (dead_range mask p ≡ Some range → is_within range p ≡ true) → is_within range p ≡ true
     here true is found rest = let same : dead ≡ range = cc in sym (ap (λ r. is_within r p) same) ∙ is
     here false is found rest = rest found
-
-pub dead_range-among : (mask : List SlotRange) (p : ℕ) (range : SlotRange) → dead_range mask p ≡ Some range → Contains mask range
-dead_range-among [] p range e = absurd cc
-dead_range-among (dead ∷ mask) p range e = here (is_within dead p) e (dead_range-among mask p range)
-  where
-    here : (t : Bool) → cond t (Some dead) (dead_range mask p) ≡ Some range → (dead_range mask p ≡ Some range → Contains mask range) → Contains (dead ∷ mask) range
-    here true found rest = (0, omega arith, cc)
-    here false found rest = let behind = rest found in (suc behind.0, (let k : behind.0 < length mask = behind.1 in omega arith), behind.2)
 
 pub dead_range-dead : (mask : List SlotRange) (p : ℕ) (range : SlotRange) → dead_range mask p ≡ Some range → is_dead mask p ≡ true
 dead_range-dead mask p range e = here (is_dead mask p) refl

@@ -15,11 +15,6 @@ is_dead mask p = list_any (λ range. is_within range p) mask
 abbrev pub dead_range : List SlotRange → ℕ → Option SlotRange
 dead_range mask p = find (λ range. is_within range p) mask
 
--- the ranges lie behind each other, from low on and below end
-abbrev pub AreRangesWithin : ℕ → ℕ → List SlotRange → Type 0
-AreRangesWithin low end [] = Unit {0}
-AreRangesWithin low end (range ∷ ranges) = (low ≤ range.first) × (range.first ≤ range.last) × (range.last < end) × AreRangesWithin (range.last + 1) end ranges
-
 -- no address is in the range and dead
 abbrev pub IsApart : SlotRange → List SlotRange → Type 0
 IsApart range mask = (p : ℕ) → is_within range p ≡ true → is_dead mask p ≡ false

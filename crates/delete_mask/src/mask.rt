@@ -1,7 +1,8 @@
 ghost use Rattle.std.specs.Prelude.{◌≡◌, ℕ, ◌+◌, ◌<◌, ◌≤◌, ◌↔◌, ◌||◌, ◌^◌, nat_lt, IsTrue, List, [], ◌∷◌, ◌++◌, length, IfOk, take, drop};
 ghost use Rattle.std.specs.List.{prefix_len, slice_get};
-ghost use Rattle.gcl_model.specs.Slots.{SlotRange};
-ghost use Rattle.delete_mask.specs.Masks.{is_within, is_dead, dead_range, AreRangesWithin, IsApart, with_range};
+ghost use Rattle.gcl_model.specs.Slots.{SlotRange, AreRangesWithin};
+ghost use Rattle.delete_mask.specs.Masks.{is_within, is_dead, dead_range, IsApart, with_range};
+ghost use Rattle.gcl_model.specs.Limits.{address_end};
 
 use address_space::Range;
 use std::alloc::{AllocError, Global};
@@ -14,15 +15,15 @@ pub struct Mask {
 }
 
 impl Model for Mask {
+    ghost use Rattle.gcl_model.specs.Limits.{address_end};
     ghost use Rattle.std.specs.Prelude.{List, ◌^◌};
-    ghost use Rattle.gcl_model.specs.Slots.{SlotRange};
-    ghost use Rattle.delete_mask.specs.Masks.{AreRangesWithin};
+    ghost use Rattle.gcl_model.specs.Slots.{SlotRange, AreRangesWithin};
 
     ghost Value = { List SlotRange };
 
     ghost view = { λ m. m.ranges.items };
 
-    ghost invariant = { λ m. AreRangesWithin 0 (2 ^ 48) m.ranges.items };
+    ghost invariant = { λ m. AreRangesWithin 0 address_end m.ranges.items };
 }
 
 impl Mask {
@@ -45,7 +46,7 @@ impl Mask {
     /// The dead range that has the address. It takes no memory.
     pub fn dead(&self, p: u64) -> Option<Range>
         ensures value { result ≡ dead_range self.now p }
-        ensures apart { AreRangesWithin 0 (2 ^ 48) self.now }
+        ensures apart { AreRangesWithin 0 address_end self.now }
     {
         let range = self.range_at(self.count_before(p))?;
         if range.first <= p { Some(range) } else { None }
@@ -76,9 +77,9 @@ impl Mask {
     fn ranges_with(&self, range: Range) -> Result<Vec<Range>, AllocError>
         requires { IsApart range self.now }
         ensures value { IfOk result (λ ranges. ranges.items ≡ with_range range self.now) }
-        ensures apart { AreRangesWithin 0 (2 ^ 48) self.now }
+        ensures apart { AreRangesWithin 0 address_end self.now }
         ensures ordered { range.first ≤ range.last }
-        ensures in_range { range.last < 2 ^ 48 }
+        ensures in_range { range.last < address_end }
     {
         let (before, after) = self.split_around(range);
         let (before, range) = joined_before(before, range);
@@ -91,8 +92,8 @@ impl Mask {
         requires { IsApart range self.now }
         ensures whole { self.now ≡ result.0.now ++ result.1.now }
         ensures before { AreRangesWithin 0 range.first result.0.now }
-        ensures after { AreRangesWithin (range.last + 1) (2 ^ 48) result.1.now }
-        ensures apart { AreRangesWithin 0 (2 ^ 48) self.now }
+        ensures after { AreRangesWithin (range.last + 1) address_end result.1.now }
+        ensures apart { AreRangesWithin 0 address_end self.now }
     {
         let at = self.count_before(range.first);
         self.ranges.as_slice().split_at(at)
@@ -107,7 +108,7 @@ impl Mask {
     // How many of the ranges end before the address.
     fn count_before(&self, p: u64) -> usize
         ensures count { result ≡ prefix_len (λ range. nat_lt range.last p) self.now }
-        ensures apart { AreRangesWithin 0 (2 ^ 48) self.now }
+        ensures apart { AreRangesWithin 0 address_end self.now }
     {
         self.ranges.as_slice().partition_point(
             |range: &Range| -> bool
@@ -138,7 +139,7 @@ fn joined_before(before: &[Range], range: Range) -> (&[Range], Range)
 
 // The range with the first one behind it, where they touch, and the ranges behind both.
 fn joined_after(range: Range, after: &[Range]) -> (Range, &[Range])
-    requires { AreRangesWithin (range.last + 1) (2 ^ 48) after.now }
+    requires { AreRangesWithin (range.last + 1) address_end after.now }
     ensures { with_range range after.now ≡ result.0 ∷ result.1.now }
 {
     match after {

@@ -1,9 +1,10 @@
 use crate::Mask;
 use address_space::Range;
+use gcl_model::ADDRESS_END;
 use std::test::Fail;
 
 fn range(first: u64, last: u64) -> Option<Range> {
-    if first <= last && last < 1 << 48 {
+    if first <= last && last < ADDRESS_END {
         Some(Range { first, last })
     } else {
         None

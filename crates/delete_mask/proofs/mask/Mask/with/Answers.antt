@@ -1,19 +1,20 @@
 use Rattle.std.proofs.Common.{◌+◌, ◌≤◌, List, length, sym, ap, ◌∙◌, subst, arith}
-use Rattle.gcl_model.specs.Slots.{SlotRange}
-use Rattle.delete_mask.specs.Masks.{is_dead, AreRangesWithin}
+use Rattle.gcl_model.specs.Limits.{address_end}
+use Rattle.gcl_model.specs.Slots.{SlotRange, AreRangesWithin}
+use Rattle.delete_mask.specs.Masks.{is_dead}
 use Rattle.delete_mask.proofs.Joining.{is_dead-with_range, length-with_range, AreRangesWithin-with_range}
 use Rattle.delete_mask.proofs.mask.Mask.with.Goals as goal
 
 pub invariant_of-result : goal.invariant_of-result
 invariant_of-result c =
     let e = c.in_ok-ranges.ensures in
-    subst (λ (ranges : List SlotRange). AreRangesWithin 0 281474976710656 ranges) (sym e.value)
-    (AreRangesWithin-with_range 0 281474976710656 c.args.self.now c.args.range e.apart c.requires (omega arith) e.ordered e.in_range)
+    subst (λ (ranges : List SlotRange). AreRangesWithin 0 address_end ranges) (sym e.value)
+    (AreRangesWithin-with_range 0 address_end c.args.self.now c.args.range e.apart c.requires (omega arith) e.ordered e.in_range)
 
 pub returns-clause-dead : goal.returns-clause-dead
 returns-clause-dead c = λ p.
     let e = c.in_ok-ranges.ensures in
-    ap (λ ranges. is_dead ranges p) e.value ∙ is_dead-with_range 0 281474976710656 c.args.self.now c.args.range p e.apart e.ordered
+    ap (λ ranges. is_dead ranges p) e.value ∙ is_dead-with_range 0 address_end c.args.self.now c.args.range p e.apart e.ordered
 
 pub returns-clause-count : goal.returns-clause-count
 returns-clause-count c =
