@@ -1,25 +1,25 @@
 -- Versions that begin, and versions to which a file is added.
 use Rattle.std.proofs.Common.{◌≡◌, ℕ, ◌+◌, ◌-◌, ◌^◌, ◌<◌, ◌≤◌, true, false, List, [], ◌∷◌, ◌++◌, map, length, Option, None, Some, IfSome, refl, sym, ap, ◌∙◌, subst, arith, append-nil, length-append}
+use Rattle.gcl_model.specs.Limits.{most_slots, address_end}
 use Rattle.std.proofs.lemmas.List.{map-append}
 use Rattle.std.specs.List.{AllByRecursion}
 use Rattle.std.proofs.lemmas.Bool.{or_left}
 use Rattle.std.proofs.lemmas.Grind.{flat_map-append}
-use Rattle.gcl_model.specs.Slots.{SlotRange}
+use Rattle.gcl_model.specs.Slots.{SlotRange, AreRangesWithin}
 use Rattle.gcl_model.specs.Texts.{Word, AreRisingBelow}
 use Rattle.gcl_model.specs.Collections.{Collection, File, width_of, with_boundaries, words_from, with_file}
-use Rattle.address_space.specs.Runs.{FileEntry, IsPlaced, Precedes, IsFileRun}
+use Rattle.address_space.specs.Runs.{FileEntry, IsPlaced, Precedes, IsFileRun, range_of}
 use Rattle.address_space.proofs.RunLemmas.{IsFileRun-push}
 use Rattle.index_shard.specs.Tables.{ShardContent, IsShard, words_of}
 use Rattle.index_shard.proofs.ShardWords.{shard_words_rise}
-use Rattle.delete_mask.specs.Masks.{AreRangesWithin}
 use Rattle.live_version.specs.Contents.{SlotContent, VersionContent, IsSlot, IsVersion, LiesIn, is_of_file, is_of_files, ranges_of, files_of, dead_of, live_of, live_words}
-use Rattle.live_version.specs.Changes.{empty_version, opened, range_of, slot_of_file, version_with_file}
+use Rattle.live_version.specs.Changes.{empty_version, opened, slot_of_file, version_with_file}
 use Rattle.live_version.specs.StandsFor.{StandsFor, entry_of}
-use Rattle.live_version.proofs.ChangeLists.{all_append, all_each, all_both, all_filter, filter_kept}
+use Rattle.gcl_model.proofs.Lists.{all_append, all_weaker, all_both, all_filter, filter_kept}
 use Rattle.live_version.proofs.ChangeRanges.{ranges_push}
 use Rattle.live_version.proofs.ChangeFiles.{is_of_file-inside, last_of_all, run_length}
 
-pub empty_is_version : (first : ℕ) → first ≤ 2 ^ 48 → IsVersion (empty_version first)
+pub empty_is_version : (first : ℕ) → first ≤ address_end → IsVersion (empty_version first)
 empty_is_version first le = record {
   numbered = omega arith;
   ordered = omega arith;
@@ -33,7 +33,7 @@ empty_is_version first le = record {
   dead = omega arith;
 }
 
-opened_none : (first next next_id : ℕ) → first ≤ next → next ≤ 2 ^ 48 → IsVersion (opened first next next_id None)
+opened_none : (first next next_id : ℕ) → first ≤ next → next ≤ address_end → IsVersion (opened first next next_id None)
 opened_none first next next_id le in_range = record {
   numbered = omega arith;
   ordered = le;
@@ -51,7 +51,7 @@ all_from_zero : (files : List FileEntry) → AllByRecursion (λ file. 0 ≤ file
 all_from_zero [] = tt
 all_from_zero (file ∷ files) = (omega arith, all_from_zero files)
 
-opened_some : (first next next_id : ℕ) (slot : SlotContent) → first ≤ next → next ≤ 2 ^ 48 → IsSlot slot → IsFileRun slot.files → first ≤ slot.range.first → slot.range.last < next
+opened_some : (first next next_id : ℕ) (slot : SlotContent) → first ≤ next → next ≤ address_end → IsSlot slot → IsFileRun slot.files → first ≤ slot.range.first → slot.range.last < next
     → AllByRecursion (λ file. file.id < next_id) slot.files → slot.mask ≡ [] → IsVersion (opened first next next_id (Some slot))
 opened_some first next next_id slot le in_range is run low high ids none =
     let all : slot.files ++ [] ≡ slot.files = append-nil slot.files in
@@ -72,7 +72,7 @@ opened_some first next next_id slot le in_range is run low high ids none =
     }
 
 -- of a slot, or of none
-pub opened_is : (first next next_id : ℕ) (slot : Option SlotContent) → first ≤ next → next ≤ 2 ^ 48 → IfSome slot IsSlot → IfSome slot (λ s. IsFileRun s.files) → IfSome slot (λ s. first ≤ s.range.first) → IfSome slot (λ s. s.range.last < next)
+pub opened_is : (first next next_id : ℕ) (slot : Option SlotContent) → first ≤ next → next ≤ address_end → IfSome slot IsSlot → IfSome slot (λ s. IsFileRun s.files) → IfSome slot (λ s. first ≤ s.range.first) → IfSome slot (λ s. s.range.last < next)
     → IfSome slot (λ s. AllByRecursion (λ file. file.id < next_id) s.files) → IfSome slot (λ s. s.mask ≡ []) → IsVersion (opened first next next_id slot)
 opened_is first next next_id None le in_range is run low high ids none = opened_none first next next_id le in_range
 opened_is first next next_id (Some slot) le in_range is run low high ids none = opened_some first next next_id slot le in_range is run low high ids none
@@ -113,17 +113,17 @@ files_end low end [] h are = tt
 files_end low end (slot ∷ slots) h are =
     let last : slot.range.last < end = h.2 in
     all_append (λ file. file.base + file.len ≤ end) slot.files (files_of slots)
-    (all_each (LiesIn slot.range) (λ file. file.base + file.len ≤ end) slot.files (λ file lies. let to : file.base + file.len ≤ slot.range.last + 1 = lies.1 in omega arith) are.0.files)
+    (all_weaker (LiesIn slot.range) (λ file. file.base + file.len ≤ end) (λ file lies. let to : file.base + file.len ≤ slot.range.last + 1 = lies.1 in omega arith) slot.files are.0.files)
     (files_end (slot.range.last + 1) end slots h.3 are.1)
 
-pub file_added : (v : VersionContent) (file : FileEntry) (shard : ShardContent) → IsVersion v → length v.slots < 32 → file.id ≡ v.next_id → file.base ≡ v.next → shard.range ≡ range_of file → IsShard shard → IsPlaced file
+pub file_added : (v : VersionContent) (file : FileEntry) (shard : ShardContent) → IsVersion v → length v.slots < most_slots → file.id ≡ v.next_id → file.base ≡ v.next → shard.range ≡ range_of file → IsShard shard → IsPlaced file
     → IsVersion (version_with_file v file shard)
 file_added v file shard is few id base range is_shard placed =
     let slot = slot_of_file file shard in
     let files : files_of (v.slots ++ slot ∷ []) ≡ files_of v.slots ++ file ∷ [] = flat_map-append (λ s. s.files) v.slots (slot ∷ []) in
     let dead : dead_of (v.slots ++ slot ∷ []) ≡ dead_of v.slots = flat_map-append (λ s. s.mask) v.slots (slot ∷ []) ∙ append-nil (dead_of v.slots) in
     let some : 2 ≤ file.len = placed.bounded in
-    let end : file.base + file.len ≤ 2 ^ 48 = placed.in_range in
+    let end : file.base + file.len ≤ address_end = placed.in_range in
     let numbered : v.edition ≤ v.number = is.numbered in
     let ordered : v.first ≤ v.next = is.ordered in
     let used : length (files_of v.slots) + v.dels ≤ v.next_id = is.used in
@@ -139,10 +139,10 @@ file_added v file shard is few id base range is_shard placed =
       run = subst IsFileRun (sym files)
           (IsFileRun-push (files_of v.slots) file is.run placed
           (last_of_all (λ last. Precedes last file) (files_of v.slots)
-          (all_both (λ f. f.id < v.next_id) (λ f. f.base + f.len ≤ v.next) (λ last. Precedes last file) (files_of v.slots) (λ f earlier ends. record { ids = omega arith; addresses = omega arith }) is.ids
+          (all_both (λ f. f.id < v.next_id) (λ f. f.base + f.len ≤ v.next) (λ last. Precedes last file) (λ f earlier ends. record { ids = omega arith; addresses = omega arith }) (files_of v.slots) is.ids
           (files_end v.first v.next v.slots is.apart is.slots))));
       ids = subst (λ fs. AllByRecursion (λ (f : FileEntry). f.id < v.next_id + 1) fs) (sym files)
-          (all_append (λ f. f.id < v.next_id + 1) (files_of v.slots) (file ∷ []) (all_each (λ f. f.id < v.next_id) (λ f. f.id < v.next_id + 1) (files_of v.slots) (λ f h. omega arith) is.ids) (omega arith, tt));
+          (all_append (λ f. f.id < v.next_id + 1) (files_of v.slots) (file ∷ []) (all_weaker (λ f. f.id < v.next_id) (λ f. f.id < v.next_id + 1) (λ f h. omega arith) (files_of v.slots) is.ids) (omega arith, tt));
       used = let n : length (files_of (v.slots ++ slot ∷ [])) ≡ length (files_of v.slots) + 1 = ap length files ∙ length-append (files_of v.slots) (file ∷ []) in omega arith;
       dead = let n : length (dead_of (v.slots ++ slot ∷ [])) ≡ length (dead_of v.slots) = ap length dead in omega arith;
     }
@@ -174,3 +174,6 @@ stands_added v file shard c tokens id base stands len words =
       words = flat_map-append live_words v.slots (slot ∷ []) ∙ ap (λ l. live_of v.slots ++ (l ++ [])) live ∙ ap (λ l. l ++ (words_from c.next (with_boundaries tokens) ++ [])) stands.words
           ∙ sym (flat_map-append (λ (f : File). words_from f.base (with_boundaries f.tokens)) c.files (new ∷ []));
     }
+
+pub ranges_added : (slots : List SlotContent) (file : FileEntry) (shard : ShardContent) → ranges_of (slots ++ slot_of_file file shard ∷ []) ≡ ranges_of slots ++ range_of file ∷ []
+ranges_added slots file shard = map-append (λ (s : SlotContent). s.range) slots (slot_of_file file shard ∷ [])

@@ -2,16 +2,21 @@
 use Rattle.std.proofs.Common.{◌≡◌, ℕ, ◌+◌, ◌<◌, ◌≤◌, Bool, true, false, not, ◌&&◌, ◌||◌, cond, eqb, List, [], ◌∷◌, ◌++◌, map, filter, length, Option, None, Some, IsSome, refl, sym, ap, ◌∙◌, subst, arith, length-append}
 use Rattle.std.specs.List.{AllByRecursion, flat_map}
 use Rattle.std.proofs.lemmas.Bool.{eqb-true, not-true, or_left, or_right, or_from, false≢true}
+use Rattle.gcl_model.specs.Limits.{most_slots}
 use Rattle.gcl_model.specs.Texts.{Word}
 use Rattle.gcl_model.specs.Collections.{Collection, File, width_of, with_boundaries, words_from, without_file, file_end}
-use Rattle.address_space.specs.Runs.{FileEntry, IsPlaced, IsFileRun}
+use Rattle.address_space.specs.Runs.{FileEntry, IsPlaced, IsFileRun, range_of}
 use Rattle.index_shard.specs.Tables.{words_of}
-use Rattle.delete_mask.specs.Masks.{is_dead, AreRangesWithin, IsApart, with_range}
-use Rattle.delete_mask.proofs.Joining.{is_dead-with_range, length-with_range, AreRangesWithin-with_range}
+use Rattle.delete_mask.specs.Masks.{is_within, is_dead, IsApart, with_range}
+use Rattle.gcl_model.specs.Slots.{AreRangesWithin}
+use Rattle.delete_mask.proofs.Joining.{or_swap, is_dead-with_range, length-with_range, AreRangesWithin-with_range}
 use Rattle.live_version.specs.Contents.{SlotContent, VersionContent, IsSlot, IsVersion, LiesIn, is_of_file, is_of_files, ranges_of, files_of, dead_of, live_of, live_words}
-use Rattle.live_version.specs.Changes.{range_of, file_with_id, slot_without, version_without_file}
+use Rattle.std.proofs.Math.Bool.{or_assoc}
+use Rattle.std.proofs.lemmas.List.Folds.{list_any-append}
+use Rattle.live_version.proofs.FileLemmas.{find_in_first, find_in_rest}
+use Rattle.live_version.specs.Changes.{file_with_id, slot_without, version_without_file, KillsFile}
 use Rattle.live_version.specs.StandsFor.{StandsFor, entry_of}
-use Rattle.live_version.proofs.ChangeLists.{all_left, all_right, all_each, all_filter, filter_kept, filter_gone, filter_twice, filter-map, length-filter_found}
+use Rattle.gcl_model.proofs.Lists.{all_left, all_right, all_weaker, all_filter, filter_kept, filter_gone, filter_twice, filter-map, length-filter_found}
 use Rattle.live_version.proofs.ChangeFiles.{has_id, survives, is_of_file-inside, is_within-range_of, IsSorted, all_found, found_passes, none_passes, run_sorted, survivors_apart, survivors_have, survivors_were, run_survives, run_left, run_right, none_behind}
 use Rattle.std.proofs.lemmas.List.Elements.{filter-append}
 
@@ -99,7 +104,7 @@ slots_after_are id (slot ∷ slots) are run =
     (slot_after_is id slot are.0 (run_left slot.files (files_of slots) run), slots_after_are id slots are.1 (run_right slot.files (files_of slots) run))
 
 survive_all : (id : ℕ) (files : List FileEntry) → AllByRecursion (λ file. has_id id file ≡ false) files → AllByRecursion (λ file. survives id file ≡ true) files
-survive_all id files h = all_each (λ file. has_id id file ≡ false) (λ file. survives id file ≡ true) files (λ file e. ap (λ t. not t) e) h
+survive_all id files h = all_weaker (λ file. has_id id file ≡ false) (λ file. survives id file ≡ true) (λ file e. ap (λ t. not t) e) files h
 
 -- the records that are left
 pub files_after : (id : ℕ) (slot : SlotContent) → (slot_after id slot).files ≡ filter (survives id) slot.files
@@ -162,8 +167,7 @@ live_of_after id gone (slot ∷ slots) are run sorted =
         let these = all_left (IsSorted id gone) slot.files (files_of slots) sorted in
         let kept = filter_kept (survives id) slot.files (survive_all id slot.files (none_passes (has_id id) slot.files e)) in
         sym (filter_kept (λ w. not (is_of_file w.address gone)) (live_words slot)
-        (all_each (λ w. is_of_files slot.files w.address ≡ true) (λ w. not (is_of_file w.address gone) ≡ true) (live_words slot)
-        (λ w of. ap (λ t. not t) (survivors_apart id gone slot.files w.address these (ap (λ files. is_of_files files w.address) kept ∙ of))) are.0.owned))
+        (all_weaker (λ w. is_of_files slot.files w.address ≡ true) (λ w. not (is_of_file w.address gone) ≡ true) (λ w of. ap (λ t. not t) (survivors_apart id gone slot.files w.address these (ap (λ files. is_of_files files w.address) kept ∙ of))) (live_words slot) are.0.owned))
     here (Some file) e =
         let found = all_found (IsSorted id gone) (has_id id) file slot.files (all_left (IsSorted id gone) slot.files (files_of slots) sorted) e in
         let same : file ≡ gone = found.same (found_passes (has_id id) file slot.files e) in
@@ -182,7 +186,7 @@ file_deleted v id gone is found =
       numbered = omega arith;
       ordered = is.ordered;
       in_range = is.in_range;
-      few = subst (λ n. n ≤ 32) (sym (length-map_slots v.slots)) is.few;
+      few = subst (λ n. n ≤ most_slots) (sym (length-map_slots v.slots)) is.few;
       apart = subst (λ ranges. AreRangesWithin v.first v.next ranges) (sym (ranges_of_after id v.slots)) is.apart;
       slots = slots_after_are id v.slots is.slots is.run;
       run = subst IsFileRun (sym files) (run_survives id (files_of v.slots) is.run);
@@ -223,13 +227,11 @@ words_after id gone (file ∷ files) sorted =
     here true is rest =
         let same : entry_of file ≡ gone = sorted.0.same is in
         let none = filter_gone (λ w. not (is_of_file w.address gone)) (words_from file.base (with_boundaries file.tokens))
-        (all_each (λ w. is_of_file w.address (entry_of file) ≡ true) (λ w. not (is_of_file w.address gone) ≡ false) (words_from file.base (with_boundaries file.tokens))
-        (λ w of. ap (λ t. not t) (sym (ap (is_of_file w.address) same) ∙ of)) (file_words_within file)) in
+        (all_weaker (λ w. is_of_file w.address (entry_of file) ≡ true) (λ w. not (is_of_file w.address gone) ≡ false) (λ w of. ap (λ t. not t) (sym (ap (is_of_file w.address) same) ∙ of)) (words_from file.base (with_boundaries file.tokens)) (file_words_within file)) in
         rest ∙ sym (ap (λ words. words ++ filter (λ w. not (is_of_file w.address gone)) (flat_map (λ (f : File). words_from f.base (with_boundaries f.tokens)) files)) none)
     here false is rest =
         let kept = filter_kept (λ w. not (is_of_file w.address gone)) (words_from file.base (with_boundaries file.tokens))
-        (all_each (λ w. is_of_file w.address (entry_of file) ≡ true) (λ w. not (is_of_file w.address gone) ≡ true) (words_from file.base (with_boundaries file.tokens))
-        (λ w of. ap (λ t. not t) (sorted.0.other is w.address of)) (file_words_within file)) in
+        (all_weaker (λ w. is_of_file w.address (entry_of file) ≡ true) (λ w. not (is_of_file w.address gone) ≡ true) (λ w of. ap (λ t. not t) (sorted.0.other is w.address of)) (words_from file.base (with_boundaries file.tokens)) (file_words_within file)) in
         ap (λ words. words_from file.base (with_boundaries file.tokens) ++ words) rest
         ∙ sym (ap (λ words. words ++ filter (λ w. not (is_of_file w.address gone)) (flat_map (λ (f : File). words_from f.base (with_boundaries f.tokens)) files)) kept)
 
@@ -261,3 +263,30 @@ stands_some_deleted v id c is some stands = here (file_with_id id (files_of v.sl
     here : (o : Option FileEntry) → file_with_id id (files_of v.slots) ≡ o → IsSome o → StandsFor (version_without_file v id) (without_file c id)
     here None e some = absurd (false≢true some)
     here (Some gone) e some = stands_deleted v id gone c is e stands
+
+-- exactly the file's addresses are dead too
+dead_killed : (id : ℕ) (gone : FileEntry) (slots : List SlotContent) (p : ℕ) → AllByRecursion IsSlot slots → IsFileRun (files_of slots) → file_with_id id (files_of slots) ≡ Some gone
+    → is_dead (dead_of (map (slot_after id) slots)) p ≡ (is_of_file p gone || is_dead (dead_of slots) p)
+dead_killed id gone [] p are run found = absurd cc
+dead_killed id gone (slot ∷ slots) p are run found = here (file_with_id id slot.files) refl (dead_killed id gone slots p are.1 (run_right slot.files (files_of slots) run))
+  where
+    here : (o : Option FileEntry) → file_with_id id slot.files ≡ o
+        → (file_with_id id (files_of slots) ≡ Some gone → is_dead (dead_of (map (slot_after id) slots)) p ≡ (is_of_file p gone || is_dead (dead_of slots) p))
+        → is_dead ((slot_without slot o).mask ++ dead_of (map (slot_after id) slots)) p ≡ (is_of_file p gone || is_dead (slot.mask ++ dead_of slots) p)
+    here None e rest =
+        list_any-append (λ range. is_within range p) slot.mask (dead_of (map (slot_after id) slots))
+        ∙ ap (λ t. is_dead slot.mask p || t) (rest (sym (find_in_rest slot.files (files_of slots) id e) ∙ found))
+        ∙ or_swap (is_dead slot.mask p) (is_of_file p gone) (is_dead (dead_of slots) p)
+        ∙ sym (ap (λ t. is_of_file p gone || t) (list_any-append (λ range. is_within range p) slot.mask (dead_of slots)))
+    here (Some file) e rest =
+        let both : Some file ≡ Some gone = sym (find_in_first slot.files (files_of slots) id file e) ∙ found in
+        let same : file ≡ gone = cc in
+        list_any-append (λ range. is_within range p) (with_range (range_of file) slot.mask) (dead_of (map (slot_after id) slots))
+        ∙ ap (λ ss. is_dead (with_range (range_of file) slot.mask) p || is_dead (dead_of ss) p) (slots_kept id slots (none_behind id file slot.files (files_of slots) run e))
+        ∙ ap (λ t. t || is_dead (dead_of slots) p) (dead_after slot file p (going id slot file are.0 (run_left slot.files (files_of slots) run) e))
+        ∙ or_assoc (is_of_file p file) (is_dead slot.mask p) (is_dead (dead_of slots) p)
+        ∙ ap (λ f. is_of_file p f || (is_dead slot.mask p || is_dead (dead_of slots) p)) same
+        ∙ sym (ap (λ t. is_of_file p gone || t) (list_any-append (λ range. is_within range p) slot.mask (dead_of slots)))
+
+pub kills : (id : ℕ) (slots : List SlotContent) → AllByRecursion IsSlot slots → IsFileRun (files_of slots) → KillsFile slots id (map (slot_after id) slots)
+kills id slots are run = λ file found p. dead_killed id file slots p are run found

@@ -2,10 +2,10 @@
 use Rattle.std.proofs.Common.{◌≡◌, ℕ, ◌+◌, ◌-◌, ◌<◌, ◌≤◌, Bool, true, false, not, ◌&&◌, cond, eqb, leb, ltb, zero, suc, get_or, take, List, [], ◌∷◌, ◌++◌, filter, length, Some, None, IfSome, refl, sym, ap, ◌∙◌, subst, arith, inl, inr, ◌⊎◌}
 use Rattle.std.specs.List.{AllByRecursion, find}
 use Rattle.std.proofs.lemmas.Bool.{cases_lt, false≢true, eqb-true, ne_eqb, le-leb, lt-leb, leb-true, lt-ltb, le-ltb, ltb-true, and_parts, and_left, and_right, and_from, or_cases, or_left, or_right}
-use Rattle.address_space.specs.Runs.{FileEntry, Precedes, IsFileRun, last_file}
+use Rattle.address_space.specs.Runs.{FileEntry, Precedes, IsFileRun, last_file, range_of}
 use Rattle.delete_mask.specs.Masks.{is_within}
 use Rattle.live_version.specs.Contents.{is_of_file, is_of_files}
-use Rattle.live_version.specs.Changes.{range_of, file_with_id}
+use Rattle.live_version.specs.Changes.{file_with_id}
 
 -- the test by which a file is deleted
 abbrev pub has_id : ℕ → FileEntry → Bool

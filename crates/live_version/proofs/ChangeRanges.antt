@@ -1,7 +1,6 @@
 -- Ranges that lie behind each other, when one comes, and when one stands in the place of some.
 use Rattle.std.proofs.Common.{◌≡◌, ℕ, ◌+◌, ◌<◌, ◌≤◌, List, [], ◌∷◌, ◌++◌, refl, arith}
-use Rattle.gcl_model.specs.Slots.{SlotRange, joined, spanned}
-use Rattle.delete_mask.specs.Masks.{AreRangesWithin}
+use Rattle.gcl_model.specs.Slots.{SlotRange, joined, spanned, AreRangesWithin}
 use Rattle.delete_mask.proofs.MaskLemmas.{AreRangesWithin-earlier}
 use Rattle.live_version.specs.Changes.{whole_range, LiesInside}
 

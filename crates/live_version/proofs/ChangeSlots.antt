@@ -4,14 +4,14 @@ use Rattle.std.specs.List.{AllByRecursion, flat_map}
 use Rattle.std.specs.Option.{option_to_list}
 use Rattle.std.proofs.lemmas.Grind.{flat_map-append}
 use Rattle.std.proofs.lemmas.List.{map-append, append_assoc}
-use Rattle.gcl_model.specs.Slots.{SlotRange}
+use Rattle.gcl_model.specs.Limits.{most_slots}
+use Rattle.gcl_model.specs.Slots.{SlotRange, AreRangesWithin}
 use Rattle.gcl_model.specs.Collections.{Collection}
 use Rattle.address_space.specs.Runs.{FileEntry, IsFileRun}
-use Rattle.delete_mask.specs.Masks.{AreRangesWithin}
 use Rattle.live_version.specs.Contents.{SlotContent, VersionContent, IsSlot, IsVersion, ranges_of, files_of, dead_of, live_of, live_words}
 use Rattle.live_version.specs.Changes.{slots_at, version_with_slot, whole_range, LiesInside, IsSameLive}
 use Rattle.live_version.specs.StandsFor.{StandsFor}
-use Rattle.live_version.proofs.ChangeLists.{all_append, all_take, all_drop, cut_twice}
+use Rattle.gcl_model.proofs.Lists.{all_take, all_drop, all_append, cut_twice}
 use Rattle.live_version.proofs.ChangeRanges.{ranges_without, ranges_in_place}
 
 -- where some lists are the same all together, so are they between two others
@@ -81,7 +81,7 @@ slot_placed v at count slot is fresh inside same =
     let new = (before ++ option_to_list slot) ++ after in
     let files : files_of ((before ++ option_to_list slot) ++ after) ≡ files_of v.slots = flat_in_place (λ s. s.files) before gone (option_to_list slot) after same.files ∙ ap files_of cut in
     let numbered : v.edition ≤ v.number = is.numbered in
-    let few : length v.slots ≤ 32 = is.few in
+    let few : length v.slots ≤ most_slots = is.few in
     let dead : length (dead_of v.slots) ≤ v.dels = is.dead in
     let parts : length v.slots ≡ length before + length gone + length after = sym (ap length cut) ∙ length_parts before gone after in
     let fewer : length (option_to_list slot) ≤ length gone = few_placed gone slot inside in
@@ -108,20 +108,26 @@ slot_placed v at count slot is fresh inside same =
       );
     }
 
+-- no live word and no record comes or goes
+pub same_placed : (slots : List SlotContent) (at count : ℕ) (slot : Option SlotContent) → IsSameLive (slots_at at count slots) (option_to_list slot) → IsSameLive slots (take at slots ++ option_to_list slot ++ drop (at + count) slots)
+same_placed slots at count slot same =
+    let cut : take at slots ++ (slots_at at count slots ++ drop (at + count) slots) ≡ slots = cut_twice at count slots in
+    record {
+      words = flat_in_place live_words (take at slots) (slots_at at count slots) (option_to_list slot) (drop (at + count) slots) same.words ∙ ap live_of cut;
+      files = flat_in_place (λ s. s.files) (take at slots) (slots_at at count slots) (option_to_list slot) (drop (at + count) slots) same.files ∙ ap files_of cut;
+    }
+
 -- and it stands for the same collection
 pub stands_placed : (v : VersionContent) (at count : ℕ) (slot : Option SlotContent) (c : Collection) → IsSameLive (slots_at at count v.slots) (option_to_list slot) → StandsFor v c → StandsFor (version_with_slot v at count slot) c
 stands_placed v at count slot c same stands =
-    let before = take at v.slots in
-    let gone = slots_at at count v.slots in
-    let after = drop (at + count) v.slots in
-    let cut : before ++ (gone ++ after) ≡ v.slots = cut_twice at count v.slots in
+    let placed = same_placed v.slots at count slot same in
     record {
       first = stands.first;
       next = stands.next;
       next_id = stands.next_id;
       dels = stands.dels;
-      files = flat_in_place (λ s. s.files) before gone (option_to_list slot) after same.files ∙ ap files_of cut ∙ stands.files;
-      words = flat_in_place live_words before gone (option_to_list slot) after same.words ∙ ap live_of cut ∙ stands.words;
+      files = placed.files ∙ stands.files;
+      words = placed.words ∙ stands.words;
     }
 
 -- a version under other numbers is one

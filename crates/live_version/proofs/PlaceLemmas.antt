@@ -1,18 +1,9 @@
 -- Slots by their places: where those that end before an address, or begin up to it, end.
-use Rattle.std.proofs.Common.{◌≡◌, ℕ, zero, suc, ◌+◌, ◌<◌, ◌≤◌, Bool, true, false, List, [], ◌∷◌, length, get_or, refl, arith, le_refl}
+use Rattle.std.proofs.Common.{◌≡◌, ℕ, zero, suc, ◌+◌, ◌<◌, ◌≤◌, Bool, true, false, List, [], ◌∷◌, length, get_or, refl, ap, arith, le_refl}
 use Rattle.std.specs.List.{prefix_len}
 use Rattle.std.specs.List.Sorted.{IsNonDecreasingBy, IsPartitionPoint}
-use Rattle.delete_mask.specs.Masks.{AreRangesWithin}
+use Rattle.gcl_model.specs.Slots.{AreRangesWithin}
 use Rattle.live_version.specs.Contents.{SlotContent, ranges_of}
-
--- a partition point is the length of the front that passes
-pub prefix_len_at_point : {X : Type 0} (p : X → Bool) (xs : List X) (n : ℕ) → n ≤ length xs → IsPartitionPoint (λ x. p x ≡ true) (λ x. p x ≡ false) xs n → n ≡ prefix_len p xs
-prefix_len_at_point p [] n le point = omega arith
-prefix_len_at_point p (x ∷ xs) zero le point = let fails : p x ≡ false = point.1 0 x (le_refl 0) (omega arith) in rw fails refl
-prefix_len_at_point p (x ∷ xs) (suc n) le point =
-    let passes : p x ≡ true = point.0 0 x (le_refl 0) (omega arith) in
-    let rest : n ≡ prefix_len p xs = prefix_len_at_point p xs n (omega arith) (λ k d ge lt. point.0 (suc k) d (omega arith) (omega arith), λ k d ge lt. point.1 (suc k) d (omega arith) (omega arith)) in
-    rw passes (omega arith)
 
 slot_above : (low end : ℕ) (slots : List SlotContent) → AreRangesWithin low end (ranges_of slots) → (j : ℕ) (d : SlotContent) → j < length slots →
     (low ≤ (get_or slots j d).range.first) × ((get_or slots j d).range.first ≤ (get_or slots j d).range.last)
@@ -46,3 +37,22 @@ firsts_rise low end (slot ∷ slots) r zero (suc j) d le lt =
     omega arith
 firsts_rise low end (slot ∷ slots) r (suc i) zero d le lt = absurd (omega arith)
 firsts_rise low end (slot ∷ slots) r (suc i) (suc j) d le lt = firsts_rise (slot.range.last + 1) end slots r.3 i j d (omega arith) (omega arith)
+
+-- an earlier slot begins before a later one ends
+pub begins_before : (low end : ℕ) (slots : List SlotContent) (i j : ℕ) (a b : SlotContent) → AreRangesWithin low end (ranges_of slots) → i ≤ j → j < length slots → a ≡ get_or slots i a → b ≡ get_or slots j b → a.range.first ≤ b.range.last
+begins_before low end [] i j a b r le lt is_a is_b = absurd (omega arith)
+begins_before low end (x ∷ xs) zero zero a b r le lt is_a is_b =
+    let first : a.range.first ≡ x.range.first = ap (λ (s : SlotContent). s.range.first) is_a in
+    let last : b.range.last ≡ x.range.last = ap (λ (s : SlotContent). s.range.last) is_b in
+    let some : x.range.first ≤ x.range.last = r.1 in
+    omega arith
+begins_before low end (x ∷ xs) zero (suc j) a b r le lt is_a is_b =
+    let first : a.range.first ≡ x.range.first = ap (λ (s : SlotContent). s.range.first) is_a in
+    let some : x.range.first ≤ x.range.last = r.1 in
+    let above = slot_above (x.range.last + 1) end xs r.3 j b (omega arith) in
+    let from = above.0 in
+    let to = above.1 in
+    let last : b.range.last ≡ (get_or xs j b).range.last = ap (λ (s : SlotContent). s.range.last) is_b in
+    omega arith
+begins_before low end (x ∷ xs) (suc i) zero a b r le lt is_a is_b = absurd (omega arith)
+begins_before low end (x ∷ xs) (suc i) (suc j) a b r le lt is_a is_b = begins_before (x.range.last + 1) end xs i j a b r.3 (omega arith) (omega arith) is_a is_b

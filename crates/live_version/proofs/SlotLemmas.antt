@@ -5,16 +5,8 @@ use Rattle.std.proofs.lemmas.Bool.{cases_Bool}
 use Rattle.gcl_model.specs.Slots.{SlotRange}
 use Rattle.address_space.specs.Runs.{FileEntry}
 use Rattle.index_shard.specs.Tables.{ShardContent, IsShard, words_of}
+use Rattle.gcl_model.proofs.Lists.{all_filter}
 use Rattle.live_version.specs.Contents.{IsSlot, LiesIn, is_of_files, slot_content}
-
--- what holds of all members holds of those that pass
-pub all_filter : {X : Type 0} (P : X → Type 0) (test : X → Bool) (xs : List X) → AllByRecursion P xs → AllByRecursion P (filter test xs)
-all_filter P test [] all = tt
-all_filter P test (x ∷ xs) all =
-    elim (cases_Bool (test x)) [
-      | inl e ↦ rw e (all.0, all_filter P test xs all.1)
-      | inr e ↦ rw e (all_filter P test xs all.1)
-    ]
 
 -- nothing is dead
 alive_slot : (range : SlotRange) (shard : ShardContent) (files : List FileEntry) → IsShard shard → shard.range ≡ range → AllByRecursion (LiesIn range) files →
@@ -25,7 +17,7 @@ alive_slot range shard files is indexed lie owned = record {
   files = lie;
   dead = tt;
   alive = λ p e. refl;
-  owned = all_filter (λ w. is_of_files files w.address ≡ true) (λ w. true) (words_of shard) owned;
+  owned = all_filter (λ w. is_of_files files w.address ≡ true) (λ w. is_of_files files w.address ≡ true) (λ w. true) (words_of shard) (λ w h e. h) owned;
 }
 
 pub new_slot : (range : SlotRange) (shard kept : ShardContent) (mask : List SlotRange) (files records : List FileEntry) → IsShard shard → shard.range ≡ range → AllByRecursion (LiesIn range) files →

@@ -1,5 +1,5 @@
 -- The words of slots: they rise, and a look-up among them is one among the postings.
-use Rattle.std.proofs.Common.{◌≡◌, ℕ, zero, suc, ◌+◌, ◌<◌, ◌≤◌, Bool, true, not, cond, leb, ltb, List, [], ◌∷◌, ◌++◌, length, map, filter, find, take, drop, bytes_eq, Option, Some, None, inl, inr, refl, sym, ap, ◌∙◌, subst, arith, le_refl, get_or, length-append}
+use Rattle.std.proofs.Common.{◌≡◌, ℕ, zero, suc, ◌+◌, ◌<◌, ◌≤◌, Bool, true, not, cond, leb, ltb, List, [], ◌∷◌, ◌++◌, length, map, filter, find, take, drop, bytes_eq, Option, Some, None, inl, inr, refl, sym, ap, ◌∙◌, subst, arith, le_refl, get_or, slice_get, length-append}
 use Rattle.std.specs.List.{AllByRecursion, prefix_len}
 use Rattle.std.specs.Option.{option_or}
 use Rattle.std.proofs.lemmas.Bool.{true≢false, cases_Bool, leb-false, lt-leb, ltb-true}
@@ -8,13 +8,15 @@ use Rattle.std.proofs.lemmas.Grind.{flat_map-append}
 use Rattle.address_space.specs.Runs.{FileEntry}
 use Rattle.std.proofs.lemmas.List.Elements.{filter-append}
 use Rattle.std.proofs.lemmas.List.Folds.{find-append}
+use Rattle.gcl_model.specs.Limits.{most_slots}
 use Rattle.gcl_model.specs.Access.{find_last, later_or}
-use Rattle.gcl_model.specs.Slots.{SlotRange}
+use Rattle.gcl_model.specs.Slots.{SlotRange, slot_range, AreRangesWithin}
 use Rattle.gcl_model.specs.Texts.{Word, IsText, places, next_place, previous_place, AreRisingBelow}
 use Rattle.index_shard.specs.Tables.{ShardContent, IsShard, RiseWithin, postings_of, words_of}
 use Rattle.index_shard.proofs.ShardWords.{rise_wider, places_are_postings, shard_words_rise}
-use Rattle.delete_mask.specs.Masks.{is_dead, AreRangesWithin}
+use Rattle.delete_mask.specs.Masks.{is_dead}
 use Rattle.live_version.specs.Contents.{SlotContent, VersionContent, IsSlot, IsVersion, is_of_files, live_words, live_of, ranges_of, dead_of, version_text}
+use Rattle.gcl_model.proofs.WordLists.{rising_earlier, rising_filter, rising_append, next_place-append, previous_place-append, none_next, none_previous}
 use Rattle.live_version.specs.LookUps.{is_alive, look_ups}
 use Rattle.live_version.proofs.LeapLemmas.{next_out, previous_out}
 
@@ -60,25 +62,6 @@ owned_by_none (w ∷ ws) all = absurd (true≢false (sym all.0))
 pub no_live_words : (slot : SlotContent) → IsSlot slot → slot.files ≡ [] → live_words slot ≡ []
 no_live_words slot is none = owned_by_none (live_words slot) (subst (λ files. AllByRecursion (λ w. is_of_files files w.address ≡ true) (live_words slot)) none is.owned)
 
--- words that rise
-rising_earlier : (next low later : ℕ) (words : List Word) → low ≤ later → AreRisingBelow next later words → AreRisingBelow next low words
-rising_earlier next low later [] le r = tt
-rising_earlier next low later (w ∷ ws) le r = let h = r.0 in (omega arith, r.1, r.2)
-
-rising_filter : (next low : ℕ) (test : Word → Bool) (words : List Word) → AreRisingBelow next low words → AreRisingBelow next low (filter test words)
-rising_filter next low test [] r = tt
-rising_filter next low test (w ∷ ws) r =
-    let le = r.0 in
-    let rest = rising_filter next (w.address + 1) test ws r.2 in
-    elim (cases_Bool (test w)) [
-      | inl e ↦ rw e (r.0, r.1, rest)
-      | inr e ↦ rw e (rising_earlier next low (w.address + 1) (filter test ws) (omega arith) rest)
-    ]
-
-rising_append : (low mid end : ℕ) (xs ys : List Word) → AreRisingBelow mid low xs → AreRisingBelow end mid ys → low ≤ mid → mid ≤ end → AreRisingBelow end low (xs ++ ys)
-rising_append low mid end [] ys p q le le' = rising_earlier end low mid ys le q
-rising_append low mid end (x ∷ xs) ys p q le le' = let h = p.1 in (p.0, omega arith, rising_append (x.address + 1) mid end xs ys p.2 q (omega arith) le')
-
 pub live_words_rise : (slot : SlotContent) → IsSlot slot → AreRisingBelow (slot.range.last + 1) slot.range.first (live_words slot)
 live_words_rise slot is =
     subst (λ r. AreRisingBelow (r.last + 1) r.first (live_words slot)) is.indexed
@@ -96,39 +79,6 @@ live_of_rise low end (slot ∷ slots) r all =
 pub version_is_text : (v : VersionContent) → IsVersion v → IsText (version_text v)
 version_is_text v is = record { ordered = is.ordered; in_range = is.in_range; rising = live_of_rise v.first v.next v.slots is.apart is.slots }
 
--- places of words that are joined
-pub places-append : (xs ys : List Word) (term : List ℕ) → places (xs ++ ys) term ≡ places xs term ++ places ys term
-places-append xs ys term =
-    ap (map (λ w. w.address)) (filter-append (λ w. bytes_eq w.token term) xs ys)
-    ∙ map-append (λ w. w.address) (filter (λ w. bytes_eq w.token term) xs) (filter (λ w. bytes_eq w.token term) ys)
-
-later_or-assoc : (x y z : Option ℕ) → later_or (later_or x y) z ≡ later_or x (later_or y z)
-later_or-assoc None y z = refl
-later_or-assoc (Some x) y z = refl
-
-pub find_last-append : (test : ℕ → Bool) (xs ys : List ℕ) → find_last test (xs ++ ys) ≡ later_or (find_last test ys) (find_last test xs)
-find_last-append test [] ys = or_none (find_last test ys)
-  where
-    or_none : (o : Option ℕ) → o ≡ later_or o None
-    or_none None = refl
-    or_none (Some x) = refl
-find_last-append test (x ∷ xs) ys =
-    ap (λ o. later_or o (cond (test x) (Some x) None)) (find_last-append test xs ys)
-    ∙ later_or-assoc (find_last test ys) (find_last test xs) (cond (test x) (Some x) None)
-
-pub next_place-append : (xs ys : List Word) (term : List ℕ) (k : ℕ) → next_place (xs ++ ys) term k ≡ option_or (next_place xs term k) (next_place ys term k)
-next_place-append xs ys term k = ap (find (λ p. leb k p)) (places-append xs ys term) ∙ find-append (λ p. leb k p) (places xs term) (places ys term)
-
-pub previous_place-append : (xs ys : List Word) (term : List ℕ) (k : ℕ) → previous_place (xs ++ ys) term k ≡ later_or (previous_place ys term k) (previous_place xs term k)
-previous_place-append xs ys term k = ap (find_last (λ p. leb p k)) (places-append xs ys term) ∙ find_last-append (λ p. leb p k) (places xs term) (places ys term)
-
--- behind the last word and before the first one nothing is found
-next_past : (next low : ℕ) (words : List Word) (term : List ℕ) (k : ℕ) → AreRisingBelow next low words → next ≤ k → next_place words term k ≡ None
-next_past next low words term k r le = next_out low next k (places words term) (places_rise next low words term r) le
-
-previous_before : (next low : ℕ) (words : List Word) (term : List ℕ) (k : ℕ) → AreRisingBelow next low words → k < low → previous_place words term k ≡ None
-previous_before next low words term k r lt = previous_out low next (places words term) (λ p. leb p k) (places_rise next low words term r) (λ q le. lt-leb q k (omega arith))
-
 -- the slots that end before an address have none of the words from it on
 pub next_from : (slots : List SlotContent) (term : List ℕ) (k : ℕ) → AllByRecursion IsSlot slots →
     next_place (live_of (drop (prefix_len (λ slot. ltb slot.range.last k) slots) slots)) term k ≡ next_place (live_of slots) term k
@@ -137,7 +87,7 @@ next_from (slot ∷ slots) term k all =
     elim (cases_Bool (ltb slot.range.last k)) [
       | inl t ↦
           let lt = ltb-true slot.range.last k t in
-          let none = next_past (slot.range.last + 1) slot.range.first (live_words slot) term k (live_words_rise slot all.0) (omega arith) in
+          let none = none_next (slot.range.last + 1) slot.range.first (live_words slot) term k (live_words_rise slot all.0) (omega arith) in
           let one : 1 + prefix_len (λ slot. ltb slot.range.last k) slots ≡ suc (prefix_len (λ slot. ltb slot.range.last k) slots) = omega arith in
           rw (t, one) (next_from slots term k all.1 ∙ sym (next_place-append (live_words slot) (live_of slots) term k ∙ ap (λ o. option_or o (next_place (live_of slots) term k)) none))
       | inr f ↦ rw f refl
@@ -159,34 +109,35 @@ previous_upto low end (slot ∷ slots) term k r all =
       | inr f ↦
           let lt = leb-false slot.range.first k f in
           let r' : AreRangesWithin slot.range.first end (ranges_of (slot ∷ slots)) = (le_refl slot.range.first, r.1, r.2, r.3) in
-          rw f (sym (previous_before end slot.range.first (live_of (slot ∷ slots)) term k (live_of_rise slot.range.first end (slot ∷ slots) r' all) lt))
+          rw f (sym (none_previous end slot.range.first (live_of (slot ∷ slots)) term k (live_of_rise slot.range.first end (slot ∷ slots) r' all) lt))
     ]
 
--- a look-up among the live words of a slot is one among its living postings, however the slot's parts are told
-pub next_by_slot : (inside slot : SlotContent) (shard : ShardContent) (mask : List SlotRange) (term : List ℕ) (k : ℕ) (o : Option ℕ) → inside ≡ slot → IsSlot inside → shard ≡ inside.shard → mask ≡ inside.mask →
+-- a look-up among the living postings of a slot's index is one among its live words
+pub next_by_slot : (slot : SlotContent) (shard : ShardContent) (mask : List SlotRange) (term : List ℕ) (k : ℕ) (o : Option ℕ) → IsSlot slot → shard ≡ slot.shard → mask ≡ slot.mask →
     o ≡ find (λ p. leb k p) (filter (is_alive mask) (postings_of shard.table term)) → o ≡ next_place (live_words slot) term k
-next_by_slot inside slot shard mask term k o same is e f answer =
+next_by_slot slot shard mask term k o is e f answer =
     answer ∙ ap (λ m. find (λ p. leb k p) (filter (is_alive m) (postings_of shard.table term))) f
-    ∙ ap (λ (s : ShardContent). find (λ p. leb k p) (filter (is_alive inside.mask) (postings_of s.table term))) e
-    ∙ sym (ap (find (λ p. leb k p)) (live_places inside term is))
-    ∙ ap (λ s. next_place (live_words s) term k) same
+    ∙ ap (λ (s : ShardContent). find (λ p. leb k p) (filter (is_alive slot.mask) (postings_of s.table term))) e
+    ∙ sym (ap (find (λ p. leb k p)) (live_places slot term is))
 
-pub previous_by_slot : (inside slot : SlotContent) (shard : ShardContent) (mask : List SlotRange) (term : List ℕ) (k : ℕ) (o : Option ℕ) → inside ≡ slot → IsSlot inside → shard ≡ inside.shard → mask ≡ inside.mask →
+pub previous_by_slot : (slot : SlotContent) (shard : ShardContent) (mask : List SlotRange) (term : List ℕ) (k : ℕ) (o : Option ℕ) → IsSlot slot → shard ≡ slot.shard → mask ≡ slot.mask →
     o ≡ find_last (λ p. leb p k) (filter (is_alive mask) (postings_of shard.table term)) → o ≡ previous_place (live_words slot) term k
-previous_by_slot inside slot shard mask term k o same is e f answer =
+previous_by_slot slot shard mask term k o is e f answer =
     answer ∙ ap (λ m. find_last (λ p. leb p k) (filter (is_alive m) (postings_of shard.table term))) f
-    ∙ ap (λ (s : ShardContent). find_last (λ p. leb p k) (filter (is_alive inside.mask) (postings_of s.table term))) e
-    ∙ sym (ap (find_last (λ p. leb p k)) (live_places inside term is))
-    ∙ ap (λ s. previous_place (live_words s) term k) same
+    ∙ ap (λ (s : ShardContent). find_last (λ p. leb p k) (filter (is_alive slot.mask) (postings_of s.table term))) e
+    ∙ sym (ap (find_last (λ p. leb p k)) (live_places slot term is))
 
 no_members : {X : Type 0} (xs : List X) → length xs ≡ 0 → xs ≡ []
 no_members [] e = refl
 no_members (x ∷ xs) e = absurd (omega arith)
 
 -- where a slot has no file nothing is found in it
-pub no_words : (inside slot : SlotContent) (files : List FileEntry) (n : ℕ) → inside ≡ slot → IsSlot inside → files ≡ inside.files → n ≡ length files → n ≡ 0 → live_words slot ≡ []
-no_words inside slot files n same is e count none =
-    ap live_words (sym same) ∙ no_live_words inside is (sym e ∙ no_members files (sym count ∙ none))
+pub no_words : (slot : SlotContent) (n : ℕ) → IsSlot slot → n ≡ length slot.files → n ≡ 0 → live_words slot ≡ []
+no_words slot n is count none = no_live_words slot is (no_members slot.files (sym count ∙ none))
+
+-- the addresses of a slot are those of its index
+pub range_of_shard : (slot : SlotContent) (shard : ShardContent) (first last : ℕ) (range : SlotRange) → IsSlot slot → shard ≡ slot.shard → slot_range first last ≡ range → range ≡ slot.range → slot_range first last ≡ shard.range
+range_of_shard slot shard first last range is e f g = f ∙ g ∙ sym is.indexed ∙ ap (λ (s : ShardContent). s.range) (sym e)
 
 -- a slot more at the front, or at the end
 pub look_ups-cons : (slot : SlotContent) (slots : List SlotContent) → look_ups (slot ∷ slots) ≡ (1 + length slot.mask) + look_ups slots
@@ -242,6 +193,11 @@ take_here [] i slot lt is = absurd (omega arith)
 take_here (x ∷ xs) zero slot lt is = ap (λ s. s ∷ []) (sym is)
 take_here (x ∷ xs) (suc i) slot lt is = ap (λ ss. x ∷ ss) (take_here xs i slot (omega arith) is)
 
+pub got_at : {X : Type 0} (xs : List X) (i : ℕ) (x : X) → i < length xs → x ≡ get_or xs i x → slice_get xs i ≡ Some x
+got_at [] i x lt is = absurd (omega arith)
+got_at (y ∷ ys) zero x lt is = ap Some (sym is)
+got_at (y ∷ ys) (suc i) x lt is = got_at ys i x (omega arith) is
+
 -- all dead ranges and slots of a version are few
-pub look_ups_most : (v : VersionContent) → IsVersion v → look_ups v.slots ≤ 32 + v.dels
+pub look_ups_most : (v : VersionContent) → IsVersion v → look_ups v.slots ≤ most_slots + v.dels
 look_ups_most v is = let a = is.few in let b = is.dead in omega arith

@@ -1,6 +1,6 @@
 -- Slots and versions, computed: `to be or not to be` at 0 to 7, and an empty file at 8 and 9.
 use Rattle.std.proofs.Common.{◌≡◌, ℕ, true, false, List, [], ◌∷◌, map, codes, Some, None, refl}
-use Rattle.gcl_model.specs.Slots.{slot_range, least_pair}
+use Rattle.gcl_model.specs.Slots.{slot_range}
 use Rattle.gcl_model.specs.Texts.{next_place, previous_place}
 use Rattle.address_space.specs.Runs.{FileEntry}
 use Rattle.index_shard.specs.Tables.{TermEntry, ShardContent}
@@ -77,10 +77,3 @@ look_ups-both = refl
 
 look_ups-left : look_ups left.slots ≡ 3
 look_ups-left = refl
-
--- the widths 8 and 2, then 2 and 8: the leftmost pair of two that tie
-least_pair-tie : least_pair (slot_range 0 7 ∷ slot_range 8 9 ∷ slot_range 10 17 ∷ []) ≡ 0
-least_pair-tie = refl
-
-least_pair-last : least_pair (slot_range 0 7 ∷ slot_range 8 9 ∷ slot_range 12 13 ∷ []) ≡ 1
-least_pair-last = refl

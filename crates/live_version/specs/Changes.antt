@@ -1,11 +1,12 @@
 -- What each change makes of a version.
-use Rattle.std.specs.Prelude.{◌≡◌, ℕ, ◌+◌, ◌-◌, ◌≤◌, not, ◌==◌, List, [], ◌∷◌, ◌++◌, map, filter, find, take, drop, Option, None, Some}
+use Rattle.std.specs.Prelude.{◌≡◌, ℕ, ◌+◌, ◌≤◌, not, ◌||◌, ◌==◌, List, [], ◌∷◌, ◌++◌, length, map, filter, find, take, drop, Option, None, Some}
 use Rattle.std.specs.Option.{option_to_list}
-use Rattle.gcl_model.specs.Slots.{SlotRange, slot_range, spanned}
-use Rattle.address_space.specs.Runs.{FileEntry}
-use Rattle.index_shard.specs.Tables.{ShardContent}
-use Rattle.delete_mask.specs.Masks.{with_range}
-use Rattle.live_version.specs.Contents.{SlotContent, VersionContent, files_of, live_of}
+use Rattle.gcl_model.specs.Slots.{SlotRange, spanned, slots_after_add, tail_count}
+use Rattle.gcl_model.specs.Collections.{width_of, with_boundaries, words_from}
+use Rattle.address_space.specs.Runs.{FileEntry, range_of}
+use Rattle.index_shard.specs.Tables.{ShardContent, words_of}
+use Rattle.delete_mask.specs.Masks.{is_dead, with_range}
+use Rattle.live_version.specs.Contents.{SlotContent, VersionContent, is_of_file, files_of, live_of, ranges_of, dead_of}
 
 -- no file was added yet
 abbrev pub empty_version : ℕ → VersionContent
@@ -15,9 +16,10 @@ empty_version first = record { number = 0; edition = 0; first = first; next = fi
 abbrev pub opened : ℕ → ℕ → ℕ → Option SlotContent → VersionContent
 opened first next next_id slot = record { number = 0; edition = 0; first = first; next = next; next_id = next_id; dels = 0; slots = option_to_list slot }
 
--- the addresses of a file
-abbrev pub range_of : FileEntry → SlotRange
-range_of file = slot_range file.base (file.base + file.len - 1)
+-- the index has the tokens of the file, between those of its boundary, from its base on
+pub record HasTokens (file : FileEntry) (shard : ShardContent) (tokens : List (List ℕ)) : Type 0 where
+  pub len : file.len ≡ width_of tokens
+  pub words : words_of shard ≡ words_from file.base (with_boundaries tokens)
 
 -- the slot of one file, of which nothing is dead
 abbrev pub slot_of_file : FileEntry → ShardContent → SlotContent
@@ -64,3 +66,18 @@ LiesInside range (Some whole) = (whole.first ≤ range.first) × (range.last ≤
 pub record IsSameLive (before after : List SlotContent) : Type 0 where
   pub words : live_of after ≡ live_of before
   pub files : files_of after ≡ files_of before
+
+-- an address is dead in the second slots exactly where it is in the first or is one of the file with this id
+abbrev pub KillsFile : List SlotContent → ℕ → List SlotContent → Type 0
+KillsFile before id after =
+    (file : FileEntry) → file_with_id id (files_of before) ≡ Some file → (p : ℕ) → is_dead (dead_of after) p ≡ (is_of_file p file || is_dead (dead_of before) p)
+
+-- where an added range is not made one with any before it, the ranges are those that the rule of adding leaves
+abbrev pub AreSettledAlone : List SlotRange → SlotRange → List SlotRange → Type 0
+AreSettledAlone before added after = tail_count after ≡ 1 → after ≡ slots_after_add before added
+
+-- where the slot comes in place of the last ones that the rule of adding makes one, and spans them, so are the ranges afterwards
+abbrev pub JoinsTail : List SlotContent → ℕ → ℕ → Option SlotContent → List SlotContent → Type 0
+JoinsTail before at count slot after =
+    (ranges : List SlotRange) (added : SlotRange) (joint : SlotContent) → ranges_of before ≡ ranges ++ added ∷ [] → slot ≡ Some joint → count ≡ tail_count (ranges_of before) → at + count ≡ length before
+    → whole_range (ranges_of (slots_at at count before)) ≡ Some joint.range → ranges_of after ≡ slots_after_add ranges added

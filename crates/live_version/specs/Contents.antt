@@ -1,11 +1,12 @@
 -- What a slot and a version are, and the words and files that they have.
 use Rattle.std.specs.Prelude.{◌≡◌, ℕ, ◌+◌, ◌^◌, ◌<◌, ◌≤◌, Bool, true, false, not, ◌&&◌, nat_le, nat_lt, List, length, map, filter, flat_map}
+use Rattle.gcl_model.specs.Limits.{address_end, most_slots}
 use Rattle.std.specs.List.{AllByRecursion, list_any}
-use Rattle.gcl_model.specs.Slots.{SlotRange, most_slots}
+use Rattle.gcl_model.specs.Slots.{SlotRange, AreRangesWithin}
 use Rattle.gcl_model.specs.Texts.{Word, Text}
 use Rattle.address_space.specs.Runs.{FileEntry, IsFileRun}
 use Rattle.index_shard.specs.Tables.{ShardContent, IsShard, words_of}
-use Rattle.delete_mask.specs.Masks.{is_dead, AreRangesWithin}
+use Rattle.delete_mask.specs.Masks.{is_dead}
 
 -- a range of addresses, its index, its dead ranges, and its surviving files
 pub record SlotContent : Type 0 where
@@ -80,7 +81,7 @@ version_text v = record { first = v.first; next = v.next; words = live_of v.slot
 pub record IsVersion (v : VersionContent) : Type 0 where
   pub numbered : v.edition ≤ v.number
   pub ordered : v.first ≤ v.next
-  pub in_range : v.next ≤ 2 ^ 48
+  pub in_range : v.next ≤ address_end
   pub few : length v.slots ≤ most_slots
   pub apart : AreRangesWithin v.first v.next (ranges_of v.slots)
   pub slots : AllByRecursion IsSlot v.slots

@@ -4,7 +4,7 @@ ghost use Rattle.live_version.specs.Changes.{file_with_id, slot_without};
 
 use crate::files::find_in;
 use crate::slot::Slot;
-use address_space::{FileId, FileRecord, FileRun, Range};
+use address_space::{FileId, FileRun};
 use std::alloc::{AllocError, Global};
 
 /// The slot without the file of this id: it is the same one where it has none, and else its index is shared.
@@ -14,10 +14,7 @@ pub(crate) fn slot_without(alloc: Global, slot: &Slot, id: FileId) -> Result<Slo
     let Some(file) = find_in(slot.records().as_slice(), id) else {
         return slot.copy();
     };
-    let range = Range {
-        first: file.base,
-        last: file.base + file.len - 1,
-    };
+    let range = file.range();
     let mask = slot.mask().with(range)?;
     let files = run_without(alloc, slot.records(), file.id)?;
     slot.changed(alloc, mask, files)
@@ -30,20 +27,8 @@ fn run_without(alloc: Global, files: &FileRun, id: FileId) -> Result<FileRun, Al
     let mut left = FileRun::new(alloc);
     for file in files.as_slice() {
         if file.id != id {
-            left.push(record_copy(file)?)?;
+            left.push(file.copy()?)?;
         }
     }
     Ok(left)
-}
-
-fn record_copy(file: &FileRecord) -> Result<FileRecord, AllocError>
-    ensures { IfOk result (λ copy. copy ≡ file.now) }
-{
-    let name = file.name.copy()?;
-    Ok(FileRecord {
-        id: file.id,
-        base: file.base,
-        len: file.len,
-        name,
-    })
 }

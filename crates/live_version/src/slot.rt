@@ -1,25 +1,28 @@
-ghost use Rattle.std.specs.Prelude.{◌≡◌, ◌+◌, ◌≤◌, true, [], length, IfOk};
+ghost use Rattle.std.specs.Prelude.{◌≡◌, [], true, length, IfOk};
 ghost use Rattle.std.specs.List.{AllByRecursion};
-ghost use Rattle.index_shard.specs.Tables.{words_of};
-ghost use Rattle.gcl_model.specs.Texts.{next_place, previous_place};
-ghost use Rattle.live_version.specs.Contents.{IsSlot, LiesIn, is_of_files, live_words, slot_content};
+ghost use Rattle.index_shard.specs.Tables.{IsShard, words_of};
+ghost use Rattle.live_version.specs.Contents.{IsSlot, LiesIn, is_of_files, slot_content};
 
-use crate::leaping::{next_alive, previous_alive};
 use address_space::{FileRun, Range};
 use delete_mask::Mask;
-use gcl_model::{Ledger, Steps};
 use index_shard::Shard;
 use std::alloc::{AllocError, Global};
 use std::marker::Model;
 use std::sync::Arc;
 
-/// A stretch of addresses with its index, its dead ranges and the records of its surviving files, each of the three shared.
+/// A stretch of addresses with its index, its dead ranges and the records of its surviving files. The versions that have it share it.
 #[derive(Drop)]
 pub struct Slot {
     range: Range,
+    parts: Arc<SlotParts>,
+}
+
+// A deletion changes all but the index, which is shared on.
+#[derive(Drop)]
+pub(crate) struct SlotParts {
     shard: Arc<Shard>,
-    mask: Arc<Mask>,
-    files: Arc<FileRun>,
+    mask: Mask,
+    files: FileRun,
 }
 
 impl Model for Slot {
@@ -27,9 +30,9 @@ impl Model for Slot {
 
     ghost Value = { SlotContent };
 
-    ghost view = { λ s. slot_content s.range s.shard.value s.mask.value s.files.value };
+    ghost view = { λ s. slot_content s.range s.parts.value.shard.value s.parts.value.mask s.parts.value.files };
 
-    ghost invariant = { λ s. IsSlot (slot_content s.range s.shard.value s.mask.value s.files.value) };
+    ghost invariant = { λ s. IsSlot (slot_content s.range s.parts.value.shard.value s.parts.value.mask s.parts.value.files) };
 }
 
 impl Slot {
@@ -46,17 +49,11 @@ impl Slot {
         ensures value { IfOk result (λ slot. slot ≡ slot_content range shard [] files) }
         ensures slot { IfOk result (λ slot. IsSlot slot) }
     {
-        // any call of the index tells that it is one
-        let _terms = shard.term_count();
+        known(&shard);
         let shard = Arc::new(alloc, shard)?;
-        let mask = Arc::new(alloc, Mask::new(alloc))?;
-        let files = Arc::new(alloc, files)?;
-        Ok(Slot {
-            range,
-            shard,
-            mask,
-            files,
-        })
+        let mask = Mask::new(alloc);
+        let parts = Arc::new(alloc, SlotParts { shard, mask, files })?;
+        Ok(Slot { range, parts })
     }
 
     /// The addresses that the slot is about.
@@ -72,7 +69,7 @@ impl Slot {
         ensures value { result.now ≡ self.now.shard }
         ensures slot { IsSlot self.now }
     {
-        &self.shard
+        &self.parts.shard
     }
 
     /// The dead ranges.
@@ -80,7 +77,7 @@ impl Slot {
         ensures value { result.now ≡ self.now.mask }
         ensures slot { IsSlot self.now }
     {
-        &self.mask
+        &self.parts.mask
     }
 
     /// The records of the surviving files.
@@ -88,18 +85,24 @@ impl Slot {
         ensures value { result.now ≡ self.now.files }
         ensures slot { IsSlot self.now }
     {
-        &self.files
+        &self.parts.files
     }
 
-    /// The same slot: the three parts are shared, and not copied.
+    /// How many files survive. It takes no memory.
+    pub fn files(&self) -> u64
+        ensures value { result ≡ length self.now.files }
+        ensures slot { IsSlot self.now }
+    {
+        self.records().len() as u64
+    }
+
+    /// The same slot, shared and not copied.
     pub(crate) fn copy(&self) -> Result<Slot, AllocError>
         ensures { IfOk result (λ slot. slot ≡ self.now) }
     {
         Ok(Slot {
             range: self.range,
-            shard: Arc::try_clone(&self.shard)?,
-            mask: Arc::try_clone(&self.mask)?,
-            files: Arc::try_clone(&self.files)?,
+            parts: Arc::try_clone(&self.parts)?,
         })
     }
 
@@ -113,36 +116,18 @@ impl Slot {
         requires { IsSlot (record self.now { mask = mask; files = files }) }
         ensures { IfOk result (λ slot. slot ≡ record self.now { mask = mask; files = files }) }
     {
-        let shard = Arc::try_clone(&self.shard)?;
-        let mask = Arc::new(alloc, mask)?;
-        let files = Arc::new(alloc, files)?;
+        let shard = Arc::try_clone(&self.parts.shard)?;
+        let parts = Arc::new(alloc, SlotParts { shard, mask, files })?;
         Ok(Slot {
             range: self.range,
-            shard,
-            mask,
-            files,
+            parts,
         })
     }
+}
 
-    /// The least address from `k` on that holds the term and is not dead. Without surviving files nothing is looked up.
-    pub(crate) fn next<L: Ledger>(&self, term: &[u8], k: u64, steps: &mut Steps<L>) -> Option<u64>
-        ensures answer { result ≡ next_place (live_words self.now) term.now k }
-        ensures cost { steps.new ≤ steps.old + (1 + length self.now.mask) }
-    {
-        if self.files.len() == 0 {
-            return None;
-        }
-        next_alive(self.range, &self.shard, &self.mask, term, k, steps)
-    }
-
-    /// The greatest address up to `k` that holds the term and is not dead.
-    pub(crate) fn prev<L: Ledger>(&self, term: &[u8], k: u64, steps: &mut Steps<L>) -> Option<u64>
-        ensures answer { result ≡ previous_place (live_words self.now) term.now k }
-        ensures cost { steps.new ≤ steps.old + (1 + length self.now.mask) }
-    {
-        if self.files.len() == 0 {
-            return None;
-        }
-        previous_alive(self.range, &self.shard, &self.mask, term, k, steps)
-    }
+/// Any call of an index says that it is one.
+pub(crate) fn known(shard: &Shard)
+    ensures { IsShard shard.now }
+{
+    let _ = shard.term_count();
 }

@@ -1,12 +1,12 @@
 ghost use Rattle.std.specs.Prelude.{◌≡◌, ◌++◌, ◌∷◌, [], IfOk, IfSome, OnOk};
 ghost use Rattle.std.specs.Option.{option_to_list};
-ghost use Rattle.address_space.specs.Runs.{IsFileRun, IsPlaced};
+ghost use Rattle.address_space.specs.Runs.{IsFileRun, IsPlaced, range_of};
 ghost use Rattle.index_shard.specs.Tables.{IsShard};
 ghost use Rattle.live_version.specs.Contents.{IsSlot};
-ghost use Rattle.live_version.specs.Changes.{range_of, slot_of_file};
+ghost use Rattle.live_version.specs.Changes.{slot_of_file};
 
-use crate::slot::Slot;
-use address_space::{FileRecord, FileRun, Range};
+use crate::slot::{Slot, known};
+use address_space::{FileRecord, FileRun};
 use index_shard::Shard;
 use std::alloc::{AllocError, Global};
 
@@ -68,12 +68,8 @@ pub(crate) fn file_slot(alloc: Global, file: FileRecord, shard: Shard) -> Result
     ensures shard { IsShard shard }
     ensures placed { IsPlaced file }
 {
-    // any call of the index tells that it is one
-    let _terms = shard.term_count();
-    let range = Range {
-        first: file.base,
-        last: file.base + file.len - 1,
-    };
+    known(&shard);
+    let range = file.range();
     let mut files = FileRun::new(alloc);
     files.push(file)?;
     Slot::new(alloc, range, shard, files)

@@ -2,40 +2,47 @@ ghost use Rattle.std.specs.Prelude.{◌≡◌, ◌+◌, ◌<◌, ◌≤◌, ◌^
 ghost use Rattle.std.specs.List.{AllByRecursion};
 ghost use Rattle.gcl_model.specs.Slots.{slot_range};
 ghost use Rattle.index_shard.specs.Tables.{IsShard};
+ghost use Rattle.gcl_model.specs.Limits.{address_end};
 
 use crate::change_tests::added;
 use crate::slot::Slot;
 use crate::version::Version;
 use address_space::{FileId, FileRecord, FileRun, Range};
-use gcl_model::{Bytes, Leaves, Steps, Tally};
+use gcl_model::{Bytes, Leaves, Ledger, Question, Steps, counted, uncounted};
 use index_shard::{Shard, ShardMaker};
 use std::alloc::{AllocError, Global};
-use std::marker::Brand;
 use std::process::Abort;
-use std::sync::ledger;
-use std::sync::ledger::Blank;
 use std::test::Fail;
 
-/// What `next` and `prev` answer, and how many look-ups both make together.
-fn look_up<B: ledger::Ledger>(
-    version: &Version,
-    term: &[u8],
+/// Where a term is next and where it was last, seen from an address.
+struct Nearest<'a> {
+    version: &'a Version,
+    term: &'a [u8],
     k: u64,
-    blank: Blank,
-) -> (Option<u64>, Option<u64>, u64)
-    requires name { blank.name ≡ B.name }
-    requires parts { blank.parts ≡ B.parts }
-    requires some { 0 < blank.parts }
-{
-    let mut steps = Steps::<Tally<B>>::open(blank);
-    let next = Leaves::next(version, term, k, &mut steps);
-    let previous = Leaves::prev(version, term, k, &mut steps);
-    (next, previous, steps.count())
+}
+
+impl Question for Nearest<'_> {
+    ghost use Rattle.std.specs.Prelude.{◌+◌, ◌*◌};
+    ghost use Rattle.gcl_model.specs.Limits.{most_slots};
+
+    type Answer = (Option<u64>, Option<u64>);
+
+    ghost can_ask = { λ q. Unit {0} };
+
+    ghost answers = { λ q answer. Unit {0} };
+
+    ghost most = { λ q answer. 2 * (most_slots + q.version.now.dels) };
+
+    fn ask<L: Ledger>(&self, steps: &mut Steps<L>) -> (Option<u64>, Option<u64>) {
+        let next = Leaves::next(self.version, self.term, self.k, steps);
+        let previous = Leaves::prev(self.version, self.term, self.k, steps);
+        (next, previous)
+    }
 }
 
 fn file(alloc: Global, id: u64, base: u64, len: u64) -> Result<FileRecord, AllocError>
     requires bounded { 2 ≤ len }
-    requires in_range { base + len ≤ 2 ^ 48 }
+    requires in_range { base + len ≤ address_end }
     ensures id { IfOk result (λ file. file.id ≡ id) }
     ensures base { IfOk result (λ file. file.base ≡ base) }
     ensures len { IfOk result (λ file. file.len ≡ len) }
@@ -151,14 +158,12 @@ fn a_look_up_is_one_among_the_live_words(rt: HostRuntime) -> Result<(), Fail> {
     assert_eq!(rt; version.dels(), 1);
     for term in ["be", "not", "or", "to", "who"] {
         for k in 0..15u64 {
-            let (next, previous, steps) = look_up::<Brand>(
-                &version,
-                term.as_bytes(),
+            let found = uncounted(&Nearest {
+                version: &version,
+                term: term.as_bytes(),
                 k,
-                Blank::new(1),
-            );
-            assert_eq!(rt; (next, previous), plain_look_up(term, k), "{term} at {k}");
-            assert!(rt; steps <= 2 * (32 + 1));
+            });
+            assert_eq!(rt; found, plain_look_up(term, k), "{term} at {k}");
         }
     }
     Ok(())
@@ -175,8 +180,12 @@ fn what_was_deleted_is_passed_as_a_whole(rt: HostRuntime) -> Result<(), Fail> {
         ("<file!>", 9, None, Some(8), 2),
     ];
     for (term, k, next, previous, steps) in cases {
-        let found = look_up::<Brand>(&version, term.as_bytes(), k, Blank::new(1));
-        assert_eq!(rt; found, (next, previous, steps), "{term} at {k}");
+        let found = counted(&Nearest {
+            version: &version,
+            term: term.as_bytes(),
+            k,
+        });
+        assert_eq!(rt; found, ((next, previous), steps), "{term} at {k}");
     }
     Ok(())
 }
@@ -200,20 +209,24 @@ fn files_are_told_by_place_and_by_id(rt: HostRuntime) -> Result<(), Fail> {
 }
 
 #[test]
-fn the_narrowest_pair_is_told_and_the_leftmost_on_a_tie(rt: HostRuntime) -> Result<(), Fail> {
-    let cases = [
-        ([4, 2, 2, 4], 1),
-        ([2, 2, 2, 2], 0),
-        ([4, 3, 2, 3], 1),
-        ([5, 4, 3, 2], 2),
+fn the_tail_is_as_long_as_four_times_its_width_reaches(rt: HostRuntime) -> Result<(), Fail> {
+    let cases: [(&[u64], usize); 8] = [
+        (&[2], 1),
+        (&[2, 2], 2),
+        (&[8, 2], 2),
+        (&[9, 2], 1),
+        (&[44, 10, 2, 2], 4),
+        (&[57, 10, 2, 2], 3),
+        (&[90, 20, 2, 2], 2),
+        (&[100, 5, 20, 2], 1),
     ];
     for (widths, want) in cases {
         let mut version = Version::empty(rt.alloc(), 7);
         for width in widths {
-            version = added(rt.alloc(), &version, width)?.expect(&rt, "a file may be added");
+            version = added(rt.alloc(), &version, *width)?.expect(&rt, "a file may be added");
         }
-        assert!(rt; 2 <= version.slot_count());
-        assert_eq!(rt; version.least_pair(), want, "{widths:?}");
+        assert!(rt; 1 <= version.slot_count());
+        assert_eq!(rt; version.tail(), want, "{widths:?}");
     }
     Ok(())
 }

@@ -1,19 +1,27 @@
-ghost use Rattle.std.specs.Prelude.{◌≡◌, ◌≤◌, ◌<◌, length, slice_index_or};
+ghost use Rattle.std.specs.Prelude.{◌≡◌, ◌+◌, ◌≤◌, ◌<◌, length, slice_index_or};
+ghost use Rattle.gcl_model.specs.Limits.{most_slots, number_end};
 ghost use Rattle.live_version.specs.Contents.{IsVersion, version_content};
+ghost use Rattle.live_version.specs.StandsFor.{Keeps};
 
 use crate::slot::Slot;
 use std::alloc::Global;
 use std::marker::Model;
 
+/// The numbers of a version, by their names.
+#[derive(Clone, Copy)]
+pub(crate) struct Numbers {
+    pub(crate) number: u64,
+    pub(crate) edition: u64,
+    pub(crate) first: u64,
+    pub(crate) next: u64,
+    pub(crate) next_id: u64,
+    pub(crate) dels: u64,
+}
+
 /// What a reader sees: the numbers of a collection, and its words and files in at most 32 slots.
 #[derive(Drop)]
 pub struct Version {
-    number: u64,
-    edition: u64,
-    first: u64,
-    next: u64,
-    next_id: u64,
-    dels: u64,
+    numbers: Numbers,
     slots: Vec<Slot>,
 }
 
@@ -22,34 +30,30 @@ impl Model for Version {
 
     ghost Value = { VersionContent };
 
-    ghost view = { λ v. version_content v.number v.edition v.first v.next v.next_id v.dels v.slots.items };
+    ghost view = { λ v. version_content v.numbers.number v.numbers.edition v.numbers.first v.numbers.next v.numbers.next_id v.numbers.dels v.slots.items };
 
-    ghost invariant = { λ v. IsVersion (version_content v.number v.edition v.first v.next v.next_id v.dels v.slots.items) };
+    ghost invariant = { λ v. IsVersion (version_content v.numbers.number v.numbers.edition v.numbers.first v.numbers.next v.numbers.next_id v.numbers.dels v.slots.items) };
 }
 
 impl Version {
-    /// The version with these parts.
-    pub(crate) fn of(
-        number: u64,
-        edition: u64,
-        first: u64,
-        next: u64,
-        next_id: u64,
-        dels: u64,
-        slots: Vec<Slot>,
-    ) -> Self
-        requires { IsVersion (version_content number edition first next next_id dels slots.items) }
-        ensures { result ≡ version_content number edition first next next_id dels slots.items }
+    /// The version with these numbers and slots.
+    pub(crate) fn of(numbers: Numbers, slots: Vec<Slot>) -> Self
+        requires { IsVersion (version_content numbers.number numbers.edition numbers.first numbers.next numbers.next_id numbers.dels slots.items) }
+        ensures { result ≡ version_content numbers.number numbers.edition numbers.first numbers.next numbers.next_id numbers.dels slots.items }
     {
-        Version {
-            number,
-            edition,
-            first,
-            next,
-            next_id,
-            dels,
-            slots,
-        }
+        Version { numbers, slots }
+    }
+
+    pub(crate) fn numbers(&self) -> Numbers
+        ensures number { result.number ≡ self.now.number }
+        ensures edition { result.edition ≡ self.now.edition }
+        ensures first { result.first ≡ self.now.first }
+        ensures next { result.next ≡ self.now.next }
+        ensures next_id { result.next_id ≡ self.now.next_id }
+        ensures dels { result.dels ≡ self.now.dels }
+        ensures version { IsVersion self.now }
+    {
+        self.numbers
     }
 
     /// How many versions were published before it.
@@ -57,7 +61,7 @@ impl Version {
         ensures value { result ≡ self.now.number }
         ensures version { IsVersion self.now }
     {
-        self.number
+        self.numbers.number
     }
 
     /// How often files came or went before it.
@@ -65,7 +69,7 @@ impl Version {
         ensures value { result ≡ self.now.edition }
         ensures version { IsVersion self.now }
     {
-        self.edition
+        self.numbers.edition
     }
 
     /// The first address of the collection.
@@ -73,7 +77,7 @@ impl Version {
         ensures value { result ≡ self.now.first }
         ensures version { IsVersion self.now }
     {
-        self.first
+        self.numbers.first
     }
 
     /// The address that the next file begins at.
@@ -81,7 +85,7 @@ impl Version {
         ensures value { result ≡ self.now.next }
         ensures version { IsVersion self.now }
     {
-        self.next
+        self.numbers.next
     }
 
     /// The id that the next file gets.
@@ -89,7 +93,7 @@ impl Version {
         ensures value { result ≡ self.now.next_id }
         ensures version { IsVersion self.now }
     {
-        self.next_id
+        self.numbers.next_id
     }
 
     /// How many files were deleted.
@@ -97,13 +101,13 @@ impl Version {
         ensures value { result ≡ self.now.dels }
         ensures version { IsVersion self.now }
     {
-        self.dels
+        self.numbers.dels
     }
 
     /// The number of slots.
     pub fn slot_count(&self) -> usize
         ensures value { result ≡ length self.now.slots }
-        ensures few { result ≤ 32 }
+        ensures few { result ≤ most_slots }
         ensures version { IsVersion self.now }
     {
         self.slots.len()
@@ -130,13 +134,14 @@ impl Version {
         *self.slots.allocator()
     }
 
-    /// The same version under other numbers.
-    pub(crate) fn renumbered(mut self, number: u64, edition: u64) -> Self
-        requires { edition ≤ number }
-        ensures { result ≡ record self { number = number; edition = edition } }
+    /// The same version under the numbers that follow those of another one.
+    pub fn after(mut self, previous: &Version) -> Version
+        requires { previous.now.number < number_end }
+        ensures value { result ≡ record self { number = previous.now.number + 1; edition = previous.now.edition + 1 } }
+        ensures stands { Keeps self result }
     {
-        self.number = number;
-        self.edition = edition;
+        self.numbers.number = previous.number() + 1;
+        self.numbers.edition = previous.edition() + 1;
         self
     }
 }

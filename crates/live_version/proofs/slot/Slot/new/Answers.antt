@@ -1,13 +1,15 @@
-use Rattle.std.proofs.Common.{◌∙◌}
+use Rattle.std.proofs.Common.{ap, ◌∙◌}
 use Rattle.live_version.proofs.SlotLemmas.{new_slot}
 use Rattle.live_version.proofs.slot.Slot.new.Goals as goal
 
 pub invariant_of-result : goal.invariant_of-result
 invariant_of-result c =
-    new_slot c.args.range c.args.shard c.in_ok-shard.shard.value c.in_ok-mask.mask.value c.args.files c.in_ok-files.files.value c.term_count-terms.ensures.shard c.requires.indexed c.requires.files c.requires.owned
-    c.in_ok-shard.ensures.ok (c.in_ok-mask.ensures.ok ∙ c.new-2.ensures) c.in_ok-files.ensures.ok
+    let parts = c.in_ok-parts.ensures.ok in
+    new_slot c.args.range c.args.shard c.in_ok-parts.parts.value.shard.value c.in_ok-parts.parts.value.mask c.args.files c.in_ok-parts.parts.value.files c.known.ensures c.requires.indexed c.requires.files c.requires.owned
+    (ap (λ p. p.shard.value) parts ∙ c.in_ok-shard.ensures.ok) (ap (λ p. p.mask) parts ∙ c.new-mask.ensures) (ap (λ p. p.files) parts)
 
 pub returns-clause-slot : goal.returns-clause-slot
 returns-clause-slot c =
-    new_slot c.args.range c.args.shard c.in_ok-shard.shard.value c.in_ok-mask.mask.value c.args.files c.in_ok-files.files.value c.term_count-terms.ensures.shard c.requires.indexed c.requires.files c.requires.owned
-    c.in_ok-shard.ensures.ok (c.in_ok-mask.ensures.ok ∙ c.new-2.ensures) c.in_ok-files.ensures.ok
+    let parts = c.in_ok-parts.ensures.ok in
+    new_slot c.args.range c.args.shard c.in_ok-parts.parts.value.shard.value c.in_ok-parts.parts.value.mask c.args.files c.in_ok-parts.parts.value.files c.known.ensures c.requires.indexed c.requires.files c.requires.owned
+    (ap (λ p. p.shard.value) parts ∙ c.in_ok-shard.ensures.ok) (ap (λ p. p.mask) parts ∙ c.new-mask.ensures) (ap (λ p. p.files) parts)

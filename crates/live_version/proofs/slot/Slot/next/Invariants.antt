@@ -1,0 +1,18 @@
+use Rattle.std.proofs.Common.{◌≡◌, ◌+◌, ◌≤◌, length, filter}
+use Rattle.index_shard.specs.Searched.{nearest}
+use Rattle.index_shard.specs.Tables.{postings_of}
+use Rattle.index_shard.specs.declared.direction.Direction.TheVariants.{Forward}
+use Rattle.live_version.specs.LookUps.{is_alive}
+use Rattle.live_version.proofs.LeapLemmas.{ahead}
+use Rattle.live_version.proofs.slot.Slot.next.Given as goal
+
+-- nothing alive was passed, and each look-up so far met a dead range that is behind
+abbrev pub invariant-loop-p : goal.invariant-loop-p
+invariant-loop-p g l = record {
+  same : nearest Forward (filter (is_alive l.mask) (postings_of l.shard.table (g.T.LookUp.term l.term))) l.from ≡ nearest Forward (filter (is_alive l.mask) (postings_of l.shard.table (g.T.LookUp.term l.term))) l.k;
+  counted : g.T.LookUp.count l.fn.counter ≤ g.T.LookUp.count l.counter;
+  cost : g.T.LookUp.count l.counter + ahead l.mask l.from ≤ g.T.LookUp.count l.fn.counter + length l.mask;
+}
+
+abbrev pub decreases-loop-p : goal.decreases-loop-p
+decreases-loop-p g l = ahead l.mask l.from
