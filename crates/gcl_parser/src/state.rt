@@ -2,7 +2,7 @@ use crate::fault::QueryKind;
 use crate::token::Token;
 
 /// How many brackets may be open at once.
-const MOST_OPEN: u64 = 12;
+const MOST_BRACKETS: u64 = 12;
 
 /// How many quoted texts and widths a query may have.
 const MOST_OPERANDS: u64 = 256;
@@ -79,7 +79,7 @@ impl State {
         if !self.wants_operand {
             return Err(QueryKind::OperatorOrCloseExpected);
         }
-        if self.opened >= MOST_OPEN {
+        if self.opened >= MOST_BRACKETS {
             return Err(QueryKind::TooDeep);
         }
         Ok(State {
