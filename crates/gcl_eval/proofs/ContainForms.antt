@@ -1,7 +1,7 @@
 -- A containment by its kind and its two operands: its form, its list, its cost.
-use Rattle.std.proofs.Common.{◌≡◌, ℕ, ◌<◌, ◌≤◌, Option, Some, None, IfSome, refl, sym, ap, ◌∙◌, subst, arith, filter}
+use Rattle.std.proofs.Common.{◌≡◌, ℕ, ◌<◌, Option, Some, None, IfSome, refl, ap, ◌∙◌, subst, arith, filter}
 use Rattle.gcl_model.specs.Extents.{Extent}
-use Rattle.gcl_model.specs.Texts.{Text, IsText}
+use Rattle.gcl_model.specs.Texts.{Text}
 use Rattle.gcl_model.specs.Limits.{address_end, far}
 use Rattle.gcl_model.specs.Forms.{Form}
 use Rattle.gcl_model.specs.WellFormed.{IsWellFormed}

@@ -1,20 +1,10 @@
 -- Fewer rounds of a chain's operands take no more look-ups.
-use Rattle.std.proofs.Common.{◌≡◌, ℕ, ◌+◌, ◌*◌, ◌≤◌, arith, le_refl}
+use Rattle.std.proofs.Common.{ℕ, ◌+◌, ◌*◌, ◌≤◌, arith, le_refl}
 use Rattle.std.proofs.Math.Nat.{mul-le-mul_left, mul-le-mul_right}
 use Rattle.gcl_model.specs.Texts.{Text}
 use Rattle.gcl_model.specs.Forms.{Form, term, phrase, width, both, one, seq, containing, contained_in, not_containing, not_contained_in}
 use Rattle.gcl_model.specs.Cost.{cost, costs}
-use Rattle.gcl_eval.specs.Costs.{cost_in, near_cost, rounds}
-use Rattle.gcl_eval.specs.Operands.{IsChain}
-use Rattle.gcl_eval.specs.declared.direction.Access.{Access}
-use Rattle.gcl_eval.specs.declared.direction.Access.TheVariants.{FirstStart, FirstEnd, LastEnd, LastStart}
-
--- an access takes four rounds at most
-pub rounds_le : (access : Access) → rounds access ≤ 4
-rounds_le FirstStart = omega arith
-rounds_le FirstEnd = omega arith
-rounds_le LastEnd = omega arith
-rounds_le LastStart = omega arith
+use Rattle.gcl_eval.specs.Costs.{cost_in, near_cost}
 
 pub cost_in_le : (rounds : ℕ) → rounds ≤ 4 → (text : Text) (most : ℕ) (form : Form) → cost_in rounds text most form ≤ cost text most form
 cost_in_le rounds le text most (term token) = le_refl most
@@ -33,16 +23,3 @@ pub within_cost : (text : Text) (most : ℕ) (form : Form) (old new accesses : �
 within_cost text most form old new accesses le =
     let more : accesses * near_cost text most form ≤ accesses * cost text most form = mul-le-mul_left accesses (cost_in_le 2 (omega arith) text most form) in
     omega arith
-
--- a chain's access by the far sides takes two by the near ones
-pub two_near_costs : (text : Text) (most : ℕ) (form : Form) → IsChain form → near_cost text most form + near_cost text most form ≡ cost text most form
-two_near_costs text most (both forms) chain = omega arith
-two_near_costs text most (one forms) chain = omega arith
-two_near_costs text most (seq forms) chain = omega arith
-two_near_costs text most (term token) chain = absurd chain
-two_near_costs text most (phrase tokens) chain = absurd chain
-two_near_costs text most (width n) chain = absurd chain
-two_near_costs text most (containing a b) chain = absurd chain
-two_near_costs text most (contained_in a b) chain = absurd chain
-two_near_costs text most (not_containing a b) chain = absurd chain
-two_near_costs text most (not_contained_in a b) chain = absurd chain

@@ -1,11 +1,10 @@
 -- Members that accesses find.
-use Rattle.std.proofs.Common.{◌≡◌, ℕ, ◌<◌, ◌≤◌, Bool, cond, leb, List, [], ◌∷◌, Option, Some, None, IfSome, refl, sym, ap, arith, inl, inr, find}
+use Rattle.std.proofs.Common.{◌≡◌, ℕ, ◌<◌, ◌≤◌, leb, List, Option, Some, None, IfSome, sym, arith}
 use Rattle.gcl_model.specs.Extents.{Extent}
 use Rattle.gcl_model.specs.Texts.{Text, IsText}
 use Rattle.gcl_model.specs.Limits.{address_end}
 use Rattle.gcl_model.specs.Forms.{Form}
 use Rattle.gcl_model.specs.Meaning.{concordance, denotes}
-use Rattle.gcl_model.specs.Access.{later_or, find_last}
 use Rattle.gcl_model.proofs.Covers.{Has, of_each, find_gives, find_last_gives}
 use Rattle.gcl_model.proofs.Meanings.{IsOf, each_of_text}
 use Rattle.gcl_eval.specs.Directions.{access_of}

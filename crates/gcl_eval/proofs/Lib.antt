@@ -8,6 +8,5 @@ pub mod ChainSteps
 pub mod Listing
 mod Worked
 pub mod ContainLoops
-pub mod ContainExprs
 pub mod ContainForms
 pub mod ContainSteps

@@ -1,5 +1,5 @@
 -- The operands of a chain: one and the others.
-use Rattle.std.proofs.Common.{◌≡◌, ℕ, ◌+◌, ◌*◌, ◌≤◌, List, [], ◌∷◌, ◌++◌, Option, Vec, Global, refl, sym, ap, ◌∙◌, subst, arith}
+use Rattle.std.proofs.Common.{◌≡◌, ℕ, ◌+◌, ◌≤◌, List, [], ◌∷◌, ◌++◌, Option, Vec, Global, refl, sym, ap, ◌∙◌, subst, arith}
 use denote.Param.Weighed.{most, most-append}
 use Rattle.gcl_model.specs.declared.expr.Expr.{Expr, Both, One, Seq, size-Expr}
 use Rattle.gcl_model.specs.Extents.{Extent}
@@ -11,7 +11,6 @@ use Rattle.gcl_model.specs.Meaning.{concordance}
 use Rattle.gcl_model.specs.Cost.{cost}
 use Rattle.gcl_model.proofs.FormLemmas.{form_of-Both, form_of-One, form_of-Seq}
 use Rattle.gcl_eval.specs.Operands.{operand_forms, operand_lists, operand_costs}
-use Rattle.gcl_eval.specs.Costs.{near_cost}
 use Rattle.gcl_eval.specs.Directions.{near_access, beside}
 use Rattle.gcl_eval.specs.declared.direction.Direction.{Direction}
 use Rattle.gcl_eval.specs.declared.direction.Direction.TheVariants.{Forward, Backward}
@@ -72,13 +71,7 @@ form-One e v exprs is same = ap form_of is ∙ form_of-One v ∙ ap (λ es. one 
 pub form-Seq : (e : Expr) (v : Vec Expr Global) (exprs : List Expr) → e ≡ Seq v → exprs ≡ v.items → form_of e ≡ seq (operand_forms exprs)
 form-Seq e v exprs is same = ap form_of is ∙ form_of-Seq v ∙ ap (λ es. seq (operand_forms es)) (sym same)
 
--- what is known of an expression by its form
-module _ (e : Expr) (form : Form) (is : form_of e ≡ form) where
-  pub by_form-near : (direction : Direction) (text : Text) (k : ℕ) (o : Option Extent) → o ≡ near_access direction (concordance text form) k → o ≡ near_access direction (concordance text (form_of e)) k
-  by_form-near direction text k o found = found ∙ ap (λ f. near_access direction (concordance text f) k) (sym is)
-
-  pub by_form-cost : (text : Text) (most old new : ℕ) → new ≤ old + near_cost text most form → new ≤ old + near_cost text most (form_of e)
-  by_form-cost text most old new le = subst (λ f. new ≤ old + near_cost text most f) (sym is) le
-
-  pub by_form-well_formed : IsWellFormed (form_of e) → IsWellFormed form
-  by_form-well_formed w = subst IsWellFormed is w
+-- an access is known by the form
+pub by_form-near : (e : Expr) (form : Form) → form_of e ≡ form → (direction : Direction) (text : Text) (k : ℕ) (o : Option Extent) → o ≡ near_access direction (concordance text form) k →
+    o ≡ near_access direction (concordance text (form_of e)) k
+by_form-near e form is direction text k o found = found ∙ ap (λ f. near_access direction (concordance text f) k) (sym is)

@@ -1,11 +1,13 @@
--- The other form of access by the chain's own, and what accesses may cost.
-use Rattle.std.specs.Prelude.{◌≡◌, List, [], ◌∷◌, Some, None, codes}
+-- The accesses by the far sides by those by the near ones, what a chain does in a direction, and what accesses may cost.
+use Rattle.std.specs.Prelude.{◌≡◌, ℕ, List, [], ◌∷◌, Some, None, codes}
 use Rattle.std.proofs.Common.{refl}
 use Rattle.gcl_model.specs.Extents.{Extent, extent}
 use Rattle.gcl_model.specs.Texts.{Text}
 use Rattle.gcl_model.specs.Forms.{Form, term, both, seq, contained_in, no_forms, more_forms}
 use Rattle.gcl_model.specs.Cost.{cost}
-use Rattle.gcl_eval.specs.Directions.{access_of, passed, resume}
+use Rattle.gcl_eval.specs.Costs.{cost_in, near_cost}
+use Rattle.gcl_eval.specs.Members.{members_from}
+use Rattle.gcl_eval.specs.Directions.{access_of, beside, farthest, between, best, walk, join, outside, passed, resume}
 use Rattle.gcl_eval.specs.declared.direction.Access.TheVariants.{FirstEnd, LastStart}
 use Rattle.gcl_eval.specs.declared.direction.Direction.TheVariants.{Forward, Backward}
 
@@ -41,6 +43,38 @@ resume_back-at_edge = refl
 resume_back-empty : resume Backward 0 0 (passed Backward [] 0 9) ≡ None
 resume_back-empty = refl
 
+-- a page begins with the first member that starts at its address or later
+members_from-at_3 : members_from members 3 ≡ extent 4 5 ∷ extent 6 6 ∷ []
+members_from-at_3 = refl
+
+members_from-at_a_member : members_from members 4 ≡ extent 4 5 ∷ extent 6 6 ∷ []
+members_from-at_a_member = refl
+
+-- chains, in either direction
+beside-backward : beside {X = ℕ} Backward 3 (1 ∷ 2 ∷ []) ≡ 1 ∷ 2 ∷ 3 ∷ []
+beside-backward = refl
+
+farthest-forward : farthest Forward ((extent 1 6 ∷ []) ∷ (extent 2 3 ∷ []) ∷ []) 0 4 ≡ Some 6
+farthest-forward = refl
+
+farthest-backward : farthest Backward ((extent 1 6 ∷ []) ∷ (extent 2 3 ∷ []) ∷ []) 9 4 ≡ Some 1
+farthest-backward = refl
+
+between-backward : between Backward 6 4 ≡ extent 4 6
+between-backward = refl
+
+best-forward : best Forward ((extent 2 5 ∷ []) ∷ (extent 3 4 ∷ []) ∷ []) 0 None ≡ Some (extent 3 4)
+best-forward = refl
+
+walk-forward : walk Forward ((extent 2 3 ∷ extent 4 4 ∷ []) ∷ []) (extent 1 2) ≡ Some (extent 4 4)
+walk-forward = refl
+
+join-backward : join Backward (extent 4 4) (extent 1 2) ≡ extent 1 4
+join-backward = refl
+
+outside-at_3 : outside Forward 8 3 ≡ Some 2
+outside-at_3 = refl
+
 -- where a look-up is one step: a term takes one, and each of a pair of terms at most four
 abbrev to : Form
 to = term (codes "to")
@@ -56,6 +90,16 @@ cost-term = refl
 
 cost-pair : cost no_words 1 (both (more_forms to (more_forms be no_forms))) ≡ 8
 cost-pair = refl
+
+-- two rounds of the operands in place of four
+near_cost-pair : near_cost no_words 1 (both (more_forms to (more_forms be no_forms))) ≡ 4
+near_cost-pair = refl
+
+near_cost-term : near_cost no_words 1 to ≡ 1
+near_cost-term = refl
+
+cost_in-4 : cost_in 4 no_words 1 (both (more_forms to (more_forms be no_forms))) ≡ 8
+cost_in-4 = refl
 
 cost-nested : cost no_words 1 (seq (more_forms (both (more_forms to (more_forms be no_forms))) (more_forms to no_forms))) ≡ 36
 cost-nested = refl

@@ -3,18 +3,18 @@ use Rattle.gcl_model.specs.Forms.{term, phrase, width, both, one, seq}
 use Rattle.gcl_model.specs.FormOf.{form_of}
 use Rattle.gcl_model.specs.Meaning.{concordance}
 use Rattle.gcl_eval.specs.Operands.{operand_forms, operand_lists}
-use Rattle.gcl_eval.specs.Directions.{access_of, near_access, farthest, best, walk}
+use Rattle.gcl_eval.specs.Directions.{access_of, farthest, best, walk}
 use Rattle.gcl_eval.specs.declared.direction.Direction.TheVariants.{Forward}
 use Rattle.gcl_eval.proofs.Found.{access_within}
-use Rattle.gcl_eval.proofs.CostLemmas.{rounds_le, cost_in_le, two_near_costs}
 use Rattle.gcl_eval.proofs.ChainRules.{back_is_as_far}
-use Rattle.gcl_eval.proofs.OperandLemmas.{costs_beside, parts_beside, depth_beside, form-Both, form-One, form-Seq, by_form-near, by_form-cost, by_form-well_formed}
+use Rattle.gcl_eval.proofs.OperandLemmas.{costs_beside, parts_beside, depth_beside, form-Both, form-One, form-Seq, by_form-near}
 use Rattle.gcl_eval.proofs.ChainSteps.{next_item, walk_ends, walk_next, farthest_next, best_next, best_all, farther_below, both_far, both_near, seq_found, seq_far, seq_near, joins, near_within, far_ends}
 use Rattle.gcl_eval.proofs.ContainLoops.{goes_below}
 use Rattle.gcl_eval.proofs.ContainForms.{both_operands, access_spans, spans_below}
 use Rattle.gcl_eval.proofs.ContainSteps.{node_enters, node_enters_none, node_accepts, node_finishes, node_ends, node_goes_on, node_more_turns, fewer_left, none_within, starts_within, stops_within, ends_within, goes_within}
 use Rattle.gcl_eval.proofs.+access.Goals as goal
 
+-- an access of any expression lies within the addresses
 pub access::access-returns-in-Term-clause-within : goal.access::access-returns-in-Term-clause-within
 access::access-returns-in-Term-clause-within g t c =
     access_within c.args.access (g.C.CountedLeaves.text c.args.source.now) (term c.in-Term.token) c.args.k c.term_access.result c.span-span.ensures.sound c.term_access.ensures.answer
@@ -29,6 +29,11 @@ access::access-returns-in-Width-clause-within g t c =
     access_within c.args.access text (width c.in-Width.width) c.args.k c.width_access.result c.span-span.ensures.sound
     (c.width_access.ensures text record { first_is = sym c.span-span.ensures.first; next_is = sym c.span-span.ensures.next })
 
+pub access::access-returns-in-Both-clause-within : goal.access::access-returns-in-Both-clause-within
+access::access-returns-in-Both-clause-within g t c =
+    access_within c.args.access (g.C.CountedLeaves.text c.args.source.now) (form_of c.args.expr.now) c.args.k c.chain_access.result c.span-span.ensures.sound c.chain_access.ensures.answer
+
+-- the access by the far sides
 pub chains::far_access-returns-in_err-from-clause-answer : goal.chains::far_access-returns-in_err-from-clause-answer
 chains::far_access-returns-in_err-from-clause-answer g t c =
     let from = rw (c.span-span.ensures.first, c.span-span.ensures.next) at c.in_err-from.ensures.value in
@@ -40,6 +45,28 @@ chains::far_access-returns-clause-answer g t c =
     let from = rw (c.span-span.ensures.first, c.span-span.ensures.next) at c.in_ok-from.ensures.value in
     c.near_access.ensures.answer ∙ far_ends c.args.direction (g.C.CountedLeaves.text c.args.source.now) (form_of c.args.expr.now) c.args.k c.passed_member-passed.result c.passed_member-passed.ensures.answer (Some c.in_ok-from.from) from
 
+-- the member that it passes over
+pub chains::passed_member-returns-clause-within : goal.chains::passed_member-returns-clause-within
+chains::passed_member-returns-clause-within g t c =
+    near_within c.opposite.result (g.C.CountedLeaves.text c.args.source.now) (form_of c.args.expr.now) c.in_ok-outside.outside c.near_access.result c.span.ensures.sound c.near_access.ensures.answer
+
+-- the access by the near sides, by the kind of chain
+pub chains::near_access-returns-in-Both-clause-answer : goal.chains::near_access-returns-in-Both-clause-answer
+chains::near_access-returns-in-Both-clause-answer g t c =
+    by_form-near c.args.expr.now (both (operand_forms c.deref.result.now)) (form-Both c.args.expr.now c.in-Both.operands c.deref.result.now c.in-Both.is c.deref.ensures.value)
+    c.args.direction (g.C.CountedLeaves.text c.args.source.now) c.args.k c.both_of.result c.both_of.ensures.answer
+
+pub chains::near_access-returns-in-One-clause-answer : goal.chains::near_access-returns-in-One-clause-answer
+chains::near_access-returns-in-One-clause-answer g t c =
+    by_form-near c.args.expr.now (one (operand_forms c.deref-in-One.result.now)) (form-One c.args.expr.now c.in-One.operands c.deref-in-One.result.now c.in-One.is c.deref-in-One.ensures.value)
+    c.args.direction (g.C.CountedLeaves.text c.args.source.now) c.args.k c.one_of.result c.one_of.ensures.answer
+
+pub chains::near_access-returns-in-Seq-clause-answer : goal.chains::near_access-returns-in-Seq-clause-answer
+chains::near_access-returns-in-Seq-clause-answer g t c =
+    by_form-near c.args.expr.now (seq (operand_forms c.deref-in-Seq.result.now)) (form-Seq c.args.expr.now c.in-Seq.operands c.deref-in-Seq.result.now c.in-Seq.is c.deref-in-Seq.ensures.value)
+    c.args.direction (g.C.CountedLeaves.text c.args.source.now) c.args.k c.followed_by.result c.followed_by.ensures.answer
+
+-- both of: on, and back
 pub chains::both_of-returns-in_err-far-clause-answer : goal.chains::both_of-returns-in_err-far-clause-answer
 chains::both_of-returns-in_err-far-clause-answer g t c =
     let r = both_far c.args.direction (g.C.CountedLeaves.text c.args.source.now) c.args.operands.now c.requires.operands c.args.k None c.in_err-far.ensures.answer in
@@ -61,6 +88,7 @@ chains::both_of-returns-clause-answer g t c =
     let back = rw c.opposite.ensures at c.in_ok-near.ensures.answer in
     ap Some c.between.ensures ∙ both_near c.args.direction (g.C.CountedLeaves.text c.args.source.now) c.args.operands.now c.requires.operands c.args.k c.in_ok-far.far c.in_ok-far.ensures.answer (Some c.in_ok-near.near) back
 
+-- its loop: one operand more
 pub chains::farthest-returns-in_err-answer-clause-answer : goal.chains::farthest-returns-in_err-answer-clause-answer
 chains::farthest-returns-in_err-answer-clause-answer g t c =
     let rest = drop c.loop-operand.operand-index c.args.operands.now in
@@ -85,6 +113,7 @@ chains::farthest-loop-operand-preserved g t c =
       cost = omega (arith, c.access.ensures.cost);
     }
 
+-- one of: one operand more
 pub chains::one_of-loop-operand-preserved : goal.chains::one_of-loop-operand-preserved
 chains::one_of-loop-operand-preserved g t c =
     let rest = drop c.loop-operand.operand-index c.args.operands.now in
@@ -103,6 +132,7 @@ pub chains::one_of-returns-clause-answer : goal.chains::one_of-returns-clause-an
 chains::one_of-returns-clause-answer g t c =
     best_all c.args.direction (g.C.CountedLeaves.text c.args.source.now) c.args.operands.now c.loop-operand.operand-index c.args.k c.loop-operand.best c.loop-operand-test.false c.loop-operand.invariant.answer
 
+-- followed by: on, and back
 pub chains::followed_by-access-requires : goal.chains::followed_by-access-requires
 chains::followed_by-access-requires g t c =
     let parts = parts_beside c.args.direction c.args.operands.now c.in_ok-nearest.nearest.now c.in_ok-nearest.after_nearest.now c.in_ok-nearest.ensures c.requires.operands.each in
@@ -187,6 +217,7 @@ chains::followed_by-returns-clause-answer g t c =
     let back = rw c.opposite-2.ensures at c.in_ok-near.ensures.answer in
     ap Some c.join.ensures ∙ seq_near c.args.direction (g.C.CountedLeaves.text c.args.source.now) c.args.operands.now c.in_ok-nearest.after_nearest.now c.in_ok-before_farthest.before_farthest.now c.in_ok-nearest.nearest.now c.in_ok-before_farthest.field-0-0.now near_is far_is c.args.k c.in_ok-found.found c.in_ok-far.far found c.in_ok-far.ensures.answer (Some c.in_ok-near.near) back
 
+-- its loop: one operand more
 pub chains::walk-access-requires : goal.chains::walk-access-requires
 chains::walk-access-requires g t c =
     let parts = parts_beside c.args.direction c.loop-operand.rest.now c.in-Some.operand.now c.in-Some.others.now c.in-Some.ensures c.loop-operand.invariant.operands in
@@ -223,6 +254,7 @@ chains::walk-loop-operand-preserved g t c =
       cost = omega (arith, c.access.ensures.cost);
     }
 
+-- a containment: in, one turn more, and out
 pub containments::containment_access-access-requires : goal.containments::containment_access-access-requires
 containments::containment_access-access-requires g t c =
     let parts = both_operands c.operands-containment.result.0 (form_of c.args.expr.now) (form_of c.operands-containment.result.1.now) (form_of c.operands-containment.result.2.now) c.operands-containment.ensures.form c.requires.well_formed in
@@ -308,26 +340,3 @@ containments::containment_access-loop-next-preserved g t c =
       counted = omega (arith, c.loop-next.invariant.counted, c.access-answer.ensures.counted, c.access-in-GoTo.ensures.counted);
       cost = goes_within c.operands-containment.result.0 (g.C.CountedLeaves.text c.args.source.now) (form_of c.args.expr.now) (form_of c.operands-containment.result.1.now) (form_of c.operands-containment.result.2.now) c.operands-containment.ensures.form (g.C.CountedLeaves.most c.args.source.now) (g.C.CountedLeaves.count c.args.counter.now) c.direction-direction.result c.loop-next.member (g.C.CountedLeaves.count c.loop-next.counter) c.loop-next.invariant.cost c.in_ok-member-in-GoTo.member (node_more_turns c.operands-containment.result.0 (g.C.CountedLeaves.text c.args.source.now) (form_of c.args.expr.now) (form_of c.operands-containment.result.1.now) (form_of c.operands-containment.result.2.now) c.operands-containment.ensures.form c.direction-direction.result (access_of c.args.wanted (concordance (g.C.CountedLeaves.text c.args.source.now) (form_of c.args.expr.now)) c.args.k) c.loop-next.member c.loop-next.invariant.reached c.question-asked.result.0 c.question-asked.result.1 c.question-asked.ensures.asks c.access-answer.result c.access-answer.ensures.answer c.in-GoTo.next c.in-GoTo.ensures c.in_ok-member-in-GoTo.member from) (g.C.CountedLeaves.count c.access-answer.new.counter) (g.C.CountedLeaves.count c.access-in-GoTo.new.counter) c.access-answer.ensures.cost c.access-in-GoTo.ensures.cost;
     }
-
-pub chains::near_access-returns-in-Both-clause-answer : goal.chains::near_access-returns-in-Both-clause-answer
-chains::near_access-returns-in-Both-clause-answer g t c =
-    by_form-near c.args.expr.now (both (operand_forms c.deref.result.now)) (form-Both c.args.expr.now c.in-Both.operands c.deref.result.now c.in-Both.is c.deref.ensures.value)
-    c.args.direction (g.C.CountedLeaves.text c.args.source.now) c.args.k c.both_of.result c.both_of.ensures.answer
-
-pub chains::near_access-returns-in-One-clause-answer : goal.chains::near_access-returns-in-One-clause-answer
-chains::near_access-returns-in-One-clause-answer g t c =
-    by_form-near c.args.expr.now (one (operand_forms c.deref-in-One.result.now)) (form-One c.args.expr.now c.in-One.operands c.deref-in-One.result.now c.in-One.is c.deref-in-One.ensures.value)
-    c.args.direction (g.C.CountedLeaves.text c.args.source.now) c.args.k c.one_of.result c.one_of.ensures.answer
-
-pub chains::near_access-returns-in-Seq-clause-answer : goal.chains::near_access-returns-in-Seq-clause-answer
-chains::near_access-returns-in-Seq-clause-answer g t c =
-    by_form-near c.args.expr.now (seq (operand_forms c.deref-in-Seq.result.now)) (form-Seq c.args.expr.now c.in-Seq.operands c.deref-in-Seq.result.now c.in-Seq.is c.deref-in-Seq.ensures.value)
-    c.args.direction (g.C.CountedLeaves.text c.args.source.now) c.args.k c.followed_by.result c.followed_by.ensures.answer
-
-pub chains::passed_member-returns-clause-within : goal.chains::passed_member-returns-clause-within
-chains::passed_member-returns-clause-within g t c =
-    near_within c.opposite.result (g.C.CountedLeaves.text c.args.source.now) (form_of c.args.expr.now) c.in_ok-outside.outside c.near_access.result c.span.ensures.sound c.near_access.ensures.answer
-
-pub access::access-returns-in-Both-clause-within : goal.access::access-returns-in-Both-clause-within
-access::access-returns-in-Both-clause-within g t c =
-    access_within c.args.access (g.C.CountedLeaves.text c.args.source.now) (form_of c.args.expr.now) c.args.k c.chain_access.result c.span-span.ensures.sound c.chain_access.ensures.answer

@@ -5,7 +5,6 @@ use Rattle.gcl_model.specs.Meaning.{concordance}
 use Rattle.gcl_model.proofs.Meanings.{concordance_rises}
 use Rattle.gcl_eval.specs.Costs.{near_cost}
 use Rattle.gcl_eval.specs.Members.{members_from}
-use Rattle.gcl_eval.proofs.CostLemmas.{within_cost}
 use Rattle.gcl_eval.proofs.Listing.{next_member, put_next, put_counted, full, none_left, one_more}
 use Rattle.gcl_eval.proofs.members.members_of.Goals as goal
 use Rattle.gcl_eval.proofs.members.members_of.Goals.{else-loop-page-test, then-loop-page-test+in_default}
