@@ -1,6 +1,5 @@
 -- The answers to commands, by their lines.
-use Rattle.std.proofs.Common.{◌≡◌, ℕ, ◌+◌, Bool, true, false, List, [], ◌∷◌, ◌++◌, map, take, length, refl, sym, ap, ◌∙◌, arith, append_assoc, Option, None, Some, nat_lt}
-use Rattle.std.specs.Prelude.{◌^◌}
+use Rattle.std.proofs.Common.{◌≡◌, ℕ, ◌+◌, Bool, true, false, List, [], ◌∷◌, ◌++◌, map, take, length, refl, sym, ap, ◌∙◌, arith, append_assoc, Option, None, Some, nat_lt, ◌-◌, ◌≤◌, ◌<◌, subst}
 use Rattle.std.specs.List.{list_any}
 use Rattle.std.proofs.lemmas.Bool.Decides.{nat_tests}
 use Rattle.std.proofs.lemmas.List.{append-nil, length-append}
@@ -10,20 +9,24 @@ use Rattle.outside.specs.Contents.{Contents, BeginsContent}
 use Rattle.gcl_model.specs.Extents.{Extent}
 use Rattle.gcl_model.specs.Forms.{Form}
 use Rattle.gcl_model.specs.Meaning.{concordance}
-use Rattle.gcl_model.specs.Collections.{File, Collection, text_of, width_of}
+use Rattle.gcl_model.specs.Limits.{address_end, most_file}
+use Rattle.gcl_model.specs.Texts.{Text}
+use Rattle.gcl_model.specs.Tokens.{tokens_of}
+use Rattle.gcl_model.specs.Collections.{File, Collection, width_of, with_file}
 use Rattle.script_lang.specs.Lines.{Line}
 use Rattle.script_lang.specs.Commands.{command_of}
-use Rattle.script_lang.specs.Answers.{interval_line, total_line, is_refusal}
+use Rattle.script_lang.specs.Answers.{file_line, interval_line, total_line, is_refusal}
 use Rattle.script_lang.specs.declared.commands.Command.{Command}
 use Rattle.script_lang.specs.declared.commands.Command.TheVariants.{Add}
-use Rattle.script_lang.specs.declared.refusals.Refusal.TheVariants.{LongLine, Query, TooLong}
+use Rattle.script_lang.specs.declared.refusals.Refusal.TheVariants.{LongLine, Query, TooLong, NoAddresses}
 use Rattle.gcl_parser.specs.declared.fault.QueryFault.{QueryFault}
 use Rattle.gcl_parser.specs.Grammar.{IsQueryWithin}
 use Rattle.gcl_parser.specs.Refusal.{refused}
-use Rattle.gcl_parser.proofs.Derives.{not_refused}
-use Rattle.gcl_parser.proofs.OneForm.{one_form}
+use Rattle.gcl_parser.specs.QueryForm.{query_form}
+use Rattle.gcl_parser.proofs.QueryForms.{query_forms_are_of_queries}
 use Rattle.script_lang.proofs.AnswerLemmas.{interval_line-plain, total_line-plain, record_line-plain}
-use Rattle.query_run.specs.Answers.{text_of_lines, refusal_lines, list_lines, record_lines, files_lines, asked_lines, query_lines, query_lines_by, reply, leaves, Says, IsReply, IsAnswer}
+use Rattle.query_run.specs.Answers.{text_of_lines, refusal_lines, unchanged, add_reply, list_lines, record_lines, files_lines, asked_lines, query_lines, lines_by, reply, answer}
+use Rattle.query_run.specs.Progress.{Says, Follows, Gives}
 use Rattle.query_run.specs.declared.queries.Asked.{Asked}
 use Rattle.query_run.specs.declared.queries.Asked.TheVariants.{All, First, Number}
 
@@ -61,80 +64,73 @@ asked_plain All list = list_plain list
 asked_plain (First most) list = list_plain (take most list)
 asked_plain Number list = rw (total_line-plain (length list)) refl
 
--- the first members, a line each, and then their number
-pub list_said : (list : List Extent) (old mid new : List ℕ) → mid ≡ old ++ text_of_lines (map interval_line list) → new ≡ mid ++ total_line (length list) ++ 10 ∷ [] → new ≡ old ++ text_of_lines (list_lines list)
-list_said list old mid new is_mid is_new = one_more (map interval_line list) (total_line (length list)) old mid new is_mid is_new
-
--- the number alone
-pub number_said : (list : List Extent) (old new : List ℕ) (count : ℕ) → count ≡ length list → new ≡ old ++ total_line count ++ 10 ∷ [] → new ≡ old ++ text_of_lines (asked_lines Number list)
-number_said list old new count is said =
-    said ∙ ap (λ n. old ++ total_line n ++ 10 ∷ []) is ∙ append_assoc old (total_line (length list)) (10 ∷ []) ∙ ap (λ text. old ++ text) (sym (append-nil (total_line (length list) ++ 10 ∷ [])))
-
--- without a fault the lines of a query are those of the one form that it stands for
-lines_of_form : (asked : Asked) (c : Collection) (query : List ℕ) (form : Form) (fault : Option QueryFault) (is : refused query ≡ fault) → fault ≡ None → IsQueryWithin query form →
-    query_lines_by asked c query fault is ≡ asked_lines asked (concordance (text_of c) form)
-lines_of_form asked c query form (Some fault) is none within = absurd cc
-lines_of_form asked c query form None is none within =
-    ap (λ f. asked_lines asked (concordance (text_of c) f)) (one_form query (not_refused query is).0 form (not_refused query is).1.is within.is)
-
-fault_lines : (asked : Asked) (c : Collection) (query : List ℕ) (wrong : QueryFault) (fault : Option QueryFault) (is : refused query ≡ fault) → fault ≡ Some wrong →
-    query_lines_by asked c query fault is ≡ refusal_lines (Query wrong)
-fault_lines asked c query wrong (Some fault) is some = let same : fault ≡ wrong = cc in ap (λ f. refusal_lines (Query f)) same
-fault_lines asked c query wrong None is some = absurd cc
-
 pub no_fault : (fault : Option QueryFault) → ((wrong : QueryFault) → fault ≡ Some wrong → ⊥) → fault ≡ None
 no_fault None none = refl
 no_fault (Some wrong) none = absurd (none wrong refl)
 
-pub query_said : (asked : Asked) (c : Collection) (query : List ℕ) (form : Form) (old new : List ℕ) → refused query ≡ None → IsQueryWithin query form →
-    new ≡ old ++ text_of_lines (asked_lines asked (concordance (text_of c) form)) → Says (query_lines asked c query) old new false
-query_said asked c query form old new none within is =
-    let lines : query_lines asked c query ≡ asked_lines asked (concordance (text_of c) form) = lines_of_form asked c query form (refused query) refl none within in
+-- the lines of a query are those of the one form that it stands for
+pub query_said : (asked : Asked) (text : Text) (query : List ℕ) (form : Form) (old new : List ℕ) → refused query ≡ None → IsQueryWithin query form →
+    new ≡ old ++ text_of_lines (asked_lines asked (concordance text form)) → Says (query_lines asked text query) old new false
+query_said asked text query form old new none within is =
+    let found : query_form query ≡ Some form = (query_forms_are_of_queries query form).1 within in
+    let lines : query_lines asked text query ≡ asked_lines asked (concordance text form) = ap (λ fault. lines_by asked text fault (query_form query)) none ∙ ap (lines_by asked text None) found in
     record {
       text = is ∙ ap (λ l. old ++ text_of_lines l) (sym lines);
-      refusal_is = sym (ap (list_any is_refusal) lines ∙ asked_plain asked (concordance (text_of c) form));
+      refusal_is = sym (ap (list_any is_refusal) lines ∙ asked_plain asked (concordance text form));
     }
 
-pub query_refused : (asked : Asked) (c : Collection) (query : List ℕ) (wrong : QueryFault) (old new : List ℕ) (refusal : Bool) → refused query ≡ Some wrong →
-    Says (refusal_lines (Query wrong)) old new refusal → Says (query_lines asked c query) old new refusal
-query_refused asked c query wrong old new refusal is said =
-    let lines : query_lines asked c query ≡ refusal_lines (Query wrong) = fault_lines asked c query wrong (refused query) refl is in
+pub query_refused : (asked : Asked) (text : Text) (query : List ℕ) (wrong : QueryFault) (old new : List ℕ) (refusal : Bool) → refused query ≡ Some wrong →
+    Says (refusal_lines (Query wrong)) old new refusal → Says (query_lines asked text query) old new refusal
+query_refused asked text query wrong old new refusal is said =
+    let lines : query_lines asked text query ≡ refusal_lines (Query wrong) = ap (λ fault. lines_by asked text fault (query_form query)) is in
     record {
       text = said.text ∙ ap (λ l. old ++ text_of_lines l) (sym lines);
       refusal_is = said.refusal_is ∙ ap (list_any is_refusal) (sym lines);
     }
 
--- a content that is begun by so many bytes is too long
-pub too_long : (contents : Contents) (c : Collection) (name text old new : List ℕ) (refusal : Bool) → length text ≡ 2 ^ 26 + 1 → BeginsContent contents name text →
-    Says (refusal_lines TooLong) old new refusal → IsReply contents c c (Add name) old new refusal
+-- a file that is begun by one byte more than it may have is refused
+pub too_long : (contents : Contents) (c : Collection) (name text old new : List ℕ) (refusal : Bool) → length text ≡ most_file + 1 → BeginsContent contents name text →
+    Says (refusal_lines TooLong) old new refusal → Gives (reply contents c (Add name)) c old new refusal
 too_long contents c name text old new refusal len begins said =
     let content : List ℕ = text ++ begins.rest in
     let size : length content ≡ length text + length begins.rest = length-append text begins.rest in
-    let over : nat_lt (2 ^ 26) (length content) ≡ true = grind (arith, nat_tests, size, len) in
+    let over : nat_lt most_file (length content) ≡ true = grind (arith, nat_tests, size, len) in
     record {
-      lines = refusal_lines TooLong;
+      reply = unchanged c (refusal_lines TooLong);
       is = rw begins.is (rw over refl);
-      after_is = rw begins.is (rw over refl);
-      says = said;
+      follows = record { after_is = refl; says = said };
     }
 
--- a long line is refusal_lines, whatever it says
-pub long_line : (contents : Contents) (c : Collection) (line : Line) (old text : List ℕ) (refusal : Bool) → line.long ≡ true → old ≡ [] → Says (refusal_lines LongLine) old text refusal → IsAnswer contents c c line text refusal
+-- a file that fits is added
+pub fits : (c : Collection) (name content : List ℕ) → length content ≤ most_file → c.next + width_of (tokens_of content) ≤ address_end →
+    add_reply c name content ≡ record { lines = file_line c.next_id c.next (c.next + width_of (tokens_of content) - 1) ∷ []; after = with_file c name (tokens_of content) }
+fits c name content short room =
+    let few : nat_lt most_file (length content) ≡ false = grind (arith, nat_tests) in
+    let enough : nat_lt address_end (c.next + width_of (tokens_of content)) ≡ false = grind (arith, nat_tests) in
+    rw (few, enough) refl
+
+-- and one for which no addresses are left is refused
+pub no_room : (c : Collection) (name content : List ℕ) → length content ≤ most_file → address_end < c.next + width_of (tokens_of content) →
+    add_reply c name content ≡ unchanged c (refusal_lines NoAddresses)
+no_room c name content short over =
+    let few : nat_lt most_file (length content) ≡ false = grind (arith, nat_tests) in
+    let much : nat_lt address_end (c.next + width_of (tokens_of content)) ≡ true = grind (arith, nat_tests) in
+    rw (few, much) refl
+
+-- a long line is refused, whatever it says
+pub long_line : (contents : Contents) (c : Collection) (line : Line) (old text : List ℕ) (refusal : Bool) → line.long ≡ true → old ≡ [] → Says (refusal_lines LongLine) old text refusal →
+    Gives (answer contents c line) c [] text refusal
 long_line contents c line old text refusal long empty said = record {
-  lines = refusal_lines LongLine;
+  reply = unchanged c (refusal_lines LongLine);
   is = rw long refl;
-  after_is = rw long refl;
-  text_is = said.text ∙ ap (λ front. front ++ text_of_lines (refusal_lines LongLine)) empty;
-  refusal_is = said.refusal_is;
+  follows = record { after_is = refl; says = subst (λ front. Says (refusal_lines LongLine) front text refusal) empty said };
 }
 
 -- any other line is answered by its command
 pub other_line : (contents : Contents) (c after : Collection) (line : Line) (command : Command) (old text : List ℕ) (refusal : Bool) → line.long ≡ false → command ≡ command_of line.bytes → old ≡ [] →
-    IsReply contents c after command old text refusal → IsAnswer contents c after line text refusal
-other_line contents c after line command old text refusal short is empty replied = record {
-  lines = replied.lines;
-  is = rw short (ap (reply contents c) (sym is) ∙ replied.is);
-  after_is = rw short (replied.after_is ∙ ap (leaves contents c) is);
-  text_is = replied.says.text ∙ ap (λ front. front ++ text_of_lines replied.lines) empty;
-  refusal_is = replied.says.refusal_is;
+    Gives (reply contents c command) after old text refusal → Gives (answer contents c line) after [] text refusal
+other_line contents c after line command old text refusal short is empty gives = record {
+  reply = gives.reply;
+  is = rw short (ap (reply contents c) (sym is) ∙ gives.is);
+  follows = subst (λ front. Follows gives.reply after front text refusal) empty gives.follows;
 }

@@ -11,52 +11,10 @@ use Rattle.std.proofs.lemmas.Grind.{flat_map-append}
 use Rattle.std.proofs.Math.Seq.{drop-cons}
 use Rattle.gcl_model.specs.Access.{find_last, later_or}
 use Rattle.gcl_model.specs.Texts.{Word, AreRisingBelow, places, next_place, previous_place}
-use Rattle.gcl_model.specs.Collections.{File, Collection, AreFilesFrom, IsToken, words_from, with_boundaries, width_of, file_start, file_end}
+use Rattle.gcl_model.specs.Collections.{File, Collection, AreFilesFrom, IsToken, words_from, with_boundaries, width_of, file_start, file_end, is_boundary}
 use Rattle.gcl_model.specs.Tokens.{tokens_of}
-use Rattle.query_run.specs.Stored.{words_of_files, is_boundary, IsCountUpto}
-
-places-append : (xs ys : List Word) (token : List ℕ) → places (xs ++ ys) token ≡ places xs token ++ places ys token
-places-append xs ys token =
-    ap (map (λ w. w.address)) (filter-append (λ w. bytes_eq w.token token) xs ys)
-    ∙ map-append (λ w. w.address) (filter (λ w. bytes_eq w.token token) xs) (filter (λ w. bytes_eq w.token token) ys)
-
--- the next place among words that are joined is that among the first of them, or among the others
-pub next-append : (xs ys : List Word) (token : List ℕ) (k : ℕ) → next_place (xs ++ ys) token k ≡ option_or (next_place xs token k) (next_place ys token k)
-next-append xs ys token k = ap (find (λ p. leb k p)) (places-append xs ys token) ∙ find-append (λ p. leb k p) (places xs token) (places ys token)
-
-later_or-none : {X : Type 0} (o : Option X) → later_or o None ≡ o
-later_or-none None = refl
-later_or-none (Some x) = refl
-
-later_or-assoc : {X : Type 0} (o p q : Option X) → later_or (later_or o p) q ≡ later_or o (later_or p q)
-later_or-assoc None p q = refl
-later_or-assoc (Some x) p q = refl
-
-find_last-append : (test : ℕ → Bool) (xs ys : List ℕ) → find_last test (xs ++ ys) ≡ later_or (find_last test ys) (find_last test xs)
-find_last-append test [] ys = sym (later_or-none (find_last test ys))
-find_last-append test (x ∷ xs) ys =
-    ap (λ o. later_or o (cond (test x) (Some x) None)) (find_last-append test xs ys) ∙ later_or-assoc (find_last test ys) (find_last test xs) (cond (test x) (Some x) None)
-
--- the previous place is that among the others, or among the first of them
-pub previous-append : (xs ys : List Word) (token : List ℕ) (k : ℕ) → previous_place (xs ++ ys) token k ≡ later_or (previous_place ys token k) (previous_place xs token k)
-previous-append xs ys token k = ap (find_last (λ p. leb p k)) (places-append xs ys token) ∙ find_last-append (λ p. leb p k) (places xs token) (places ys token)
-
--- words before k have no next place, and words behind it no previous one
-none_next : (next low : ℕ) (words : List Word) (token : List ℕ) (k : ℕ) → AreRisingBelow next low words → next ≤ k → next_place words token k ≡ None
-none_next next low [] token k r le = refl
-none_next next low (w ∷ ws) token k r le =
-    let under : w.address < next = r.1 in
-    let rest : next_place ws token k ≡ None = none_next next (w.address + 1) ws token k r.2 le in
-    let before : leb k w.address ≡ false = lt-leb k w.address (omega arith) in
-    elim (cases_Bool (bytes_eq w.token token)) [ inl t ↦ rw (t, before) rest | inr f ↦ rw f rest ]
-
-none_previous : (next low : ℕ) (words : List Word) (token : List ℕ) (k : ℕ) → AreRisingBelow next low words → k < low → previous_place words token k ≡ None
-none_previous next low [] token k r lt = refl
-none_previous next low (w ∷ ws) token k r lt =
-    let from : low ≤ w.address = r.0 in
-    let rest : previous_place ws token k ≡ None = none_previous next (w.address + 1) ws token k r.2 (omega arith) in
-    let behind : leb w.address k ≡ false = lt-leb w.address k (omega arith) in
-    elim (cases_Bool (bytes_eq w.token token)) [ inl t ↦ rw (t, rest, behind) refl | inr f ↦ rw f rest ]
+use Rattle.gcl_model.proofs.WordLists.{places-append, next_place-append, previous_place-append, none_next, none_previous}
+use Rattle.query_run.specs.Stored.{words_of_files, IsCountUpto}
 
 -- tokens at consecutive addresses rise
 tokens_rise : (next p : ℕ) (tokens : List (List ℕ)) → p + length tokens ≤ next → AreRisingBelow next p (words_from p tokens)
@@ -79,7 +37,7 @@ next_from (file ∷ files) token k n is =
           let ended : file.base + width_of file.tokens ≤ k = leb-true (file.base + width_of file.tokens) k t in
           let none = none_next (file.base + width_of file.tokens) file.base (words_from file.base (with_boundaries file.tokens)) token k (file_rises file.base file.tokens) ended in
           ap (λ i. next_place (words_of_files (drop i (file ∷ files))) token k) one ∙ next_from files token k m refl
-          ∙ sym (next-append (words_from file.base (with_boundaries file.tokens)) (words_of_files files) token k ∙ ap (λ o. option_or o (next_place (words_of_files files) token k)) none)
+          ∙ sym (next_place-append (words_from file.base (with_boundaries file.tokens)) (words_of_files files) token k ∙ ap (λ o. option_or o (next_place (words_of_files files) token k)) none)
       | inr f ↦ let none : n ≡ 0 = rw f at is in ap (λ i. next_place (words_of_files (drop i (file ∷ files))) token k) none
     ]
 
@@ -87,7 +45,7 @@ next_from (file ∷ files) token k n is =
 joined : (file : File) (files : List File) (token : List ℕ) (k : ℕ) → k < file.base → previous_place (words_of_files files) token k ≡ None → previous_place (words_of_files (file ∷ files)) token k ≡ None
 joined file files token k lt rest =
     let words = words_from file.base (with_boundaries file.tokens) in
-    previous-append words (words_of_files files) token k ∙ ap (λ o. later_or o (previous_place words token k)) rest
+    previous_place-append words (words_of_files files) token k ∙ ap (λ o. later_or o (previous_place words token k)) rest
     ∙ none_previous (file.base + width_of file.tokens) file.base words token k (file_rises file.base file.tokens) lt
 
 -- files from an address on have no word before it
@@ -109,8 +67,8 @@ previous_upto c at id (file ∷ files) token k n all is =
           let passed : n ≡ 1 + m = rw t at is in
           let one : n ≡ suc m = omega arith in
           let rest = previous_upto c (file.base + width_of file.tokens) (file.id + 1) files token k m all.5 refl in
-          ap (λ i. previous_place (words_of_files (take i (file ∷ files))) token k) one ∙ previous-append words (words_of_files (take m files)) token k
-          ∙ ap (λ o. later_or o (previous_place words token k)) rest ∙ sym (previous-append words (words_of_files files) token k)
+          ap (λ i. previous_place (words_of_files (take i (file ∷ files))) token k) one ∙ previous_place-append words (words_of_files (take m files)) token k
+          ∙ ap (λ o. later_or o (previous_place words token k)) rest ∙ sym (previous_place-append words (words_of_files files) token k)
       | inr f ↦
           let none : n ≡ 0 = rw f at is in
           let behind : k < file.base = leb-false file.base k f in
@@ -132,7 +90,7 @@ pub next_file : (files : List File) (i : ℕ) (file : File) (token : List ℕ) (
     next_place (words_of_files (drop i files)) token k ≡ option_or o (next_place (words_of_files (drop (i + 1) files)) token k)
 next_file files i file token k o lt is found =
     ap (λ ws. next_place ws token k) (words_of_files-drop files i file lt is)
-    ∙ next-append (words_from file.base (with_boundaries file.tokens)) (words_of_files (drop (i + 1) files)) token k
+    ∙ next_place-append (words_from file.base (with_boundaries file.tokens)) (words_of_files (drop (i + 1) files)) token k
     ∙ ap (λ p. option_or p (next_place (words_of_files (drop (i + 1) files)) token k)) (sym found)
 
 words_of_files-append : (files others : List File) → words_of_files (files ++ others) ≡ words_of_files files ++ words_of_files others
@@ -146,7 +104,7 @@ last_file files before file token k o is found =
     let words = words_from file.base (with_boundaries file.tokens) in
     ap (λ fs. previous_place (words_of_files fs) token k) is
     ∙ ap (λ ws. previous_place ws token k) (words_of_files-append before (file ∷ []) ∙ ap (λ ws. words_of_files before ++ ws) (append-nil words))
-    ∙ previous-append (words_of_files before) words token k
+    ∙ previous_place-append (words_of_files before) words token k
     ∙ ap (λ p. later_or p (previous_place (words_of_files before) token k)) (sym found)
 
 words_from-append : (p : ℕ) (xs ys : List (List ℕ)) → words_from p (xs ++ ys) ≡ words_from p xs ++ words_from (p + length xs) ys
@@ -179,8 +137,8 @@ module _ (file : File) (base last : ℕ) (tokens : List (List ℕ)) (token : Lis
   next_of_file start inside end is_start is_inside is_end =
       let ends : end ≡ next_place back token k = is_end ∙ ap (λ p. next_place (words_from p (file_end ∷ [])) token k) at in
       sym (ap (λ ws. next_place ws token k) parts
-      ∙ next-append front (middle ++ back) token k
-      ∙ ap (λ o. option_or (next_place front token k) o) (next-append middle back token k)
+      ∙ next_place-append front (middle ++ back) token k
+      ∙ ap (λ o. option_or (next_place front token k) o) (next_place-append middle back token k)
       ∙ ap (λ o. option_or o (option_or (next_place middle token k) (next_place back token k))) (sym is_start)
       ∙ ap (λ o. option_or start (option_or o (next_place back token k))) (sym is_inside)
       ∙ ap (λ o. option_or start (option_or inside o)) (sym ends))
@@ -191,8 +149,8 @@ module _ (file : File) (base last : ℕ) (tokens : List (List ℕ)) (token : Lis
   last_of_file end inside start is_end is_inside is_start =
       let ends : end ≡ previous_place back token k = is_end ∙ ap (λ p. previous_place (words_from p (file_end ∷ [])) token k) at in
       sym (ap (λ ws. previous_place ws token k) parts
-      ∙ previous-append front (middle ++ back) token k
-      ∙ ap (λ o. later_or o (previous_place front token k)) (previous-append middle back token k)
+      ∙ previous_place-append front (middle ++ back) token k
+      ∙ ap (λ o. later_or o (previous_place front token k)) (previous_place-append middle back token k)
       ∙ ap (λ o. later_or (later_or o (previous_place middle token k)) (previous_place front token k)) (sym ends)
       ∙ ap (λ o. later_or (later_or end o) (previous_place front token k)) (sym is_inside)
       ∙ ap (λ o. later_or (later_or end inside) o) (sym is_start))
@@ -227,7 +185,7 @@ next_skips base (t ∷ tokens) token k (suc i) le =
     let same : base + suc i ≡ base + 1 + i = omega arith in
     let before : AreRisingBelow (base + 1) base (words_from base (t ∷ [])) = tokens_rise (base + 1) base (t ∷ []) (omega arith) in
     ap (λ p. next_place (words_from p (drop i tokens)) token k) same ∙ next_skips (base + 1) tokens token k i (omega arith)
-    ∙ sym (next-append (words_from base (t ∷ [])) (words_from (base + 1) tokens) token k
+    ∙ sym (next_place-append (words_from base (t ∷ [])) (words_from (base + 1) tokens) token k
     ∙ ap (λ o. option_or o (next_place (words_from (base + 1) tokens) token k)) (none_next (base + 1) base (words_from base (t ∷ [])) token k before (omega arith)))
 
 -- a look-up from k on begins at k, or at the first of the tokens
@@ -267,7 +225,7 @@ last_starts base tokens token k n upto =
     let none : previous_place (words_from (base + n) back) token k ≡ None = behind upto.all in
     sym (ap (λ ts. previous_place (words_from base ts) token k) whole
     ∙ ap (λ ws. previous_place ws token k) (words_from-append base front back ∙ ap (λ m. words_from base front ++ words_from (base + m) back) len)
-    ∙ previous-append (words_from base front) (words_from (base + n) back) token k
+    ∙ previous_place-append (words_from base front) (words_from (base + n) back) token k
     ∙ ap (λ o. later_or o (previous_place (words_from base front) token k)) none)
   where
     behind : n ≡ length tokens ⊎ k + 1 ≤ base + n → previous_place (words_from (base + n) (drop n tokens)) token k ≡ None
@@ -287,7 +245,7 @@ pub last_here : (base i : ℕ) (tokens : List (List ℕ)) (held token : List ℕ
 last_here base i tokens held token k lt is le same =
     let here : previous_place (words_from (base + i) (held ∷ [])) token k ≡ Some (base + i) = rw (same, le-leb (base + i) k le) refl in
     ap (λ ws. previous_place ws token k) (last_split base i tokens held lt is)
-    ∙ previous-append (words_from base (take i tokens)) (words_from (base + i) (held ∷ [])) token k
+    ∙ previous_place-append (words_from base (take i tokens)) (words_from (base + i) (held ∷ [])) token k
     ∙ ap (λ o. later_or o (previous_place (words_from base (take i tokens)) token k)) here
 
 pub last_earlier : (base i : ℕ) (tokens : List (List ℕ)) (held token : List ℕ) (k : ℕ) → i < length tokens → held ≡ get_or tokens i held → bytes_eq held token ≡ false →
@@ -295,5 +253,5 @@ pub last_earlier : (base i : ℕ) (tokens : List (List ℕ)) (held token : List 
 last_earlier base i tokens held token k lt is other =
     let here : previous_place (words_from (base + i) (held ∷ [])) token k ≡ None = rw other refl in
     ap (λ ws. previous_place ws token k) (last_split base i tokens held lt is)
-    ∙ previous-append (words_from base (take i tokens)) (words_from (base + i) (held ∷ [])) token k
+    ∙ previous_place-append (words_from base (take i tokens)) (words_from (base + i) (held ∷ [])) token k
     ∙ ap (λ o. later_or o (previous_place (words_from base (take i tokens)) token k)) here

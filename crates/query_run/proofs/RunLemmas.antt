@@ -1,5 +1,5 @@
 -- How far a run has come in its script.
-use Rattle.std.proofs.Common.{◌≡◌, ℕ, Bool, false, List, [], ◌∷◌, ◌++◌, drop, refl, sym, ap, ◌∙◌, append_assoc, Option, Some, None, unwrap_or, IfSome, IsSomeAnd, subst, length, ◌+◌, ◌≤◌, ◌<◌, arith}
+use Rattle.std.proofs.Common.{◌≡◌, ℕ, Bool, false, List, [], ◌∷◌, ◌++◌, drop, refl, sym, ap, ◌∙◌, append_assoc, Option, Some, None, IfSome, IsSomeAnd, subst, length, ◌+◌, ◌≤◌, ◌<◌, arith}
 use Rattle.std.specs.Prelude.{◌||◌}
 use Rattle.std.specs.List.{list_any}
 use Rattle.std.specs.Io.KnownBytes.{Appends}
@@ -7,56 +7,58 @@ use Rattle.std.proofs.lemmas.List.Folds.{list_any-append}
 use Rattle.std.proofs.lemmas.Grind.{flat_map-append}
 use Rattle.std.proofs.lemmas.List.{append-nil, length-append}
 use Rattle.outside.specs.Contents.{Contents}
+use Rattle.gcl_model.specs.Limits.{most_line}
 use Rattle.gcl_model.specs.Collections.{Collection, empty_from}
 use Rattle.script_lang.specs.Lines.{Line, lines}
 use Rattle.script_lang.specs.Answers.{is_refusal}
-use Rattle.query_run.specs.Answers.{line_most, text_of_lines, answer, next, joined, answers, AllAnswered, output, answer_text}
-use Rattle.query_run.specs.Runs.{WhereTold, HandsOverMore, GetsPart, IsStep, HasAnswered}
+use Rattle.query_run.specs.Answers.{Reply, text_of_lines, answer, with_later, answers, AllAnswered, output}
+use Rattle.query_run.specs.Progress.{HasWritten, lines_of, answer_text}
+use Rattle.query_run.specs.Runs.{WhereTold, HandsOverMore, GetsPart, HasAnswered}
 use Rattle.query_run.proofs.Writing.{Appends-trans, Appends-none}
 
--- From a place on, in a state, with the lines of the answers so far.
+-- from a place on, in a collection, with the lines of the answers so far
 pub record HasCome (first : ℕ) (contents : Contents) (script : List ℕ) (old now : Option (List ℕ)) (at : ℕ) (c : Collection) (refusal : Bool) : Type 0 where
   pub done : List (List ℕ)
-  pub rest : answers contents (empty_from first) (lines line_most script) ≡ done ++ answers contents c (lines line_most (drop at script))
+  pub rest : answers contents (empty_from first) (lines most_line script) ≡ done ++ answers contents c (lines most_line (drop at script))
   pub written : Appends old now (text_of_lines done)
   pub refusal_is : refusal ≡ list_any is_refusal done
-  pub all : AllAnswered contents c (lines line_most (drop at script)) → AllAnswered contents (empty_from first) (lines line_most script)
+  pub all : AllAnswered contents c (lines most_line (drop at script)) → AllAnswered contents (empty_from first) (lines most_line script)
 
 pub begins : (first : ℕ) (contents : Contents) (script : List ℕ) (old : Option (List ℕ)) → HasCome first contents script old old 0 (empty_from first) false
 begins first contents script old = record { done = []; rest = refl; written = Appends-none old; refusal_is = refl; all = λ a. a }
 
 -- a line further
 pub goes_on : (first : ℕ) (contents : Contents) (script : List ℕ) (old mid now : Option (List ℕ)) (at after : ℕ) (c c' : Collection) (line : Line) (refusal now_refusal : Bool) →
-    HasCome first contents script old mid at c refusal → lines line_most (drop at script) ≡ line ∷ lines line_most (drop after script) →
-    IsStep contents c c' line now_refusal mid now → HasCome first contents script old now after c' (refusal || now_refusal)
+    HasCome first contents script old mid at c refusal → lines most_line (drop at script) ≡ line ∷ lines most_line (drop after script) →
+    HasWritten contents c c' line now_refusal mid now → HasCome first contents script old now after c' (refusal || now_refusal)
 goes_on first contents script old mid now at after c c' line refusal now_refusal come cut step = record {
-  done = come.done ++ step.lines;
-  rest = come.rest ∙ rw (cut, step.is, step.after_is) (sym (append_assoc come.done step.lines _));
+  done = come.done ++ step.reply.lines;
+  rest = come.rest ∙ rw (cut, step.is, step.after_is) (sym (append_assoc come.done step.reply.lines _));
   written = rw flat_map-append (Appends-trans old mid now _ _ come.written step.written);
   refusal_is = rw (come.refusal_is, step.refusal_is, list_any-append) refl;
-  all = λ more. come.all (rw (cut, step.is) (refl, rw step.after_is at more));
+  all = λ more. come.all (rw (cut, step.is) (rw step.after_is at more));
 }
 
--- what stands behind the answer to a line
-abbrev later_text : Option (List (List ℕ)) → List (List ℕ) → List ℕ
+-- what follows the reply to a line
+abbrev later_text : Option Reply → (Collection → List (List ℕ)) → List ℕ
 later_text None later = []
-later_text (Some lines) later = text_of_lines later
+later_text (Some reply) later = text_of_lines (later reply.after)
 
-text_joined : (o : Option (List (List ℕ))) (later : List (List ℕ)) → text_of_lines (joined o later) ≡ text_of_lines (unwrap_or o []) ++ later_text o later
-text_joined None later = refl
-text_joined (Some lines) later = flat_map-append _ lines later
+text_with_later : (o : Option Reply) (later : Collection → List (List ℕ)) → text_of_lines (with_later o later) ≡ text_of_lines (lines_of o) ++ later_text o later
+text_with_later None later = refl
+text_with_later (Some reply) later = flat_map-append _ reply.lines (later reply.after)
 
 -- the text so far, and a part of the answer to the next line
 pub part_of : (first : ℕ) (contents : Contents) (script : List ℕ) (old mid now : Option (List ℕ)) (at after : ℕ) (c : Collection) (line : Line) (refusal : Bool) →
-    HasCome first contents script old mid at c refusal → lines line_most (drop at script) ≡ line ∷ lines line_most (drop after script) →
+    HasCome first contents script old mid at c refusal → lines most_line (drop at script) ≡ line ∷ lines most_line (drop after script) →
     GetsPart mid now (answer_text contents c line) → GetsPart old now (output first contents script)
 part_of first contents script old mid now at after c line refusal come cut part =
-    let later : List (List ℕ) = answers contents (next contents c line) (lines line_most (drop after script)) in
-    let o : Option (List (List ℕ)) = answer contents c line in
-    let whole : answers contents (empty_from first) (lines line_most script) ≡ come.done ++ joined o later = come.rest ∙ rw cut refl in
-    let behind : text_of_lines (joined o later) ≡ (part.part ++ part.rest) ++ later_text o later = text_joined o later ∙ ap (λ text. text ++ later_text o later) part.whole in
+    let later : Collection → List (List ℕ) = λ d. answers contents d (lines most_line (drop after script)) in
+    let o : Option Reply = answer contents c line in
+    let whole : answers contents (empty_from first) (lines most_line script) ≡ come.done ++ with_later o later = come.rest ∙ rw cut refl in
+    let text : text_of_lines (with_later o later) ≡ (part.part ++ part.rest) ++ later_text o later = text_with_later o later ∙ ap (λ front. front ++ later_text o later) part.whole in
     let split : output first contents script ≡ text_of_lines come.done ++ ((part.part ++ part.rest) ++ later_text o later) =
-    ap text_of_lines whole ∙ flat_map-append _ come.done (joined o later) ∙ ap (λ text. text_of_lines come.done ++ text) behind in
+    ap text_of_lines whole ∙ flat_map-append _ come.done (with_later o later) ∙ ap (λ rest. text_of_lines come.done ++ rest) text in
     record {
       part = text_of_lines come.done ++ part.part;
       rest = part.rest ++ later_text o later;
@@ -68,7 +70,7 @@ part_of first contents script old mid now at after c line refusal come cut part 
 pub ends : (first : ℕ) (contents : Contents) (script : List ℕ) (old now : Option (List ℕ)) (at : ℕ) (c : Collection) (refusal : Bool) →
     HasCome first contents script old now at c refusal → drop at script ≡ [] → HasAnswered first contents script refusal old now
 ends first contents script old now at c refusal come end =
-    let whole : answers contents (empty_from first) (lines line_most script) ≡ come.done = come.rest ∙ rw end (append-nil come.done) in
+    let whole : answers contents (empty_from first) (lines most_line script) ≡ come.done = come.rest ∙ rw end (append-nil come.done) in
     record {
       all = come.all (rw end tt);
       written = rw whole come.written;
@@ -102,5 +104,5 @@ not_more most None new few more = few
 not_more most (Some script) None few more = more.from
 not_more most (Some script) (Some left) few more =
     let len : length script ≡ length more.taken + length left = ap length more.from ∙ length-append more.taken left in
-    let over : most < length more.taken = more.more in
+    let over : length more.taken ≡ most + 1 = more.more in
     omega arith

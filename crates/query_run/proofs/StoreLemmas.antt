@@ -1,13 +1,15 @@
 -- What is kept of a collection stays so.
-use Rattle.std.proofs.Common.{◌≡◌, ℕ, ◌+◌, ◌-◌, ◌≤◌, ◌<◌, Bool, true, false, not, List, [], ◌∷◌, ◌++◌, length, drop, get_or, filter, refl, ap, ◌∙◌, arith, suc, zero, inl, inr}
-use Rattle.std.specs.Prelude.{◌==◌, ◌^◌}
-use Rattle.std.specs.List.{list_any, prefix_len}
-use Rattle.std.specs.List.Sorted.{IsPartitionPoint, IsNonDecreasingBy}
+use Rattle.std.proofs.Common.{◌≡◌, ℕ, ◌+◌, ◌-◌, ◌≤◌, ◌<◌, Bool, true, false, not, List, [], ◌∷◌, ◌++◌, length, drop, get_or, filter, find, Option, Some, refl, ap, ◌∙◌, arith, suc, zero, inl, inr}
+use Rattle.std.specs.Prelude.{◌==◌}
+use Rattle.std.specs.List.{list_any}
+use Rattle.std.specs.List.Sorted.{IsNonDecreasingBy}
 use Rattle.std.proofs.lemmas.Bool.{cases_Bool}
 use Rattle.std.proofs.lemmas.List.{length-append, length-drop}
+use Rattle.gcl_model.specs.Limits.{address_end}
 use Rattle.gcl_model.specs.Names.{is_name}
 use Rattle.gcl_model.specs.Tokens.{tokens_of}
 use Rattle.gcl_model.specs.Collections.{File, Collection, AreFilesFrom, width_of, with_file, without_file, has_file}
+use Rattle.gcl_model.proofs.Lists.{length-filter_found}
 use Rattle.word_tokens.specs.Lexemes.{part_of}
 use Rattle.word_tokens.proofs.PartLemmas.{part_of_fits, tokens_of-part}
 use Rattle.word_tokens.proofs.TokenLemmas.{tokens_are_tokens}
@@ -33,7 +35,7 @@ few_tokens_to (suc n) (b ∷ bytes) le =
 pub few_tokens : (text : List ℕ) → length (tokens_of text) ≤ length text
 few_tokens text = few_tokens_to (length text) text (omega arith)
 
-pub added : (c : Collection) (name content : List ℕ) → IsStored c → is_name name ≡ true → c.next + width_of (tokens_of content) ≤ 2 ^ 48 → IsStored (with_file c name (tokens_of content))
+pub added : (c : Collection) (name content : List ℕ) → IsStored c → is_name name ≡ true → c.next + width_of (tokens_of content) ≤ address_end → IsStored (with_file c name (tokens_of content))
 added c name content stored named fits =
     let gone = stored.deleted in
     let room = stored.room in
@@ -44,20 +46,20 @@ added c name content stored named fits =
       room = omega arith;
     }
 
-at_most : (id : ℕ) (files : List File) → length (filter (λ file. not (file.id == id)) files) ≤ length files
-at_most id [] = omega arith
-at_most id (file ∷ files) =
-    let rest = at_most id files in
-    elim (cases_Bool (file.id == id)) [ inl b ↦ rw b (omega (arith, rest)) | inr b ↦ rw b (omega (arith, rest)) ]
+-- where some member passes a test, one is found
+found : (test : File → Bool) (files : List File) → list_any test files ≡ true → (file : File) × (find test files ≡ Some file)
+found test [] has = absurd cc
+found test (file ∷ files) has =
+    elim (cases_Bool (test file)) [
+      | inl b ↦ rw b (file, refl)
+      | inr b ↦ rw b (found test files (rw b at has))
+    ]
 
 -- taking out a file leaves fewer
 fewer : (id : ℕ) (files : List File) → list_any (λ file. file.id == id) files ≡ true → length (filter (λ file. not (file.id == id)) files) + 1 ≤ length files
-fewer id [] has = absurd cc
-fewer id (file ∷ files) has =
-    elim (cases_Bool (file.id == id)) [
-      | inl b ↦ let le = at_most id files in rw b (omega (arith, le))
-      | inr b ↦ let rest = fewer id files (rw b at has) in rw b (omega (arith, rest))
-    ]
+fewer id files has =
+    let one = found (λ file. file.id == id) files has in
+    length-filter_found (λ file. file.id == id) one.0 files one.1
 
 pub deleted : (c : Collection) (id : ℕ) → IsStored c → has_file c id ≡ true → IsStored (without_file c id)
 deleted c id stored has =
@@ -71,23 +73,14 @@ deleted c id stored has =
 
 -- the same, field by field
 pub added_by_fields : (first next next_id dels : ℕ) (files : List File) (name content : List ℕ) (base next' : ℕ) (name' : List ℕ) (tokens : List (List ℕ)) (files' : List File) →
-    IsStored (record { first = first; next = next; next_id = next_id; dels = dels; files = files }) → is_name name ≡ true → next' ≤ 2 ^ 48 →
+    IsStored (record { first = first; next = next; next_id = next_id; dels = dels; files = files }) → is_name name ≡ true → next' ≤ address_end →
     base ≡ next → next' ≡ next + width_of (tokens_of content) → name' ≡ name → tokens ≡ tokens_of content →
     files' ≡ files ++ record { id = next_id; name = name'; base = base; tokens = tokens } ∷ [] →
     IsStored (record { first = first; next = next'; next_id = next_id + 1; dels = dels; files = files' })
 added_by_fields first next next_id dels files name content base next' name' tokens files' stored named fits is_base is_next same_name is_tokens is_files =
     let before : Collection = record { first = first; next = next; next_id = next_id; dels = dels; files = files } in
-    let room : next + width_of (tokens_of content) ≤ 2 ^ 48 = omega (arith, is_next, fits) in
+    let room : next + width_of (tokens_of content) ≤ address_end = omega (arith, is_next, fits) in
     rw (is_files, is_next, is_base, same_name, is_tokens) (added before name content stored named room)
-
--- a partition point is the length of the front
-pub prefix_len_at_point : (p : File → Bool) (files : List File) (n : ℕ) → n ≤ length files → IsPartitionPoint (λ file. p file ≡ true) (λ file. p file ≡ false) files n → n ≡ prefix_len p files
-prefix_len_at_point p [] n le point = omega arith
-prefix_len_at_point p (file ∷ files) zero le point = let fails : p file ≡ false = point.1 0 file (omega arith) (omega arith) in rw fails refl
-prefix_len_at_point p (file ∷ files) (suc n) le point =
-    let passes : p file ≡ true = point.0 0 file (omega arith) (omega arith) in
-    let rest : n ≡ prefix_len p files = prefix_len_at_point p files n (omega arith) (λ k d ge lt. point.0 (suc k) d (omega arith) (omega arith), λ k d ge lt. point.1 (suc k) d (omega arith) (omega arith)) in
-    rw passes (omega arith)
 
 -- files begin and end in order
 stands_from : (c : Collection) (at id : ℕ) (files : List File) → AreFilesFrom c at id files → (j : ℕ) (d : File) → j < length files → at ≤ (get_or files j d).base

@@ -1,9 +1,12 @@
--- The answer to a line, in the state that the lines before it leave.
-use Rattle.std.specs.Prelude.{◌≡◌, ℕ, ◌+◌, ◌-◌, ◌^◌, Bool, nat_lt, List, [], ◌∷◌, ◌++◌, length, map, take, flat_map, unwrap_or, Option, None, Some, IsSome, refl, ⊤, if◌then◌else◌}
+-- The answer to each line, and the output of a script.
+use Rattle.std.specs.Prelude.{ℕ, ◌+◌, ◌-◌, Bool, nat_lt, List, [], ◌∷◌, ◌++◌, length, map, take, flat_map, Option, None, Some, IsSomeAnd, ⊤, if◌then◌else◌}
 use Rattle.std.specs.Option.{option_map}
 use Rattle.std.specs.List.{list_any}
 use Rattle.outside.specs.Contents.{Contents}
+use Rattle.gcl_model.specs.Limits.{address_end, most_line, most_file}
+use Rattle.gcl_model.specs.Texts.{Text}
 use Rattle.gcl_model.specs.Extents.{Extent}
+use Rattle.gcl_model.specs.Forms.{Form}
 use Rattle.gcl_model.specs.Meaning.{concordance}
 use Rattle.gcl_model.specs.Tokens.{tokens_of}
 use Rattle.gcl_model.specs.Collections.{File, Collection, width_of, text_of, has_file, empty_from, with_file, without_file}
@@ -17,41 +20,36 @@ use Rattle.script_lang.specs.declared.refusals.Refusal.{Refusal}
 use Rattle.script_lang.specs.declared.refusals.Refusal.TheVariants.{Command as NoCommand, LongLine, Query, NoFile, TooLong, NoAddresses}
 use Rattle.gcl_parser.specs.declared.fault.QueryFault.{QueryFault}
 use Rattle.gcl_parser.specs.Refusal.{refused}
-use Rattle.query_run.specs.Queries.{expression_of}
+use Rattle.gcl_parser.specs.QueryForm.{query_form}
 use Rattle.query_run.specs.declared.queries.Asked.{Asked}
 use Rattle.query_run.specs.declared.queries.Asked.TheVariants.{All, First, Number}
 
--- a longer line is no command
-abbrev pub line_most : ℕ
-line_most = 65536
-
--- a longer file is not added
-abbrev pub file_most : ℕ
-file_most = 2 ^ 26
+-- the lines of an answer, and the collection that it leaves
+pub record Reply : Type 0 where
+  pub lines : List (List ℕ)
+  pub after : Collection
 
 -- lines written out, each with its newline
 abbrev pub text_of_lines : List (List ℕ) → List ℕ
 text_of_lines = flat_map (λ line. line ++ 10 ∷ [])
 
+-- the one line of a refusal
 abbrev pub refusal_lines : Refusal → List (List ℕ)
 refusal_lines refusal = refusal_line refusal ∷ []
 
--- what adding a file with this content answers, and what it leaves
-abbrev pub add_lines : Collection → List ℕ → List (List ℕ)
-add_lines c content = if nat_lt file_most (length content) then refusal_lines TooLong
-    else (if nat_lt (2 ^ 48) (c.next + width_of (tokens_of content)) then refusal_lines NoAddresses
-    else file_line c.next_id c.next (c.next + width_of (tokens_of content) - 1) ∷ [])
+-- an answer of these lines, which changes nothing
+abbrev pub unchanged : Collection → List (List ℕ) → Reply
+unchanged c lines = record { lines = lines; after = c }
 
-abbrev pub after_add : Collection → List ℕ → List ℕ → Collection
-after_add c name content = if nat_lt file_most (length content) then c
-    else (if nat_lt (2 ^ 48) (c.next + width_of (tokens_of content)) then c
-    else with_file c name (tokens_of content))
+-- the reply to adding a file with this content: it is refused where it is too long, or where its last address would not be below the end
+abbrev pub add_reply : Collection → List ℕ → List ℕ → Reply
+add_reply c name content = if nat_lt most_file (length content) then unchanged c (refusal_lines TooLong)
+    else (if nat_lt address_end (c.next + width_of (tokens_of content)) then unchanged c (refusal_lines NoAddresses)
+    else record { lines = file_line c.next_id c.next (c.next + width_of (tokens_of content) - 1) ∷ []; after = with_file c name (tokens_of content) })
 
-abbrev pub del_lines : Collection → ℕ → List (List ℕ)
-del_lines c id = if has_file c id then gone_line id ∷ [] else refusal_lines (NoFile id)
-
-abbrev pub after_del : Collection → ℕ → Collection
-after_del c id = if has_file c id then without_file c id else c
+-- the reply to deleting the file with this id: it is refused where no surviving file has the id
+abbrev pub del_reply : Collection → ℕ → Reply
+del_reply c id = if has_file c id then record { lines = gone_line id ∷ []; after = without_file c id } else unchanged c (refusal_lines (NoFile id))
 
 -- a line for each interval, and then their number
 abbrev pub list_lines : List Extent → List (List ℕ)
@@ -63,17 +61,21 @@ asked_lines All list = list_lines list
 asked_lines (First most) list = list_lines (take most list)
 asked_lines Number list = total_line (length list) ∷ []
 
--- the first fault of the query, or what is asked of the concordance list of its expression
-abbrev pub query_lines_by : Asked → Collection → (query : List ℕ) → (fault : Option QueryFault) → refused query ≡ fault → List (List ℕ)
-query_lines_by asked c query (Some fault) is = refusal_lines (Query fault)
-query_lines_by asked c query None is = asked_lines asked (concordance (text_of c) (expression_of query is))
+-- the first fault of a query, or what is asked of the concordance list of its form
+abbrev pub lines_by : Asked → Text → Option QueryFault → Option Form → List (List ℕ)
+lines_by asked text (Some fault) form = refusal_lines (Query fault)
+lines_by asked text None (Some form) = asked_lines asked (concordance text form)
+lines_by asked text None None = []
 
-abbrev pub query_lines : Asked → Collection → List ℕ → List (List ℕ)
-query_lines asked c query = query_lines_by asked c query (refused query) refl
+-- the lines that answer a query over a text: over "to be" those of `count "to"` are `= 1`; a text that is not refused has a form
+abbrev pub query_lines : Asked → Text → List ℕ → List (List ℕ)
+query_lines asked text query = lines_by asked text (refused query) (query_form query)
 
+-- what a list of files shows of a file
 abbrev pub entry_of : File → FileEntry
 entry_of file = record { id = file.id; base = file.base; len = width_of file.tokens; name = file.name }
 
+-- a line for each of some files
 abbrev pub record_lines : List File → List (List ℕ)
 record_lines files = map (λ file. record_line (entry_of file)) files
 
@@ -81,76 +83,44 @@ record_lines files = map (λ file. record_line (entry_of file)) files
 abbrev pub files_lines : Collection → List (List ℕ)
 files_lines c = record_lines c.files ++ total_line (length c.files) ∷ []
 
--- the lines of the answer to a command, None where it loads a name that isn't held
-abbrev pub reply : Contents → Collection → Command → Option (List (List ℕ))
-reply contents c Blank = Some []
-reply contents c (Add name) = option_map (add_lines c) (contents name)
-reply contents c (Del id) = Some (del_lines c id)
-reply contents c (Find query) = Some (query_lines All c query)
-reply contents c (Count query) = Some (query_lines Number c query)
-reply contents c (Top n query) = Some (query_lines (First n) c query)
-reply contents c Files = Some (files_lines c)
-reply contents c Merge = Some (refusal_lines NoCommand)
-reply contents c Shards = Some (refusal_lines NoCommand)
-reply contents c (Save name) = Some (refusal_lines NoCommand)
-reply contents c (Load name) = Some (refusal_lines NoCommand)
-reply contents c Wrong = Some (refusal_lines NoCommand)
+-- the reply to a command, None where it loads a name that isn't held
+abbrev pub reply : Contents → Collection → Command → Option Reply
+reply contents c Blank = Some (unchanged c [])
+reply contents c (Add name) = option_map (add_reply c name) (contents name)
+reply contents c (Del id) = Some (del_reply c id)
+reply contents c (Find query) = Some (unchanged c (query_lines All (text_of c) query))
+reply contents c (Count query) = Some (unchanged c (query_lines Number (text_of c) query))
+reply contents c (Top n query) = Some (unchanged c (query_lines (First n) (text_of c) query))
+reply contents c Files = Some (unchanged c (files_lines c))
+reply contents c Merge = Some (unchanged c (refusal_lines NoCommand))
+reply contents c Shards = Some (unchanged c (refusal_lines NoCommand))
+reply contents c (Save name) = Some (unchanged c (refusal_lines NoCommand))
+reply contents c (Load name) = Some (unchanged c (refusal_lines NoCommand))
+reply contents c Wrong = Some (unchanged c (refusal_lines NoCommand))
 
--- the collection after a command
-abbrev pub leaves : Contents → Collection → Command → Collection
-leaves contents c (Add name) = unwrap_or (option_map (after_add c name) (contents name)) c
-leaves contents c (Del id) = after_del c id
-leaves contents c _ = c
+-- the reply to a line: that to its command, or a refusal where it is long
+abbrev pub answer : Contents → Collection → Line → Option Reply
+answer contents c line = if line.long then Some (unchanged c (refusal_lines LongLine)) else reply contents c (command_of line.bytes)
 
-abbrev pub answer : Contents → Collection → Line → Option (List (List ℕ))
-answer contents c line = if line.long then Some (refusal_lines LongLine) else reply contents c (command_of line.bytes)
+-- the lines of a reply, and then those that follow in the collection that it leaves; none where there is no reply
+abbrev pub with_later : Option Reply → (Collection → List (List ℕ)) → List (List ℕ)
+with_later None later = []
+with_later (Some reply) later = reply.lines ++ later reply.after
 
-abbrev pub next : Contents → Collection → Line → Collection
-next contents c line = if line.long then c else leaves contents c (command_of line.bytes)
-
--- an answer and the lines of those behind it; none where the text ends
-abbrev pub joined : Option (List (List ℕ)) → List (List ℕ) → List (List ℕ)
-joined None later = []
-joined (Some lines) later = lines ++ later
-
--- the lines of the answers to a list of lines, each in the state that the lines before it leave
+-- the lines of the replies to a list of lines, each in the collection that the lines before it leave, up to the first that has no reply
 abbrev pub answers : Contents → Collection → List Line → List (List ℕ)
 answers contents c [] = []
-answers contents c (line ∷ rest) = joined (answer contents c line) (answers contents (next contents c line) rest)
+answers contents c (line ∷ rest) = with_later (answer contents c line) (λ after. answers contents after rest)
 
 -- no line loads a name that isn't held
 abbrev pub AllAnswered : Contents → Collection → List Line → Type 0
 AllAnswered contents c [] = ⊤
-AllAnswered contents c (line ∷ rest) = IsSome (answer contents c line) × AllAnswered contents (next contents c line) rest
+AllAnswered contents c (line ∷ rest) = IsSomeAnd (answer contents c line) (λ reply. AllAnswered contents reply.after rest)
 
 -- the output of a script over a collection that begins at this address
 abbrev pub output : ℕ → Contents → List ℕ → List ℕ
-output first contents script = text_of_lines (answers contents (empty_from first) (lines line_most script))
+output first contents script = text_of_lines (answers contents (empty_from first) (lines most_line script))
 
 -- a refusal line is among the answers
 abbrev pub has_refusal : ℕ → Contents → List ℕ → Bool
-has_refusal first contents script = list_any is_refusal (answers contents (empty_from first) (lines line_most script))
-
--- the text of the answer to a line, nothing where it has none
-abbrev pub answer_text : Contents → Collection → Line → List ℕ
-answer_text contents c line = text_of_lines (unwrap_or (answer contents c line) [])
-
--- the text, the collection and the refusal that a line gives
-pub record IsAnswer (contents : Contents) (before after : Collection) (line : Line) (text : List ℕ) (refusal : Bool) : Type 0 where
-  pub lines : List (List ℕ)
-  pub is : answer contents before line ≡ Some lines
-  pub after_is : after ≡ next contents before line
-  pub text_is : text ≡ text_of_lines lines
-  pub refusal_is : refusal ≡ list_any is_refusal lines
-
--- the lines stand behind what was there, and whether one of them is a refusal
-pub record Says (lines : List (List ℕ)) (before after : List ℕ) (refusal : Bool) : Type 0 where
-  pub text : after ≡ before ++ text_of_lines lines
-  pub refusal_is : refusal ≡ list_any is_refusal lines
-
--- the reply to a command stands behind what was there, and the collection is the one after it
-pub record IsReply (contents : Contents) (c after : Collection) (command : Command) (old new : List ℕ) (refusal : Bool) : Type 0 where
-  pub lines : List (List ℕ)
-  pub is : reply contents c command ≡ Some lines
-  pub after_is : after ≡ leaves contents c command
-  pub says : Says lines old new refusal
+has_refusal first contents script = list_any is_refusal (answers contents (empty_from first) (lines most_line script))

@@ -1,6 +1,6 @@
 pub mod Answers
 pub mod Faults
-pub mod Queries
+pub mod Progress
 pub mod Runs
 pub mod Statuses
 pub mod Stored

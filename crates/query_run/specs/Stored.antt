@@ -1,10 +1,10 @@
--- What is kept of a collection.
-use Rattle.std.specs.Prelude.{◌≡◌, ℕ, ◌+◌, ◌*◌, ◌≤◌, Bool, ◌||◌, List, length, flat_map, bytes_eq, ◌⊎◌}
+-- For proofs alone: what is kept of a collection. No clause of `run` speaks of these.
+use Rattle.std.specs.Prelude.{◌≡◌, ℕ, ◌+◌, ◌*◌, ◌≤◌, List, length, flat_map, ◌⊎◌}
 use Rattle.std.specs.List.{AllByRecursion}
-use Rattle.gcl_model.specs.Collections.{File, Collection, IsSound, IsToken, width_of, words_from, with_boundaries, file_start, file_end}
+use Rattle.gcl_model.specs.Collections.{File, Collection, IsSound, IsToken, width_of, words_from, with_boundaries}
 use Rattle.gcl_model.specs.Texts.{Word}
 
--- a sound collection; every id is of a file or of a deletion, and each file took two addresses at least
+-- a sound collection, with at most as many deletions and surviving files as ids, and at least two addresses for each id
 pub record IsStored (c : Collection) : Type 0 where
   pub sound : IsSound c
   pub deleted : c.dels + length c.files ≤ c.next_id
@@ -14,10 +14,6 @@ pub record IsStored (c : Collection) : Type 0 where
 pub record IsFileOf (len : ℕ) (tokens : List (List ℕ)) : Type 0 where
   pub width : len ≡ width_of tokens
   pub are_tokens : AllByRecursion IsToken tokens
-
--- whether the token is one of a boundary, which no file can spell
-abbrev pub is_boundary : List ℕ → Bool
-is_boundary token = bytes_eq token file_start || bytes_eq token file_end
 
 -- the words of some files, at their addresses
 abbrev pub words_of_files : List File → List Word

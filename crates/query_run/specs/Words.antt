@@ -1,14 +1,15 @@
 -- The words of the command line.
-use Rattle.std.specs.Prelude.{ℕ, ◌^◌, nat_le, nat_eq, List, [], ◌∷◌, drop, codes, bytes_eq, Option, None, Some, if◌then◌else◌}
+use Rattle.std.specs.Prelude.{ℕ, nat_le, nat_eq, List, [], ◌∷◌, drop, codes, bytes_eq, Option, None, Some, if◌then◌else◌}
 use Rattle.std.specs.Option.{option_and_then}
 use Rattle.std.specs.List.{starts_with}
+use Rattle.gcl_model.specs.Limits.{address_end}
 use Rattle.script_lang.specs.Numbers.{number_of}
 
 -- a number that is an address or the end of the addresses
 abbrev pub address_from : ℕ → Option ℕ
-address_from n = if nat_le n (2 ^ 48) then Some n else None
+address_from n = if nat_le n address_end then Some n else None
 
--- 1 to 18 digits that write a number of at most 2^48
+-- 1 to 18 digits that write such a number: of "007" it is 7
 abbrev pub address_of : List ℕ → Option ℕ
 address_of text = option_and_then address_from (number_of text)
 

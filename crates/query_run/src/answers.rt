@@ -1,8 +1,10 @@
-ghost use Rattle.std.specs.Prelude.{◌≡◌, ◌≤◌, ◌^◌, ◌++◌, true, Some, map, IfOk, OnOk, IfSome, length};
+ghost use Rattle.std.specs.Prelude.{◌≡◌, ◌≤◌, ◌++◌, true, [], map, IfOk, OnOk, IfSome, length};
+ghost use Rattle.gcl_model.specs.Limits.{most_file};
 ghost use Rattle.gcl_model.specs.Names.{is_name};
 ghost use Rattle.outside.specs.Causes.{HasFileCause};
 ghost use Rattle.script_lang.specs.declared.commands.Command.TheVariants.{Add};
-ghost use Rattle.query_run.specs.Answers.{refusal_lines, add_lines, after_add, del_lines, after_del, files_lines, record_lines, text_of_lines, Says, IsReply, IsAnswer};
+ghost use Rattle.query_run.specs.Answers.{refusal_lines, add_reply, del_reply, files_lines, record_lines, text_of_lines, reply, answer};
+ghost use Rattle.query_run.specs.Progress.{Says, Follows, Gives};
 ghost use Rattle.script_lang.specs.Commands.{IsNamed};
 
 use crate::queries::{Asked, answer_query};
@@ -33,9 +35,8 @@ fn add_content(
     content: &[u8],
 ) -> Result<bool, AllocError>
     requires named { is_name name.now ≡ true }
-    requires short { length content.now ≤ 2 ^ 26 }
-    ensures stored { OnOk result (store.new ≡ after_add store.old name.now content.now) }
-    ensures says { IfOk result (Says (add_lines store.old content.now) out.old.items out.new.items) }
+    requires short { length content.now ≤ most_file }
+    ensures { IfOk result (Follows (add_reply store.old name.now content.now) store.new out.old.items out.new.items) }
 {
     match store.add(alloc, name, content) {
         Ok(added) => {
@@ -57,7 +58,7 @@ fn add<F: Files>(
 ) -> Result<bool, FileError>
     requires named { is_name name.now ≡ true }
     ensures reply { IfOk result (λ refusal. IfSome (F.held files.old) (λ contents.
-        IsReply contents store.old store.new (Add name.now) out.old.items out.new.items refusal)) }
+        Gives (reply contents store.old (Add name.now)) store.new out.old.items out.new.items refusal)) }
     ensures same { F.held files.new ≡ F.held files.old }
     ensures cause { HasFileCause (F.faults files.old) (F.faults files.new) result }
 {
@@ -70,8 +71,7 @@ fn add<F: Files>(
 
 // Deletes a file, and appends the answer.
 fn delete(out: &mut Vec<u8>, store: &mut Store, id: u64) -> Result<bool, AllocError>
-    ensures stored { OnOk result (store.new ≡ after_del store.old id) }
-    ensures says { IfOk result (Says (del_lines store.old id) out.old.items out.new.items) }
+    ensures { IfOk result (Follows (del_reply store.old id) store.new out.old.items out.new.items) }
 {
     if !store.delete(id) {
         return refuse(out, &Refusal::NoFile(id));
@@ -109,7 +109,7 @@ fn answer_command<F: Files>(
 ) -> Result<bool, FileError>
     requires { IsNamed command }
     ensures reply { IfOk result (λ refusal. IfSome (F.held files.old) (λ contents.
-        IsReply contents store.old store.new command out.old.items out.new.items refusal)) }
+        Gives (reply contents store.old command) store.new out.old.items out.new.items refusal)) }
     ensures same { F.held files.new ≡ F.held files.old }
     ensures cause { HasFileCause (F.faults files.old) (F.faults files.new) result }
 {
@@ -138,7 +138,7 @@ pub fn answer_line<F: Files>(
     line: &[u8],
 ) -> Result<bool, FileError>
     ensures answer { IfOk result (λ refusal. IfSome (F.held files.old) (λ contents.
-        IsAnswer contents store.old store.new (record { long = long; bytes = line.now }) out.new.items refusal)) }
+        Gives (answer contents store.old (record { long = long; bytes = line.now })) store.new [] out.new.items refusal)) }
     ensures same { F.held files.new ≡ F.held files.old }
     ensures cause { HasFileCause (F.faults files.old) (F.faults files.new) result }
 {

@@ -10,21 +10,21 @@
 #![tactic(auto)]
 
 mod answers;
-mod leaping;
-mod look_up;
+mod leaves;
+#[cfg(test)]
+mod member_tests;
+mod members;
 mod queries;
 mod read;
 mod run_fault;
+mod script_run;
 mod status;
 mod store;
-mod top;
+#[cfg(test)]
+mod tests;
 mod words;
 mod write;
 
+pub use read::SCRIPT_MOST;
+pub use script_run::run;
 pub use status::Status;
-pub use top::run;
-
-#[cfg(test)]
-mod leaping_tests;
-#[cfg(test)]
-mod tests;

@@ -8,6 +8,7 @@ use gcl_model::{Expr, IntervalList, Leaves, Ledger, Question, Steps, uncounted};
 use std::alloc::{AllocError, Global};
 
 // What are the first members of a concordance list?
+#[derive(Clone, Copy)]
 struct FirstMembers<'a, L> {
     alloc: Global,
     expr: &'a Expr,
@@ -36,6 +37,7 @@ impl<L: Leaves> Question for FirstMembers<'_, L> {
 }
 
 // How many members has a concordance list?
+#[derive(Clone, Copy)]
 struct MemberCount<'a, L> {
     expr: &'a Expr,
     leaves: &'a L,

@@ -1,5 +1,6 @@
-ghost use Rattle.std.specs.Prelude.{◌≡◌, ◌==◌, ◌+◌, ◌-◌, ◌≤◌, ◌<◌, ◌^◌, ◌++◌, [], ◌∷◌, ℕ, List, true, false, not, nat_le, filter, length, IfOk, IsErrOf, OnErr, OnOk};
+ghost use Rattle.std.specs.Prelude.{◌≡◌, ◌==◌, ◌+◌, ◌-◌, ◌≤◌, ◌<◌, ◌++◌, [], ◌∷◌, ℕ, List, true, false, not, nat_le, filter, length, IfOk, IsErrOf, OnErr, OnOk};
 ghost use Rattle.std.specs.List.{AllByRecursion, list_any, prefix_len};
+ghost use Rattle.gcl_model.specs.Limits.{address_end, most_file};
 ghost use Rattle.gcl_model.specs.Texts.{next_place, previous_place};
 ghost use Rattle.gcl_model.specs.Tokens.{tokens_of};
 ghost use Rattle.gcl_model.specs.Names.{is_name};
@@ -45,7 +46,7 @@ impl StoredFile {
     /// Its first address, which holds the token `<file!>`.
     pub fn base(&self) -> u64
         ensures value { result ≡ self.now.base }
-        ensures in_range { self.now.base + width_of self.now.tokens ≤ 2 ^ 48 }
+        ensures in_range { self.now.base + width_of self.now.tokens ≤ address_end }
     {
         self.record.base
     }
@@ -58,7 +59,7 @@ impl StoredFile {
         &self.tokens
     }
 
-    /// The first address behind it.
+    /// The first address after it.
     fn next(&self) -> u64
         ensures { result ≡ self.now.base + width_of self.now.tokens }
     {
@@ -97,8 +98,9 @@ impl Model for Store {
 /// Why a file was not added.
 #[derive(Clone, Copy, Debug, PartialEq, Eq)]
 pub enum AddFault {
-    /// It needs addresses at or above 2^48.
+    /// It needs an address at or above the end.
     NoAddresses,
+    /// There was no memory for it.
     NoMemory,
 }
 
@@ -149,7 +151,7 @@ fn take_out(files: &mut Vec<StoredFile>, id: u64)
 impl Store {
     /// The collection that begins at an address. It takes no memory.
     pub fn new(alloc: Global, first: u64) -> Self
-        requires { first ≤ 2 ^ 48 }
+        requires { first ≤ address_end }
         ensures { result ≡ empty_from first }
     {
         Store {
@@ -198,7 +200,7 @@ impl Store {
         )
     }
 
-    /// The files that have a word at `k` or behind it.
+    /// The files that have a word at `k` or after it.
     pub fn files_from(&self, k: u64) -> &[StoredFile]
         ensures places { (term : List ℕ) → next_place (words_of_files result.now) term k ≡ next_place (words_of self.now) term k }
         ensures stored { IsStored self.now }
@@ -227,12 +229,12 @@ impl Store {
     /// Adds a file with these bytes.
     pub fn add(&mut self, alloc: Global, name: &[u8], content: &[u8]) -> Result<Added, AddFault>
         requires named { is_name name.now ≡ true }
-        requires short { length content.now ≤ 2 ^ 26 }
+        requires short { length content.now ≤ most_file }
         ensures ok { OnOk result (self.new ≡ with_file self.old name.now (tokens_of content.now)) }
         ensures id { IfOk result (λ added. added.id ≡ self.old.next_id) }
         ensures range { IfOk result (λ added. added.range ≡ slot_range self.old.next (self.old.next + width_of (tokens_of content.now) - 1)) }
-        ensures fits { OnOk result (self.old.next + width_of (tokens_of content.now) ≤ 2 ^ 48) }
-        ensures spent { IsErrOf result NoAddresses → 2 ^ 48 < self.old.next + width_of (tokens_of content.now) }
+        ensures fits { OnOk result (self.old.next + width_of (tokens_of content.now) ≤ address_end) }
+        ensures spent { IsErrOf result NoAddresses → address_end < self.old.next + width_of (tokens_of content.now) }
         ensures kept { OnErr result (self.new ≡ self.old) }
     {
         let tokens = token_text(alloc, content)?;

@@ -285,7 +285,7 @@ fn a_text_that_is_no_query_is_refused_at_its_place(rt: HostRuntime) -> Result<()
 
 #[test]
 fn words_give_the_first_address(rt: HostRuntime) -> Result<(), Fail> {
-    let cases: [(&[&[u8]], &[u8], Status); 9] = [
+    let cases: [(&[&[u8]], &[u8], Status); 10] = [
         (
             &[b"--first", b"7"],
             b"file 0 7 14\nfile 1 15 16\n",
@@ -298,10 +298,15 @@ fn words_give_the_first_address(rt: HostRuntime) -> Result<(), Fail> {
         ),
         (
             &[b"--first", b"281474976710648"],
-            b"file 0 281474976710648 281474976710655\n! no addresses\n",
+            b"file 0 281474976710648 281474976710655\nfile 1 281474976710656 281474976710657\n",
+            Status::Done,
+        ),
+        (
+            &[b"--first", b"72057594037927928"],
+            b"file 0 72057594037927928 72057594037927935\n! no addresses\n",
             Status::DoneWithRefusals,
         ),
-        (&[b"--first", b"281474976710657"], b"", Status::Usage),
+        (&[b"--first", b"72057594037927937"], b"", Status::Usage),
         (&[b"--first", b"1", b"--first", b"1"], b"", Status::Usage),
         (&[b"--first"], b"", Status::Usage),
         (&[b"--first="], b"", Status::Usage),
@@ -333,11 +338,12 @@ fn a_line_is_long_from_65_537_bytes_on(rt: HostRuntime) -> Result<(), Fail> {
 }
 
 #[test]
-fn each_object_fails(rt: HostRuntime) -> Result<(), Fail> {
+fn a_run_ends_at_the_first_fault_of_each_object(rt: HostRuntime) -> Result<(), Fail> {
     let script = b"add a\nfind \"to\"\n".as_slice();
-    let cases: [(Plan<'_>, Status, &[u8]); 4] = [
+    let cases: [(Plan<'_>, Status, &[u8]); 5] = [
         (failing_at(&[1], &[], &[]), Status::ReadFault, b""),
         (failing_at(&[2], &[], &[]), Status::ReadFault, b""),
+        (failing_at(&[], &[1], &[]), Status::WriteFault, b""),
         (
             failing_at(&[], &[2], &[]),
             Status::WriteFault,

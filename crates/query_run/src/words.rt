@@ -4,7 +4,7 @@ ghost use Rattle.query_run.specs.Words.{address_of, joined_first, spaced_first, 
 use gcl_model::{ADDRESS_END, Bytes};
 use script_lang::number_of;
 
-// 1 to 18 digits that write a number of at most 2^48.
+// 1 to 18 digits that write an address, or the end of the addresses.
 fn address_of(text: &[u8]) -> Option<u64>
     ensures { result ≡ address_of text.now }
 {

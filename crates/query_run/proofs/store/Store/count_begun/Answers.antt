@@ -2,7 +2,8 @@ use Rattle.std.proofs.Common.{leb, ◌∙◌, ap, rules}
 use Rattle.std.specs.List.{prefix_len}
 use Rattle.std.proofs.lemmas.List.Sorted.{IsPartitionPoint-from_clause, IsPartitionedBy-leb}
 use Rattle.gcl_model.specs.Collections.{File, Collection}
-use Rattle.query_run.proofs.StoreLemmas.{prefix_len_at_point, bases_rise}
+use Rattle.query_run.proofs.StoreLemmas.{bases_rise}
+use Rattle.gcl_model.proofs.Lists.{prefix_len_at_point}
 use Rattle.query_run.proofs.store.Store.count_begun.Goals as goal
 
 pub returns-clause-count : goal.returns-clause-count

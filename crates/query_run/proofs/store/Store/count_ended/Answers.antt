@@ -2,7 +2,8 @@ use Rattle.std.proofs.Common.{◌+◌, ◌≤◌, leb, length, ◌∙◌, ap, su
 use Rattle.std.specs.List.{prefix_len}
 use Rattle.std.proofs.lemmas.List.Sorted.{IsPartitionPoint-from_clause, IsPartitionedBy-leb}
 use Rattle.gcl_model.specs.Collections.{File, Collection, width_of}
-use Rattle.query_run.proofs.StoreLemmas.{prefix_len_at_point, ends_rise}
+use Rattle.query_run.proofs.StoreLemmas.{ends_rise}
+use Rattle.gcl_model.proofs.Lists.{prefix_len_at_point}
 use Rattle.query_run.proofs.store.Store.count_ended.Goals as goal
 
 pub returns-clause-count : goal.returns-clause-count
