@@ -6,14 +6,15 @@ use Rattle.std.proofs.lemmas.Bool.{or_left, or_right}
 use Rattle.std.proofs.lemmas.List.{take-append-drop, drop_more, append_assoc, append-nil}
 use Rattle.std.proofs.lemmas.List.Folds.{list_any-append}
 use Rattle.std.proofs.lemmas.Grind.{flat_map-append}
-use Rattle.gcl_model.specs.Slots.{SlotRange, slot_range, joined, spanned}
+use Rattle.gcl_model.specs.Slots.{SlotRange, slot_range, joined, spanned, AreRangesWithin}
 use Rattle.gcl_model.specs.Texts.{Word, places, AreRisingBelow}
 use Rattle.address_space.specs.Runs.{FileEntry, IsFileRun, Precedes, last_file}
 use Rattle.index_shard.specs.Tables.{ShardContent, IsShard, postings_of, words_of}
-use Rattle.delete_mask.specs.Masks.{is_dead, AreRangesWithin}
+use Rattle.delete_mask.specs.Masks.{is_dead}
 use Rattle.live_version.specs.Contents.{SlotContent, VersionContent, IsSlot, IsVersion, LiesIn, is_of_file, is_of_files, live_words, ranges_of, files_of, live_of}
-use Rattle.live_version.proofs.WordLemmas.{live_places, live_of_rise, places-append}
-use Rattle.live_version.proofs.ChangeLists.{all_append, all_left, all_right, all_each}
+use Rattle.live_version.proofs.WordLemmas.{live_places, live_of_rise}
+use Rattle.gcl_model.proofs.WordLists.{places-append}
+use Rattle.gcl_model.proofs.Lists.{all_append, all_left, all_right, all_weaker}
 use Rattle.live_version.proofs.ChangeFiles.{run_left, run_right}
 use Rattle.live_version.specs.Changes.{IsSameLive, LiesInside, slots_at, whole_range}
 use Rattle.shard_merge.proofs.Loops.{flat_map_item}
@@ -171,10 +172,8 @@ lie_within low end (slot ∷ slots) all apart =
     let ordered : slot.range.first ≤ slot.range.last = apart.1 in
     let last : slot.range.last < end = apart.2 in
     all_append (λ (file : FileEntry). (low ≤ file.base) × (file.base + file.len ≤ end)) slot.files (files_of slots)
-    (all_each (LiesIn slot.range) (λ (file : FileEntry). (low ≤ file.base) × (file.base + file.len ≤ end)) slot.files
-    (λ file lies. let a : slot.range.first ≤ file.base = lies.0 in let b : file.base + file.len ≤ slot.range.last + 1 = lies.1 in (omega arith, omega arith)) all.0.files)
-    (all_each (λ (file : FileEntry). (slot.range.last + 1 ≤ file.base) × (file.base + file.len ≤ end)) (λ (file : FileEntry). (low ≤ file.base) × (file.base + file.len ≤ end)) (files_of slots)
-    (λ file lies. let a : slot.range.last + 1 ≤ file.base = lies.0 in (omega arith, lies.1)) (lie_within (slot.range.last + 1) end slots all.1 apart.3))
+    (all_weaker (LiesIn slot.range) (λ (file : FileEntry). (low ≤ file.base) × (file.base + file.len ≤ end)) (λ file lies. let a : slot.range.first ≤ file.base = lies.0 in let b : file.base + file.len ≤ slot.range.last + 1 = lies.1 in (omega arith, omega arith)) slot.files all.0.files)
+    (all_weaker (λ (file : FileEntry). (slot.range.last + 1 ≤ file.base) × (file.base + file.len ≤ end)) (λ (file : FileEntry). (low ≤ file.base) × (file.base + file.len ≤ end)) (λ file lies. let a : slot.range.last + 1 ≤ file.base = lies.0 in (omega arith, lies.1)) (files_of slots) (lie_within (slot.range.last + 1) end slots all.1 apart.3))
 
 pub files_lie : (range : SlotRange) (slots : List SlotContent) → IsRun slots → IsRangeOf range slots → AllByRecursion (LiesIn range) (files_of slots)
 files_lie range slots run whole = lie_within range.first (range.last + 1) slots run.all whole.within
@@ -192,10 +191,8 @@ pub words_owned : (slots : List SlotContent) → AllByRecursion IsSlot slots →
 words_owned [] all = tt
 words_owned (slot ∷ slots) all =
     all_append (λ (w : Word). is_of_files (slot.files ++ files_of slots) w.address ≡ true) (live_words slot) (live_of slots)
-    (all_each (λ (w : Word). is_of_files slot.files w.address ≡ true) (λ (w : Word). is_of_files (slot.files ++ files_of slots) w.address ≡ true) (live_words slot)
-    (λ w is. of_files_front slot.files (files_of slots) w.address is) all.0.owned)
-    (all_each (λ (w : Word). is_of_files (files_of slots) w.address ≡ true) (λ (w : Word). is_of_files (slot.files ++ files_of slots) w.address ≡ true) (live_of slots)
-    (λ w is. of_files_back slot.files (files_of slots) w.address is) (words_owned slots all.1))
+    (all_weaker (λ (w : Word). is_of_files slot.files w.address ≡ true) (λ (w : Word). is_of_files (slot.files ++ files_of slots) w.address ≡ true) (λ w is. of_files_front slot.files (files_of slots) w.address is) (live_words slot) all.0.owned)
+    (all_weaker (λ (w : Word). is_of_files (files_of slots) w.address ≡ true) (λ (w : Word). is_of_files (slot.files ++ files_of slots) w.address ≡ true) (λ w is. of_files_back slot.files (files_of slots) w.address is) (live_of slots) (words_owned slots all.1))
 
 -- the live postings of the slots are the places among their live words
 left_places : (slots : List SlotContent) (term : List ℕ) → AllByRecursion IsSlot slots → postings_left (map part_of slots) term ≡ places (live_of slots) term

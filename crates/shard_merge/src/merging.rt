@@ -1,5 +1,5 @@
 ghost use Rattle.std.specs.Prelude.{◌≡◌, ℕ, ◌+◌, ◌≤◌, [], ◌∷◌, length, map, IfOk, Some};
-ghost use Rattle.delete_mask.specs.Masks.{AreRangesWithin};
+ghost use Rattle.gcl_model.specs.Slots.{AreRangesWithin};
 ghost use Rattle.index_shard.specs.Tables.{words_of};
 ghost use Rattle.live_version.specs.Contents.{ranges_of, files_of, live_of};
 ghost use Rattle.live_version.specs.Changes.{IsSameLive, LiesInside, slots_at, whole_range};

@@ -24,18 +24,7 @@ fn put_copies(files: &mut FileRun, records: &[FileRecord]) -> Result<(), AllocEr
     ensures { OnOk result (files.new ≡ files.old ++ records.now) }
 {
     for record in records {
-        files.push(copy_of(record)?)?;
+        files.push(record.copy()?)?;
     }
     Ok(())
-}
-
-fn copy_of(file: &FileRecord) -> Result<FileRecord, AllocError>
-    ensures { IfOk result (λ copy. copy ≡ file.now) }
-{
-    Ok(FileRecord {
-        id: file.id,
-        base: file.base,
-        len: file.len,
-        name: file.name.copy()?,
-    })
 }

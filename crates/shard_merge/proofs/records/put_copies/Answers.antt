@@ -6,5 +6,5 @@ use Rattle.shard_merge.proofs.records.put_copies.Goals as goal
 
 pub push-requires : goal.push-requires
 push-requires c =
-    subst (λ (file : FileEntry). IfSome (last_file c.loop-record.files) (λ last. Precedes last file)) (sym c.in_ok-copy_of.ensures)
+    subst (λ (file : FileEntry). IfSome (last_file c.loop-record.files) (λ last. Precedes last file)) (sym c.in_ok-copy.ensures)
     (put_next c.args.files.now c.args.records.now c.loop-record.files c.loop-record.record-index _ c.requires c.loop-record-test.true c.record-item.is c.loop-record.invariant)
