@@ -1,0 +1,8 @@
+pub mod Prefixes
+pub mod HistoryLemmas
+pub mod Adding
+pub mod Steps
+pub mod ReaderLemmas
+pub mod Stands
+pub mod PlaceLemmas
+mod Worked

@@ -1,0 +1,7 @@
+pub mod Steps
+pub mod Histories
+pub mod Accounts
+pub mod Laws
+pub mod Log
+pub mod Tracked
+pub mod Seats

@@ -1,0 +1,18 @@
+-- What a reader keeps, so that it can tell what is due to it.
+use Rattle.std.specs.Prelude.{◌≡◌, ◌≢◌, Bool, MatchBool, List, []}
+use mathlib.Core.List.{IsPrefix}
+use Rattle.live_version.specs.Contents.{VersionContent}
+use Rattle.manifest_publish.specs.Histories.{IsLawful}
+use Rattle.manifest_publish.specs.Accounts.{Account, BeginWith}
+
+-- a lawful history of the same publisher that begins with all that is due
+abbrev pub HasAll : Account → Account → Type 0
+HasAll due found = (found.publisher ≡ due.publisher) × IsLawful found.history × IsPrefix due.history found.history
+
+-- All that the reader has seen and was told of begins what is due. `learnt` says whether it was told of anything
+pub record IsTracked (seen due kept : Account) (told : List (List VersionContent)) (learnt : Bool) : Type 0 where
+  pub publishers : (due.publisher ≡ seen.publisher) × (kept.publisher ≡ seen.publisher)
+  pub told_due : BeginWith told due.history
+  pub seen_due : IsPrefix seen.history due.history
+  pub kept_seen : IsPrefix kept.history seen.history
+  pub learns : MatchBool learnt (told ≢ []) (told ≡ [])
