@@ -4,7 +4,6 @@ use mathlib.Core.List.{IsPrefix}
 use Rattle.live_version.specs.Contents.{VersionContent}
 use Rattle.manifest_publish.specs.Accounts.{Account, EndsWith, IsOwed, GoesOn, BeginWith, MayEnter, reader_content}
 use Rattle.manifest_publish.specs.Tracked.{HasAll, IsTracked}
-use Rattle.manifest_publish.specs.Histories.{IsLawful}
 use Rattle.manifest_publish.proofs.Prefixes.{prefix_self, prefix_trans, prefix_whole, all_weaker, all_snoc}
 use Rattle.manifest_publish.proofs.HistoryLemmas.{latest-number}
 

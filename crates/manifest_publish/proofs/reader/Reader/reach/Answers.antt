@@ -1,4 +1,4 @@
-use Rattle.std.proofs.Common.{◌≡◌, sym, subst, ap, ◌∙◌}
+use Rattle.std.proofs.Common.{sym, subst, ap, ◌∙◌}
 use Rattle.manifest_publish.specs.Accounts.{ReaderContent, reader_content, MayEnter}
 use Rattle.manifest_publish.specs.Log.{head_of}
 use Rattle.manifest_publish.proofs.ReaderLemmas.{tracked-reached}

@@ -1,0 +1,23 @@
+use Rattle.std.proofs.Common.{◌≡◌, ◌+◌, ◌≤◌, length, IfOk, sym, subst}
+use Rattle.gcl_model.specs.Texts.{Text}
+use Rattle.gcl_model.specs.FormOf.{form_of}
+use Rattle.live_version.specs.Contents.{VersionContent, version_text}
+use Rattle.manifest_publish.proofs.HistoryLemmas.{latest-one}
+use Rattle.reader_pass.specs.Members.{first_members, look_ups, access_most}
+use Rattle.reader_pass.proofs.PassText.{text-same}
+use Rattle.reader_pass.proofs.answers.pass_list.Goals as goal
+
+pub returns-clause-version : goal.returns-clause-version
+returns-clause-version g c v latest =
+    subst (λ (w : VersionContent). IfOk c.list.result (λ members. members ≡ first_members (version_text w) (form_of c.args.expr.now) c.args.most))
+    (latest-one c.args.pass.now.history c.version.result.now v c.version.ensures.1 latest) c.list.ensures.ok
+
+pub returns-clause-collection : goal.returns-clause-collection
+returns-clause-collection g c v d latest stands =
+    subst (λ (text : Text). IfOk c.list.result (λ members. members ≡ first_members text (form_of c.args.expr.now) c.args.most)) (text-same v d stands)
+    (returns-clause-version g c v latest)
+
+pub returns-clause-cost : goal.returns-clause-cost
+returns-clause-cost g c v latest =
+    subst (λ (w : VersionContent). c.list.new.steps ≤ c.args.steps.now + look_ups (version_text w) (access_most w) (form_of c.args.expr.now) (length (first_members (version_text w) (form_of c.args.expr.now) c.args.most)))
+    (latest-one c.args.pass.now.history c.version.result.now v c.version.ensures.1 latest) c.list.ensures.cost
