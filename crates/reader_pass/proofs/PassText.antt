@@ -1,5 +1,5 @@
 -- The text of a pass.
-use Rattle.std.proofs.Common.{◌≡◌, ◌∙◌, sym}
+use Rattle.std.proofs.Common.{◌≡◌}
 use Rattle.gcl_model.specs.Collections.{Collection, text_of}
 use Rattle.live_version.specs.Contents.{VersionContent, version_text}
 use Rattle.live_version.specs.StandsFor.{StandsFor}

@@ -1,4 +1,4 @@
-use Rattle.std.proofs.Common.{◌≡◌, ◌+◌, ◌≤◌, length, IfOk, sym, subst}
+use Rattle.std.proofs.Common.{◌≡◌, ◌+◌, ◌≤◌, length, IfOk, subst}
 use Rattle.gcl_model.specs.Texts.{Text}
 use Rattle.gcl_model.specs.FormOf.{form_of}
 use Rattle.live_version.specs.Contents.{VersionContent, version_text}
