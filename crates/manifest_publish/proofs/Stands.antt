@@ -4,7 +4,7 @@ use Rattle.gcl_model.specs.Collections.{Collection, empty_from}
 use Rattle.live_version.specs.Contents.{VersionContent}
 use Rattle.live_version.specs.Changes.{empty_version}
 use Rattle.live_version.specs.StandsFor.{StandsFor}
-use Rattle.manifest_publish.specs.Steps.{IsStep}
+use Rattle.gcl_model.specs.Steps.{IsStep}
 use Rattle.manifest_publish.specs.Histories.{Follow, IsLawful, IsLatest}
 use Rattle.manifest_publish.proofs.HistoryLemmas.{lawful-snoc}
 

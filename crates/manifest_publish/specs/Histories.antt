@@ -4,7 +4,7 @@ use Rattle.gcl_model.specs.Collections.{Collection}
 use Rattle.live_version.specs.Contents.{VersionContent}
 use Rattle.live_version.specs.Changes.{empty_version}
 use Rattle.live_version.specs.StandsFor.{StandsFor}
-use Rattle.manifest_publish.specs.Steps.{IsStep}
+use Rattle.gcl_model.specs.Steps.{IsStep}
 
 -- the version that a history begins with: no file was added yet, and number and edition are 0
 abbrev pub IsOpening : VersionContent → Type 0

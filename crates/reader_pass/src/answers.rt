@@ -1,14 +1,15 @@
-ghost use Rattle.std.specs.Prelude.{◌≡◌, ◌+◌, ◌≤◌, length, IfOk};
+ghost use Rattle.std.specs.Prelude.{◌≡◌, ◌+◌, ◌<◌, ◌≤◌, length, IfOk};
 ghost use Rattle.gcl_model.specs.Collections.{Collection, text_of};
 ghost use Rattle.gcl_model.specs.FormOf.{form_of};
+ghost use Rattle.gcl_model.specs.Limits.{far};
 ghost use Rattle.gcl_model.specs.Meaning.{concordance};
 ghost use Rattle.gcl_model.specs.WellFormed.{IsWellFormed};
 ghost use Rattle.live_version.specs.Contents.{VersionContent, version_text};
 ghost use Rattle.live_version.specs.StandsFor.{StandsFor};
 ghost use Rattle.manifest_publish.specs.Histories.{IsLatest};
-ghost use Rattle.reader_pass.specs.Members.{first_members, look_ups, access_most};
+ghost use Rattle.reader_pass.specs.Members.{first_members, first_members_from, look_ups, access_most};
 
-use gcl_eval::{count, list};
+use gcl_eval::{count, list, list_from};
 use gcl_model::{Expr, IntervalList, Ledger, Steps};
 use manifest_publish::Pass;
 use std::alloc::{AllocError, Global};
@@ -27,6 +28,24 @@ pub fn pass_list<S: Ledger>(
     ensures cost { (v : VersionContent) → IsLatest pass.now.history v → steps.new ≤ steps.old + look_ups (version_text v) (access_most v) (form_of expr.now) (length (first_members (version_text v) (form_of expr.now) most)) }
 {
     list(alloc, expr, pass.version(), most, steps)
+}
+
+/// The first `most` of those members that start at or after `k`, or all of these where there are fewer.
+pub fn pass_list_from<S: Ledger>(
+    alloc: Global,
+    pass: &Pass,
+    expr: &Expr,
+    k: u64,
+    most: u64,
+    steps: &mut Steps<S>,
+) -> Result<IntervalList, AllocError>
+    requires well_formed { IsWellFormed (form_of expr.now) }
+    requires below { k < far }
+    ensures version { (v : VersionContent) → IsLatest pass.now.history v → IfOk result (λ members. members ≡ first_members_from (version_text v) (form_of expr.now) k most) }
+    ensures collection { (v : VersionContent) (c : Collection) → IsLatest pass.now.history v → StandsFor v c → IfOk result (λ members. members ≡ first_members_from (text_of c) (form_of expr.now) k most) }
+    ensures cost { (v : VersionContent) → IsLatest pass.now.history v → steps.new ≤ steps.old + look_ups (version_text v) (access_most v) (form_of expr.now) (length (first_members_from (version_text v) (form_of expr.now) k most)) }
+{
+    list_from(alloc, expr, pass.version(), k, most, steps)
 }
 
 /// How many members the expression's list over the version of the pass has. It takes no memory.

@@ -1,6 +1,7 @@
 ghost use Rattle.std.specs.Prelude.{◌≡◌, ◌<◌, ◌++◌, ◌∷◌, [], IfOk, IfSome};
 ghost use Rattle.std.specs.Thread.{IsSync};
 ghost use Rattle.gcl_model.specs.FormOf.{form_of};
+ghost use Rattle.gcl_model.specs.Limits.{far};
 ghost use Rattle.gcl_model.specs.WellFormed.{IsWellFormed};
 ghost use Rattle.manifest_publish.specs.Histories.{IsLawful};
 
@@ -90,16 +91,22 @@ fn listed<B: ledger::Ledger>(
     alloc: Global,
     pass: &Pass,
     expr: &Expr,
+    k: u64,
     most: u64,
     blank: Blank,
 ) -> Result<Vec<(u64, u64)>, AllocError>
+    requires below { k < far }
     requires well_formed { IsWellFormed (form_of expr.now) }
     requires name { blank.name ≡ B.name }
     requires parts { blank.parts ≡ B.parts }
     requires some { 0 < blank.parts }
 {
     let mut steps = Steps::<Tally<B>>::open(blank);
-    let list = pass_list(alloc, pass, expr, most, &mut steps)?;
+    let list = if k == 0 {
+        pass_list(alloc, pass, expr, most, &mut steps)?
+    } else {
+        pass_list_from(alloc, pass, expr, k, most, &mut steps)?
+    };
     let mut members = Vec::new(alloc);
     for member in list.as_slice() {
         members.push((member.start, member.end))?;
@@ -147,10 +154,12 @@ fn lists_as_many_as_are_wanted<R: Abort>(
 {
     let all = [(1, 2), (5, 6)];
     for most in 0..4u64 {
-        let members = listed::<Brand>(alloc, pass, expr, most, Blank::new(1))?;
+        let members = listed::<Brand>(alloc, pass, expr, 0, most, Blank::new(1))?;
         let want = all.split_at(all.len().min(most as usize)).0;
         assert_eq!(rt; members.as_slice(), want, "the first {most}");
     }
+    let members = listed::<Brand>(alloc, pass, expr, 2, 4, Blank::new(1))?;
+    assert_eq!(rt; members.as_slice(), all.split_at(1).1);
     Ok(())
 }
 

@@ -5,7 +5,7 @@ use Rattle.gcl_model.specs.Meaning.{concordance}
 use Rattle.live_version.specs.Contents.{VersionContent, version_text}
 use Rattle.manifest_publish.proofs.HistoryLemmas.{latest-one}
 use Rattle.reader_pass.specs.Members.{look_ups, access_most}
-use Rattle.reader_pass.proofs.PassText.{text-same}
+use Rattle.live_version.proofs.PartLaws.{has_text}
 use Rattle.reader_pass.proofs.answers.pass_count.Goals as goal
 
 pub returns-clause-version : goal.returns-clause-version
@@ -15,7 +15,7 @@ returns-clause-version g c v latest =
 
 pub returns-clause-collection : goal.returns-clause-collection
 returns-clause-collection g c v d latest stands =
-    subst (λ (text : Text). c.count.result ≡ length (concordance text (form_of c.args.expr.now))) (text-same v d stands) (returns-clause-version g c v latest)
+    subst (λ (text : Text). c.count.result ≡ length (concordance text (form_of c.args.expr.now))) (has_text v d stands) (returns-clause-version g c v latest)
 
 pub returns-clause-cost : goal.returns-clause-cost
 returns-clause-cost g c v latest =

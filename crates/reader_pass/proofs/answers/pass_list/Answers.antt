@@ -4,7 +4,7 @@ use Rattle.gcl_model.specs.FormOf.{form_of}
 use Rattle.live_version.specs.Contents.{VersionContent, version_text}
 use Rattle.manifest_publish.proofs.HistoryLemmas.{latest-one}
 use Rattle.reader_pass.specs.Members.{first_members, look_ups, access_most}
-use Rattle.reader_pass.proofs.PassText.{text-same}
+use Rattle.live_version.proofs.PartLaws.{has_text}
 use Rattle.reader_pass.proofs.answers.pass_list.Goals as goal
 
 pub returns-clause-version : goal.returns-clause-version
@@ -14,7 +14,7 @@ returns-clause-version g c v latest =
 
 pub returns-clause-collection : goal.returns-clause-collection
 returns-clause-collection g c v d latest stands =
-    subst (λ (text : Text). IfOk c.list.result (λ members. members ≡ first_members text (form_of c.args.expr.now) c.args.most)) (text-same v d stands)
+    subst (λ (text : Text). IfOk c.list.result (λ members. members ≡ first_members text (form_of c.args.expr.now) c.args.most)) (has_text v d stands)
     (returns-clause-version g c v latest)
 
 pub returns-clause-cost : goal.returns-clause-cost
