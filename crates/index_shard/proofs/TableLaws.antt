@@ -1,18 +1,18 @@
 -- Tables of terms: one entry more, and the entry of a term.
-use Rattle.std.proofs.Common.{◌≡◌, ℕ, zero, suc, ◌+◌, ◌<◌, false, List, [], ◌∷◌, ◌++◌, length, get_or, nat_cmp, Ordering, bytes_eq, inl, inr, refl, sym, ap, ◌∙◌, subst, arith}
+use Rattle.std.proofs.Common.{◌≡◌, ℕ, zero, suc, ◌+◌, ◌<◌, true, false, cond, Bool, find, map, List, [], ◌∷◌, ◌++◌, length, get_or, nat_cmp, Ordering, bytes_eq, Option, None, Some, inl, inr, refl, sym, ap, ◌∙◌, subst, arith}
 use Rattle.std.specs.declared.cmp.Ordering.TheVariants.{Less, Equal, Greater}
 use Rattle.std.specs.Ordering.{is_eq, is_lt, ordering_reverse, ordering_index}
 use Rattle.std.specs.Cmp.Lexicographic.{slice_cmp}
-use Rattle.std.specs.List.{AllByRecursion}
+use Rattle.std.specs.List.{AllByRecursion, slice_get}
 use Rattle.std.specs.List.Sorted.{IsNonDecreasingBy, IsPartitionPoint}
-use Rattle.std.specs.Option.{IfSome}
+use Rattle.std.specs.Option.{IfSome, option_map}
 use Rattle.std.proofs.lemmas.Cmp.{nat_list_cmp_total}
-use Rattle.std.proofs.lemmas.Bool.{cases_lt}
+use Rattle.std.proofs.lemmas.Bool.{cases_lt, cases_Bool}
 use Rattle.std.proofs.lemmas.List.Sorted.{searchable_from_sorted}
 use Rattle.std.proofs.lemmas.Map.Lookups.{exact_bytes}
 use Rattle.std.proofs.lemmas.Map.Text.{is_eq-slice_cmp}
 use Rattle.gcl_model.specs.Slots.{SlotRange}
-use Rattle.index_shard.specs.Tables.{TermEntry, ShardContent, IsShard, ComesBefore, AreApart, ArePostingsIn, Precedes, IsTable, last_entry, postings_of}
+use Rattle.index_shard.specs.Tables.{TermEntry, ShardContent, IsShard, ComesBefore, AreApart, ArePostingsIn, Precedes, IsTable, last_entry, postings_of, addresses_at, place_of, comes_from, least_term}
 
 pub all_push : {X : Type 0} (P : X → Type 0) (xs : List X) (y : X) → AllByRecursion P xs → P y → AllByRecursion P (xs ++ y ∷ [])
 all_push P [] y all p = (p, tt)
@@ -76,29 +76,120 @@ searchable range es term table =
 pub same_term : (a b : List ℕ) (o : Ordering) → slice_cmp nat_cmp a b ≡ o → bytes_eq a b ≡ is_eq o
 same_term a b o e = sym (is_eq-slice_cmp a b) ∙ ap is_eq e
 
--- the entry that halving met is the term's
-pub postings_met : (range : SlotRange) (es : List TermEntry) (i : ℕ) (term : List ℕ) (d : TermEntry) → IsTable range es → i < length es →
-    slice_cmp nat_cmp (get_or es i d).term term ≡ Equal → postings_of es term ≡ (get_or es i d).addresses
-postings_met range [] i term d table lt met = absurd (omega arith)
-postings_met range (x ∷ xs) zero term d table lt met = rw (same_term x.term term Equal met) refl
-postings_met range (x ∷ xs) (suc i) term d table lt met =
-    let y = get_or xs i d in
-    let before : ComesBefore x.term y.term = (all_at (Precedes x) xs i d table.1 (omega arith)).terms in
-    let same : y.term ≡ term = exact_bytes y.term term met in
-    let less : slice_cmp nat_cmp x.term term ≡ Less = ap (slice_cmp nat_cmp x.term) (sym same) ∙ before in
-    rw (same_term x.term term Less less) (postings_met range xs i term d table.2 (omega arith) met)
-
 pub postings_missed : (es : List TermEntry) (term : List ℕ) → ((k : ℕ) (d : TermEntry) → k < length es → bytes_eq (get_or es k d).term term ≡ false) → postings_of es term ≡ []
 postings_missed [] term none = refl
 postings_missed (x ∷ xs) term none = rw (none 0 x (omega arith)) (postings_missed xs term (λ k d lt. none (suc k) d (omega arith)))
 
--- where halving ends between the lesser and the greater terms, the table does not have the term
-pub postings_parted : (es : List TermEntry) (i : ℕ) (term : List ℕ) →
-    IsPartitionPoint (λ e. slice_cmp nat_cmp e.term term ≡ Less) (λ e. slice_cmp nat_cmp e.term term ≡ Greater) es i → postings_of es term ≡ []
-postings_parted es i term parted =
-    postings_missed es term
+-- the postings at a place
+pub addresses_here : (es : List TermEntry) (i : ℕ) (d : TermEntry) → i < length es → addresses_at es i ≡ (get_or es i d).addresses
+addresses_here [] i d lt = absurd (omega arith)
+addresses_here (x ∷ xs) zero d lt = refl
+addresses_here (x ∷ xs) (suc i) d lt = addresses_here xs i d (omega arith)
+
+-- halving that met an entry found its place
+pub place_met : (range : SlotRange) (es : List TermEntry) (i : ℕ) (term : List ℕ) (d : TermEntry) → IsTable range es → i < length es →
+    slice_cmp nat_cmp (get_or es i d).term term ≡ Equal → place_of es term ≡ Some i
+place_met range [] i term d table lt met = absurd (omega arith)
+place_met range (x ∷ xs) zero term d table lt met = rw (same_term x.term term Equal met) refl
+place_met range (x ∷ xs) (suc i) term d table lt met =
+    let y = get_or xs i d in
+    let before : ComesBefore x.term y.term = (all_at (Precedes x) xs i d table.1 (omega arith)).terms in
+    let same : y.term ≡ term = exact_bytes y.term term met in
+    let less : slice_cmp nat_cmp x.term term ≡ Less = ap (slice_cmp nat_cmp x.term) (sym same) ∙ before in
+    let next : i + 1 ≡ suc i = omega arith in
+    rw (same_term x.term term Less less) (ap (option_map (λ i. i + 1)) (place_met range xs i term d table.2 (omega arith) met) ∙ ap Some next)
+
+place_missed : (es : List TermEntry) (term : List ℕ) → ((k : ℕ) (d : TermEntry) → k < length es → bytes_eq (get_or es k d).term term ≡ false) → place_of es term ≡ None
+place_missed [] term none = refl
+place_missed (x ∷ xs) term none = rw (none 0 x (omega arith)) (ap (option_map (λ i. i + 1)) (place_missed xs term (λ k d lt. none (suc k) d (omega arith))))
+
+pub place_parted : (es : List TermEntry) (i : ℕ) (term : List ℕ) →
+    IsPartitionPoint (λ e. slice_cmp nat_cmp e.term term ≡ Less) (λ e. slice_cmp nat_cmp e.term term ≡ Greater) es i → place_of es term ≡ None
+place_parted es i term parted =
+    place_missed es term
     (λ k d lt.
     elim (cases_lt k i) [
       | inl h ↦ same_term (get_or es k d).term term Less (parted.0 k d (omega arith) h)
       | inr h ↦ same_term (get_or es k d).term term Greater (parted.1 k d h lt)
     ])
+
+-- the postings at a term's place are the term's
+abbrev AtPlace : List TermEntry → List ℕ → Option ℕ → Type 0
+AtPlace es term None = postings_of es term ≡ []
+AtPlace es term (Some i) = (i < length es) × (addresses_at es i ≡ postings_of es term)
+
+at_place_later : (x : TermEntry) (xs : List TermEntry) (term : List ℕ) (o : Option ℕ) → bytes_eq x.term term ≡ false → AtPlace xs term o → AtPlace (x ∷ xs) term (option_map (λ i. i + 1) o)
+at_place_later x xs term None differs at = rw differs at
+at_place_later x xs term (Some i) differs at =
+    let lt = at.0 in
+    let next : suc i ≡ i + 1 = omega arith in
+    (omega arith, ap (addresses_at (x ∷ xs)) (sym next) ∙ rw differs at.1)
+
+at_place_here : (x : TermEntry) (xs : List TermEntry) (term : List ℕ) → bytes_eq x.term term ≡ true → AtPlace (x ∷ xs) term (Some 0)
+at_place_here x xs term e = (omega arith, rw e refl)
+
+at_place : (es : List TermEntry) (term : List ℕ) → AtPlace es term (place_of es term)
+at_place [] term = refl
+at_place (x ∷ xs) term =
+    elim (cases_Bool (bytes_eq x.term term)) [
+      | inl e ↦ let p : place_of (x ∷ xs) term ≡ Some 0 = rw e refl in subst (AtPlace (x ∷ xs) term) (sym p) (at_place_here x xs term e)
+      | inr e ↦ let p : place_of (x ∷ xs) term ≡ option_map (λ i. i + 1) (place_of xs term) = rw e refl in
+          subst (AtPlace (x ∷ xs) term) (sym p) (at_place_later x xs term (place_of xs term) e (at_place xs term))
+    ]
+
+pub at_no_place : (es : List TermEntry) (term : List ℕ) → place_of es term ≡ None → postings_of es term ≡ []
+at_no_place es term e = subst (AtPlace es term) e (at_place es term)
+
+pub at_its_place : (es : List TermEntry) (term : List ℕ) (i : ℕ) → place_of es term ≡ Some i → (i < length es) × (addresses_at es i ≡ postings_of es term)
+at_its_place es term i e = subst (AtPlace es term) e (at_place es term)
+
+abbrev terms_of : List TermEntry → List (List ℕ)
+terms_of es = map (λ (entry : TermEntry). entry.term) es
+
+-- where the terms before a place fail a test and the one there passes, it is the first that does
+found_at : (p : List ℕ → Bool) (es : List TermEntry) (i : ℕ) → ((k : ℕ) (d : TermEntry) → k < i → k < length es → p (get_or es k d).term ≡ false) →
+    ((d : TermEntry) → i < length es → p (get_or es i d).term ≡ true) → slice_get (terms_of es) i ≡ find p (terms_of es)
+found_at p [] zero before there = refl
+found_at p [] (suc i) before there = refl
+found_at p (x ∷ xs) zero before there = rw (there x (omega arith)) refl
+found_at p (x ∷ xs) (suc i) before there =
+    rw (before 0 x (omega arith) (omega arith))
+    (found_at p xs i (λ k d low lt. before (suc k) d (omega (arith, low)) (omega (arith, lt))) (λ d lt. there d (omega (arith, lt))))
+
+earlier : (range : SlotRange) (es : List TermEntry) → IsTable range es → (k j : ℕ) (d : TermEntry) → k < j → j < length es → ComesBefore (get_or es k d).term (get_or es j d).term
+earlier range [] table k j d low lt = absurd (omega (arith, lt))
+earlier range (x ∷ xs) table k zero d low lt = absurd (omega (arith, low))
+earlier range (x ∷ xs) table zero (suc j) d low lt = (all_at (Precedes x) xs j d table.1 (omega (arith, lt))).terms
+earlier range (x ∷ xs) table (suc k) (suc j) d low lt = earlier range xs table.2 k j d (omega (arith, low)) (omega (arith, lt))
+
+-- halving met the term itself
+pub least_met : (range : SlotRange) (es : List TermEntry) (i : ℕ) (low : List ℕ) (strict : Bool) → IsTable range es → i < length es → ((d : TermEntry) → slice_cmp nat_cmp (get_or es i d).term low ≡ Equal) →
+    slice_get (terms_of es) (cond strict (i + 1) i) ≡ least_term es low strict
+least_met range es i low false table lt met =
+    found_at (λ term. comes_from false (slice_cmp nat_cmp term low)) es i
+    (λ k d below inside.
+    let less : slice_cmp nat_cmp (get_or es k d).term low ≡ Less = ap (slice_cmp nat_cmp (get_or es k d).term) (sym (exact_bytes (get_or es i d).term low (met d))) ∙ earlier range es table k i d below lt in
+    ap (comes_from false) less)
+    (λ d inside. ap (comes_from false) (met d))
+least_met range es i low true table lt met =
+    found_at (λ term. comes_from true (slice_cmp nat_cmp term low)) es (i + 1)
+    (λ k d below inside.
+    elim (cases_lt k i) [
+      | inl before ↦
+          let less : slice_cmp nat_cmp (get_or es k d).term low ≡ Less = ap (slice_cmp nat_cmp (get_or es k d).term) (sym (exact_bytes (get_or es i d).term low (met d))) ∙ earlier range es table k i d before lt in
+          ap (comes_from true) less
+      | inr past ↦
+          let same : k ≡ i = omega (arith, below, past) in
+          ap (λ n. comes_from true (slice_cmp nat_cmp (get_or es n d).term low)) same ∙ ap (comes_from true) (met d)
+    ])
+    (λ d inside.
+    let after : ComesBefore low (get_or es (i + 1) d).term = ap (λ t. slice_cmp nat_cmp t (get_or es (i + 1) d).term) (sym (exact_bytes (get_or es i d).term low (met d))) ∙ earlier range es table i (i + 1) d (omega arith) inside in
+    ap (comes_from true) (nat_list_cmp_total.antisymm (get_or es (i + 1) d).term low ∙ ap ordering_reverse after))
+
+-- halving ended between the lesser and the greater terms
+pub least_parted : (es : List TermEntry) (i : ℕ) (low : List ℕ) (strict : Bool) →
+    IsPartitionPoint (λ e. slice_cmp nat_cmp e.term low ≡ Less) (λ e. slice_cmp nat_cmp e.term low ≡ Greater) es i → slice_get (terms_of es) i ≡ least_term es low strict
+least_parted es i low strict parted =
+    found_at (λ term. comes_from strict (slice_cmp nat_cmp term low)) es i
+    (λ k d below inside. ap (comes_from strict) (parted.0 k d (omega arith) below))
+    (λ d inside. ap (comes_from strict) (parted.1 i d (omega arith) inside))

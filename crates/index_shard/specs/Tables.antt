@@ -1,10 +1,12 @@
 -- Terms and their postings inside a range of addresses.
-use Rattle.std.specs.Prelude.{◌≡◌, ℕ, ◌+◌, ◌-◌, ◌^◌, ◌<◌, ◌≤◌, Bool, true, false, ◌==◌, List, [], ◌∷◌, length, flat_map, bytes_eq, Option, None, Some, if◌then◌else◌}
+use Rattle.std.specs.Prelude.{◌≡◌, ℕ, zero, suc, ◌+◌, ◌-◌, ◌^◌, ◌<◌, ◌≤◌, Bool, true, false, ◌==◌, List, [], ◌∷◌, length, flat_map, map, find, bytes_eq, Option, None, Some, if◌then◌else◌}
 use Rattle.std.specs.List.{AllByRecursion, list_any, range_with_len}
 use Rattle.std.specs.Ordering.{nat_cmp}
+use Rattle.std.specs.declared.cmp.Ordering.{Ordering}
 use Rattle.std.specs.Option.{option_to_list, option_map}
 use Rattle.std.specs.Cmp.Lexicographic.{slice_cmp}
-use Rattle.std.specs.declared.cmp.Ordering.TheVariants.{Less}
+use Rattle.std.specs.declared.cmp.Ordering.TheVariants.{Less, Equal, Greater}
+use Rattle.gcl_model.specs.Limits.{address_end}
 use Rattle.gcl_model.specs.Slots.{SlotRange}
 use Rattle.gcl_model.specs.Texts.{Word}
 pub use Rattle.posting_code.specs.Postings.{RiseWithin}
@@ -46,10 +48,10 @@ abbrev pub IsTable : SlotRange → List TermEntry → Type 0
 IsTable range [] = Unit {0}
 IsTable range (entry ∷ entries) = ArePostingsIn range entry.addresses × AllByRecursion (Precedes entry) entries × IsTable range entries
 
--- the addresses are below 2^48, and the table is one of their postings
+-- the addresses are below the end of addresses, and the table is one of their postings
 pub record IsShard (shard : ShardContent) : Type 0 where
   pub ordered : shard.range.first ≤ shard.range.last
-  pub in_range : shard.range.last < 2 ^ 48
+  pub in_range : shard.range.last < address_end
   pub table : IsTable shard.range shard.table
 
 -- the last entry of a table
@@ -63,6 +65,17 @@ abbrev pub postings_of : List TermEntry → List ℕ → List ℕ
 postings_of [] term = []
 postings_of (entry ∷ entries) term = if bytes_eq entry.term term then entry.addresses else postings_of entries term
 
+-- the postings of the entry at place i: none where there is no such place
+abbrev pub addresses_at : List TermEntry → ℕ → List ℕ
+addresses_at [] i = []
+addresses_at (entry ∷ entries) zero = entry.addresses
+addresses_at (entry ∷ entries) (suc i) = addresses_at entries i
+
+-- the place of a term in a table, counted from 0, if the table has it
+abbrev pub place_of : List TermEntry → List ℕ → Option ℕ
+place_of [] term = None
+place_of (entry ∷ entries) term = if bytes_eq entry.term term then Some 0 else option_map (λ i. i + 1) (place_of entries term)
+
 -- the term that has the address among its postings
 abbrev pub term_at : List TermEntry → ℕ → Option (List ℕ)
 term_at [] p = None
@@ -73,3 +86,13 @@ abbrev pub words_of : ShardContent → List Word
 words_of shard =
     flat_map (λ p. option_to_list (option_map (λ term. record { address = p; token = term }) (term_at shard.table p)))
     (range_with_len shard.range.first (shard.range.last - shard.range.first + 1))
+
+-- whether a term of this order to another one is looked for from that one on: an equal one is unless only later ones are
+abbrev pub comes_from : Bool → Ordering → Bool
+comes_from strict Less = false
+comes_from strict Equal = if strict then false else true
+comes_from strict Greater = true
+
+-- the least term of a table that is at least low, or above it where strict: of be, not, or and to it is not from "bee" on
+abbrev pub least_term : List TermEntry → List ℕ → Bool → Option (List ℕ)
+least_term entries low strict = find (λ term. comes_from strict (slice_cmp nat_cmp term low)) (map (λ (entry : TermEntry). entry.term) entries)

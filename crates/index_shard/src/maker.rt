@@ -6,7 +6,7 @@ use crate::entry::Entry;
 use crate::shard::Shard;
 use address_space::Range;
 use gcl_model::Bytes;
-use posting_code::encode;
+use posting_code::{PostingList, encode};
 use std::alloc::{AllocError, Global};
 use std::marker::Model;
 
@@ -48,8 +48,19 @@ impl ShardMaker {
         ensures ok { OnOk result (self.new ≡ record self.old { table = self.old.table ++ record { term = term.now; addresses = addresses.now } ∷ [] }) }
         ensures err { OnErr result (self.new ≡ self.old) }
     {
+        let postings = encode(*self.entries.allocator(), addresses)?;
+        self.push_list(term, postings)
+    }
+
+    /// Puts a term behind the others with postings that are handed over.
+    pub fn push_list(&mut self, term: &[u8], postings: PostingList) -> Result<(), AllocError>
+        requires rising { IfSome (last_entry self.old.table) (λ last. ComesBefore last.term term.now) }
+        requires postings { ArePostingsIn self.old.range postings }
+        requires apart { AllByRecursion (λ entry. AreApart entry.addresses postings) self.old.table }
+        ensures ok { OnOk result (self.new ≡ record self.old { table = self.old.table ++ record { term = term.now; addresses = postings } ∷ [] }) }
+        ensures err { OnErr result (self.new ≡ self.old) }
+    {
         let alloc = *self.entries.allocator();
-        let postings = encode(alloc, addresses)?;
         let term = Bytes::copy_of(alloc, term)?;
         self.entries.push(Entry { term, postings })?;
         Ok(())

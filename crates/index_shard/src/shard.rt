@@ -1,9 +1,10 @@
-ghost use Rattle.std.specs.Prelude.{◌≡◌, ◌+◌, ◌<◌, length, map, Some, slice_get};
-ghost use Rattle.index_shard.specs.Tables.{IsShard, TermEntry};
-ghost use Rattle.index_shard.specs.Searched.{nearest, look_up};
+ghost use Rattle.std.specs.Prelude.{◌≡◌, ◌+◌, ◌<◌, length, map, MatchOption, None, Some, slice_get};
+ghost use Rattle.index_shard.specs.Tables.{IsShard, TermEntry, postings_of, addresses_at, place_of, least_term};
+ghost use Rattle.index_shard.specs.Searched.{look_up};
+ghost use Rattle.posting_access.specs.Search.{RisesByDigits};
 
 use crate::direction::Direction;
-use crate::entry::{Entry, find_entry};
+use crate::entry::{Entry, find_place, find_postings, place_from, postings_at};
 use crate::walk::Walk;
 use address_space::Range;
 use gcl_model::{Ledger, NoLedger, Steps};
@@ -51,9 +52,46 @@ impl Shard {
         ensures step { steps.new ≡ steps.old + 1 }
         ensures shard { IsShard self.now }
     {
+        unprobed::<L, Brand>(self, term, k, direction, steps, Blank::new(1))
+    }
+
+    /// The same, with the probes of first addresses counted beside the step.
+    pub fn look_up_probed<L: Ledger, P: Ledger>(
+        &self,
+        term: &[u8],
+        k: u64,
+        direction: Direction,
+        steps: &mut Steps<L>,
+        probes: &mut Steps<P>,
+    ) -> Option<u64>
+        ensures answer { result ≡ look_up self.now.table term.now k direction }
+        ensures step { steps.new ≡ steps.old + 1 }
+        ensures probes { RisesByDigits (length (postings_of self.now.table term.now)) probes.old probes.new }
+        ensures shard { IsShard self.now }
+    {
         steps.tick();
-        let entry = find_entry(&self.entries, term)?;
-        search::<Brand>(&entry.postings, k, direction, Blank::new(1))
+        let list = find_postings(&self.entries, term)?;
+        match direction {
+            Direction::Forward => at_or_after(list, k, probes),
+            Direction::Backward => at_or_before(list, k, probes),
+        }
+    }
+
+    /// The place of a term, counted from 0 in rising byte order. It is no step.
+    pub fn place(&self, term: &[u8]) -> Option<usize>
+        ensures value { result ≡ place_of self.now.table term.now }
+        ensures shard { IsShard self.now }
+    {
+        find_place(&self.entries, term)
+    }
+
+    /// The postings of the term at a place.
+    pub fn postings(&self, place: usize) -> &PostingList
+        requires { place < length self.now.table }
+        ensures value { result.now ≡ addresses_at self.now.table place }
+        ensures shard { IsShard self.now }
+    {
+        postings_at(&self.entries, place)
     }
 
     /// The number of terms.
@@ -74,6 +112,20 @@ impl Shard {
         entry.term.as_slice()
     }
 
+    /// The least term that is at least `low`, or above it with `strict`.
+    pub fn term_from(&self, low: &[u8], strict: bool) -> Option<&[u8]>
+        ensures value { MatchOption result (least_term self.now.table low.now strict ≡ None) (λ term. least_term self.now.table low.now strict ≡ Some term.now) }
+        ensures shard { IsShard self.now }
+    {
+        let place = place_from(&self.entries, low, strict);
+        if place < self.entries.len() {
+            let entry = &self.entries[place];
+            Some(entry.term.as_slice())
+        } else {
+            None
+        }
+    }
+
     /// The postings of the term at place `i`, from the first on.
     pub fn walk(&self, i: usize) -> Walk<'_>
         requires { i < length self.now.table }
@@ -85,21 +137,22 @@ impl Shard {
     }
 }
 
-/// The probes of a look-up are counted apart from its one step, and kept nowhere.
-fn search<B: ledger::Ledger>(
-    list: &PostingList,
+/// A look-up whose probes are counted apart and kept nowhere.
+fn unprobed<L: Ledger, B: ledger::Ledger>(
+    shard: &Shard,
+    term: &[u8],
     k: u64,
     direction: Direction,
+    steps: &mut Steps<L>,
     blank: Blank,
 ) -> Option<u64>
     requires name { blank.name ≡ B.name }
     requires parts { blank.parts ≡ B.parts }
     requires some { 0 < blank.parts }
-    ensures { result ≡ nearest direction list.now k }
+    ensures answer { result ≡ look_up shard.now.table term.now k direction }
+    ensures step { steps.new ≡ steps.old + 1 }
+    ensures shard { IsShard shard.now }
 {
     let mut probes = Steps::<NoLedger<B>>::open(blank);
-    match direction {
-        Direction::Forward => at_or_after(list, k, &mut probes),
-        Direction::Backward => at_or_before(list, k, &mut probes),
-    }
+    shard.look_up_probed(term, k, direction, steps, &mut probes)
 }
