@@ -4,12 +4,14 @@
 //! that `build` makes are these, and its range is these addresses.
 //!
 //! The layer above gives the next free address and a file's tokens. From address 0 on, the shard of `to be or not to be`
-//! has `to` at 1 and 5, and `</file!>` at 7.
+//! has `to` at 1 and 5, and `</file!>` at 7. Any `Tokens` will do: a list of tokens, or a text that was cut.
 #![tactic(auto)]
 
 mod group;
 mod making;
+mod source;
 #[cfg(test)]
 mod tests;
 
-pub use making::build;
+pub use making::{build, build_from};
+pub use source::Tokens;

@@ -7,8 +7,8 @@ use Rattle.shard_build.specs.Groups.{group_of}
 use Rattle.shard_build.proofs.group.group_by_token.Given as goal
 
 -- the groups are those of `<file!>` and the tokens so far
-abbrev pub invariant-loop-token : goal.invariant-loop-token
-invariant-loop-token l = record {
-  counted : l.address ≡ l.base + l.token-index;
-  grouped : (cs : List ℕ) → option_map (λ addresses. addresses.items) (get_by (λ k. slice_cmp nat_cmp cs k.now) l.groups) ≡ group_of (words_from l.base (file_start ∷ take l.token-index l.tokens)) cs;
+abbrev pub invariant-loop-i : goal.invariant-loop-i
+invariant-loop-i g l = record {
+  counted : l.address ≡ l.base + l.i;
+  grouped : (cs : List ℕ) → option_map (λ addresses. addresses.items) (get_by (λ k. slice_cmp nat_cmp cs k.now) l.groups) ≡ group_of (words_from l.base (file_start ∷ take l.i (g.T.Tokens.tokens l.tokens))) cs;
 }
