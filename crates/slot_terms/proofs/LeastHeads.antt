@@ -1,0 +1,80 @@
+-- The least of the first terms of the parts.
+use Rattle.std.proofs.Common.{nat_cmp, Ordering, subst, ◌≡◌, ◌⊎◌, ℕ, true, false, List, [], ◌∷◌, ◌++◌, Option, Some, None, inl, inr, refl, sym, ap, ◌∙◌}
+use denote.Ref.{Bor}
+use Rattle.std.specs.Option.{option_map, IfSome}
+use Rattle.std.proofs.lemmas.Bool.{or_cases, or_left, or_right}
+use Rattle.std.proofs.lemmas.Slice.Eq.{bytes_eq-Decides}
+use Rattle.std.specs.declared.cmp.Ordering.TheVariants.{Less, Equal, Greater}
+use Rattle.std.specs.Ordering.{ordering_reverse}
+use Rattle.std.specs.Cmp.Lexicographic.{slice_cmp}
+use Rattle.std.specs.List.{AllByRecursion, list_any}
+use Rattle.std.proofs.lemmas.Cmp.{nat_list_cmp_total}
+use Rattle.std.proofs.lemmas.Map.Lookups.{exact_bytes}
+use Rattle.index_shard.specs.Tables.{TermEntry, ComesBefore}
+use Rattle.index_shard.proofs.TableLaws.{all_push}
+use Rattle.slot_terms.specs.Parts.{PartContent, head_term, is_headed, IsNoLater}
+
+-- of two terms, the second where the first is greater
+pub greater_first : (a b : List ℕ) → slice_cmp nat_cmp a b ≡ Greater → IsNoLater (Some b) (Some a)
+greater_first a b is = inr (nat_list_cmp_total.antisymm b a ∙ ap ordering_reverse is)
+
+pub not_greater : (a b : List ℕ) (o : Ordering) → slice_cmp nat_cmp a b ≡ o → (o ≡ Greater → ⊥) → IsNoLater (Some a) (Some b)
+not_greater a b Less is other = inr is
+not_greater a b Equal is other = inl (exact_bytes a b is)
+not_greater a b Greater is other = absurd (other refl)
+
+pub no_later_itself : (o : Option (List ℕ)) → IsNoLater o o
+no_later_itself None = tt
+no_later_itself (Some term) = inl refl
+
+no_later_trans : (a b c : Option (List ℕ)) → IsNoLater a b → IsNoLater b c → IsNoLater a c
+no_later_trans a b None ab bc = tt
+no_later_trans a None (Some z) ab bc = absurd bc
+no_later_trans None (Some y) (Some z) ab bc = absurd ab
+no_later_trans (Some x) (Some y) (Some z) ab bc =
+    elim ab [
+      | inl same ↦ subst (λ t. IsNoLater (Some t) (Some z)) (sym same) bc
+      | inr before ↦ elim bc [
+        | inl same ↦ inr (subst (ComesBefore x) same before)
+        | inr after ↦ inr (nat_list_cmp_total.trans x y z before after)
+      ]
+    ]
+
+-- no part has a lesser first term, and one has this
+pub record IsLeastOf (least : Option (List ℕ)) (parts : List PartContent) : Type 0 where
+  pub first : AllByRecursion (λ part. IsNoLater least (head_term part.left)) parts
+  pub member : (term : List ℕ) → least ≡ Some term → list_any (λ part. is_headed part.left term) parts ≡ true
+
+-- one part more
+pub least_more : (least after : Option (List ℕ)) (parts : List PartContent) (part : PartContent) → IsLeastOf least parts → IsNoLater after least → IsNoLater after (head_term part.left) →
+    (after ≡ least) ⊎ (after ≡ head_term part.left) → IsLeastOf after (parts ++ part ∷ [])
+least_more least after parts part of before here among = record {
+  first = all_push (λ p. IsNoLater after (head_term p.left)) parts part (all_later parts of.first) here;
+  member = λ term is. elim among [
+    | inl same ↦ any_push parts term (of.member term (sym same ∙ is))
+    | inr same ↦ any_last parts term (headed part.left term (sym same ∙ is))
+  ];
+}
+  where
+    all_later : (ps : List PartContent) → AllByRecursion (λ p. IsNoLater least (head_term p.left)) ps → AllByRecursion (λ p. IsNoLater after (head_term p.left)) ps
+    all_later [] all = tt
+    all_later (p ∷ ps) all = (no_later_trans after least (head_term p.left) before all.0, all_later ps all.1)
+
+    headed : (left : List TermEntry) (term : List ℕ) → head_term left ≡ Some term → is_headed left term ≡ true
+    headed [] term is = absurd cc
+    headed (e ∷ es) term is = let same : e.term ≡ term = cc in (bytes_eq-Decides e.term term).1 same
+
+    any_push : (ps : List PartContent) (term : List ℕ) → list_any (λ p. is_headed p.left term) ps ≡ true → list_any (λ p. is_headed p.left term) (ps ++ part ∷ []) ≡ true
+    any_push [] term any = absurd cc
+    any_push (p ∷ ps) term any = elim (or_cases (is_headed p.left term) (list_any (λ q. is_headed q.left term) ps) any) [
+      | inl h ↦ or_left (is_headed p.left term) _ h
+      | inr h ↦ or_right (is_headed p.left term) _ (any_push ps term h)
+    ]
+
+    any_last : (ps : List PartContent) (term : List ℕ) → is_headed part.left term ≡ true → list_any (λ p. is_headed p.left term) (ps ++ part ∷ []) ≡ true
+    any_last [] term h = or_left (is_headed part.left term) false h
+    any_last (p ∷ ps) term h = or_right (is_headed p.left term) _ (any_last ps term h)
+
+pub if_some_now : (P : List ℕ → Type 0) (o : Option (Bor (List ℕ))) → ((term : List ℕ) → option_map (λ (t : Bor (List ℕ)). t.now) o ≡ Some term → P term) → IfSome o (λ t. P t.now)
+if_some_now P None holds = tt
+if_some_now P (Some t) holds = holds t.now refl

@@ -1,0 +1,5 @@
+pub mod Heads
+pub mod LeastHeads
+pub mod LivePostings
+pub mod Loops
+pub mod Passing

@@ -1,0 +1,45 @@
+use Rattle.std.proofs.Common.{◌≡◌, ◌+◌, ◌++◌, true, false, drop, refl, sym, ap, ◌∙◌, arith, subst}
+use Rattle.std.proofs.lemmas.List.{append-nil}
+use Rattle.slot_terms.specs.Parts.{PartContent, alive, is_headed, head_postings, past}
+use Rattle.slot_terms.proofs.LivePostings.{walk_rises}
+use Rattle.slot_terms.proofs.Heads.{part_content, headed_at, headed_postings, headed_behind, unheaded_past, unheaded_postings, unheaded_behind}
+use Rattle.slot_terms.proofs.part.Part.take.Goals as goal
+use Rattle.slot_terms.proofs.part.Part.take.Goals.{else-self-term_count-via-then-self-term_count+else-eq, else-self-term_count-via-else-self-term_count}
+
+pub put_live-requires-clause-rising : goal.put_live-requires-clause-rising
+put_live-requires-clause-rising c =
+    let shard = c.self.inside.shard.now in
+    (shard.range.first, shard.range.last + 1, walk_rises shard.range shard.table c.self.inside.next c.walk-walk.result c.walk-walk.ensures.shard.table c.walk-walk.ensures.value)
+
+pub returns-in_ok-put_live : goal.returns-in_ok-put_live
+returns-in_ok-put_live c =
+    let table = c.self.inside.shard.now.table in
+    let next = c.self.inside.next in
+    let term = c.args.term.now in
+    let out = c.args.addresses.now.items in
+    let headed : is_headed (drop next table) term ≡ true = headed_at table next c.term.result.now term c.term.ensures.value ∙ sym c.eq.ensures ∙ c.if-eq.true in
+    record {
+      addresses =
+          c.in_ok-put_live.ensures
+          ∙ ap (λ l. out ++ alive c.self.inside.mask.now l) (sym (headed_postings table next term c.walk-walk.result headed c.walk-walk.ensures.value))
+          ∙ ap (λ (p : PartContent). out ++ alive p.mask (head_postings p.left term)) c.self.view_is;
+      past = ap (part_content c.self.inside.mask.now) (sym (headed_behind table next (next + 1) term refl headed)) ∙ ap (past term) c.self.view_is;
+    }
+
+pub returns-else-self-term_count : goal.returns-else-self-term_count
+returns-else-self-term_count c =
+    let table = c.self.inside.shard.now.table in
+    let next = c.self.inside.next in
+    let term = c.args.term.now in
+    let part = c.args.self.now in
+    let out = c.args.addresses.now.items in
+    let unheaded : is_headed part.left term ≡ false =
+    subst (λ (p : PartContent). is_headed p.left term ≡ false) c.self.view_is
+    (elim c.else-self-term_count.branch [
+      | else-self-term_count-via-then-self-term_count+else-eq w ↦ headed_at table next w.term.result.now term w.term.ensures.value ∙ sym w.eq.ensures ∙ w.if-eq.false
+      | else-self-term_count-via-else-self-term_count w ↦ unheaded_past table next term (omega arith)
+    ]) in
+    record {
+      addresses = sym (ap (λ l. out ++ alive part.mask l) (unheaded_postings part.left term unheaded) ∙ append-nil out);
+      past = ap (part_content part.mask) (sym (unheaded_behind part.left term unheaded));
+    }

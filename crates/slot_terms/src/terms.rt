@@ -1,0 +1,113 @@
+ghost use Rattle.std.specs.Prelude.{◌≡◌, List, ℕ, [], ◌++◌, ◌⊎◌, true, map, flat_map, option_map, IfOk, OnOk, IfSome, IsNone};
+ghost use Rattle.std.specs.List.{AllByRecursion, list_any};
+ghost use Rattle.slot_terms.specs.Parts.{IsNext, IsNoLater, IsPart, alive, head_term, head_postings, is_headed, part_of, past, postings_left};
+
+use crate::part::Part;
+use live_version::Slot;
+use std::alloc::{AllocError, Global};
+use std::cmp::Ordering;
+use std::marker::Model;
+
+/// The terms of some slots that are still to come.
+#[derive(Drop)]
+pub struct SlotTerms<'a> {
+    parts: Vec<Part<'a>>,
+}
+
+impl<'a> Model for SlotTerms<'a> {
+    ghost use Rattle.std.specs.Prelude.{List};
+    ghost use Rattle.slot_terms.specs.Parts.{PartContent};
+
+    ghost Value = { List PartContent };
+
+    ghost view = { λ t. t.parts.items };
+}
+
+impl<'a> SlotTerms<'a> {
+    /// All terms of the slots are still to come.
+    pub fn new(alloc: Global, slots: &'a [Slot]) -> Result<SlotTerms<'a>, AllocError>
+        ensures value { IfOk result (λ terms. terms ≡ map part_of slots.now) }
+        ensures parts { IfOk result (λ terms. AllByRecursion IsPart terms) }
+    {
+        let mut parts = Vec::with_capacity(alloc, slots.len())?;
+        for slot in slots {
+            parts.push(Part::new(slot.shard(), slot.mask()))?;
+        }
+        Ok(SlotTerms { parts })
+    }
+
+    /// The next term, and its live postings in place of the addresses: none where all of them are dead. After an Err nothing is known of
+    /// what is still to come.
+    pub fn next(&mut self, addresses: &mut Vec<u64>) -> Result<Option<&'a [u8]>, AllocError>
+        requires { AllByRecursion IsPart self.old }
+        ensures next { IfOk result (λ found. IfSome found (λ term. IsNext self.old term.now addresses.new.items)) }
+        ensures past { IfOk result (λ found. IfSome found (λ term. self.new ≡ map (past term.now) self.old)) }
+        ensures parts { IfOk result (λ found. AllByRecursion IsPart self.new) }
+        ensures none { IfOk result (λ found. IsNone found → (term : List ℕ) → postings_left self.old term ≡ []) }
+    {
+        if let Some(term) = self.least() {
+            self.take(term, addresses)?;
+            return Ok(Some(term));
+        }
+        Ok(None)
+    }
+
+    fn least(&self) -> Option<&'a [u8]>
+        ensures least { AllByRecursion (λ part. IsNoLater (option_map (λ term. term.now) result) (head_term part.left)) self.now }
+        ensures member { IfSome result (λ term. list_any (λ part. is_headed part.left term.now) self.now ≡ true) }
+    {
+        least_head(self.parts.as_slice())
+    }
+
+    fn take(&mut self, term: &[u8], addresses: &mut Vec<u64>) -> Result<(), AllocError>
+        ensures addresses { OnOk result (addresses.new.items ≡ flat_map (λ part. alive part.mask (head_postings part.left term.now)) self.old) }
+        ensures past { OnOk result (self.new ≡ map (past term.now) self.old) }
+    {
+        addresses.clear();
+        take_term(self.parts.as_mut_slice(), term, addresses)?;
+        Ok(())
+    }
+}
+
+/// Goes past the term in each part, and puts its live postings behind the addresses.
+fn take_term(
+    parts: &mut [Part<'_>],
+    term: &[u8],
+    addresses: &mut Vec<u64>,
+) -> Result<(), AllocError>
+    ensures addresses { OnOk result (addresses.new.items ≡ addresses.old.items ++ flat_map (λ part. alive part.mask (head_postings part.left term.now)) parts.old) }
+    ensures past { OnOk result (parts.new ≡ map (past term.now) parts.old) }
+{
+    for part in parts.iter_mut() {
+        part.take(term, addresses)?;
+    }
+    Ok(())
+}
+
+/// The least term that is still to come.
+fn least_head<'a>(parts: &[Part<'a>]) -> Option<&'a [u8]>
+    ensures least { AllByRecursion (λ part. IsNoLater (option_map (λ term. term.now) result) (head_term part.left)) parts.now }
+    ensures member { IfSome result (λ term. list_any (λ part. is_headed part.left term.now) parts.now ≡ true) }
+{
+    let mut least = None;
+    for part in parts {
+        least = earlier(least, part.head());
+    }
+    least
+}
+
+/// The lesser of two terms.
+fn earlier<'a>(first: Option<&'a [u8]>, second: Option<&'a [u8]>) -> Option<&'a [u8]>
+    ensures first { IsNoLater (option_map (λ term. term.now) result) (option_map (λ term. term.now) first.entry) }
+    ensures second { IsNoLater (option_map (λ term. term.now) result) (option_map (λ term. term.now) second.entry) }
+    ensures among { (option_map (λ term. term.now) result ≡ option_map (λ term. term.now) first.entry) ⊎ (option_map (λ term. term.now) result ≡ option_map (λ term. term.now) second.entry) }
+{
+    match (first, second) {
+        (Some(a), Some(b)) => match a.cmp(b) {
+            Ordering::Greater => second,
+            _ => first,
+        },
+        (None, _) => second,
+        (_, None) => first,
+    }
+}
