@@ -7,30 +7,40 @@
 use gcl_model::Bytes;
 use outside::FreeGate;
 use outside_std::{StdFiles, StdSink, StdSource};
-use query_run::{Status, run};
+use query_run::{SCRIPT_MOST, Status, run};
+use std::alloc::{AllocError, Global};
 use std::env;
-use std::env::Env;
+use std::env::{Args, Env};
+use std::io::ErrorKind;
 use std::process::ExitCode;
 
-// What the command line comes to, before a run.
+// Why the words of the command line were not read.
 enum WordFault {
-    Usage,
+    NotText,
     NoMemory,
 }
 
-// The words after the program's name.
+impl From<AllocError> for WordFault {
+    fn from(_: AllocError) -> Self {
+        WordFault::NoMemory
+    }
+}
+
+// The words of the command line.
 fn words<R: Env + AllocGlobal>(rt: &R) -> Result<Vec<Bytes>, WordFault> {
-    let mut words = Vec::new(rt.alloc());
-    let Ok(args) = env::args(rt) else {
-        return Err(WordFault::Usage);
+    let args = match env::args(rt) {
+        Ok(args) => args,
+        Err(fault) if fault.kind() == ErrorKind::OutOfMemory => return Err(WordFault::NoMemory),
+        Err(_) => return Err(WordFault::NotText),
     };
+    Ok(copied(rt.alloc(), args)?)
+}
+
+// Copies of the words after the program's name.
+fn copied(alloc: Global, args: Args) -> Result<Vec<Bytes>, AllocError> {
+    let mut words = Vec::new(alloc);
     for word in args.skip(1) {
-        let Ok(bytes) = Bytes::copy_of(rt.alloc(), word.as_bytes()) else {
-            return Err(WordFault::NoMemory);
-        };
-        if words.push(bytes).is_err() {
-            return Err(WordFault::NoMemory);
-        }
+        words.push(Bytes::copy_of(alloc, word.as_bytes())?)?;
     }
     Ok(words)
 }
@@ -46,24 +56,36 @@ fn wrong_word(words: &[Bytes]) -> &[u8] {
     }
 }
 
-// What a status says of itself, in one line, and of which word or file.
-fn explain(status: Status) -> Option<&'static str> {
-    match status {
-        Status::Done | Status::DoneWithRefusals => None,
-        Status::Usage => Some("usage: gclq [--first ADDRESS], not"),
-        Status::ReadFault => Some("the script could not be read"),
-        Status::WriteFault => Some("the answers could not be written"),
-        Status::FileFault => Some("a file could not be read:"),
-        Status::NoMemory => Some("out of memory"),
-        Status::ScriptTooLong => Some("the script has more than 4294967296 bytes"),
-    }
+// One line on standard error for each status from 2 on, with the word or the name that it is about.
+fn tell<R: Eprint>(rt: &R, status: Status, about: &[u8]) {
+    let about = str::from_utf8(about).unwrap_or("");
+    let _ = match status {
+        Status::Done | Status::DoneWithRefusals => Ok(()),
+        Status::Usage => eprintln!(rt;
+            "gclq: unexpected word `{about}`; usage: gclq [--first ADDRESS]"
+        ),
+        Status::ReadFault => eprintln!(rt; "gclq: the script could not be read"),
+        Status::WriteFault => eprintln!(rt; "gclq: the answers could not be written"),
+        Status::FileFault if about.is_empty() => eprintln!(rt; "gclq: a file could not be read"),
+        Status::FileFault => eprintln!(rt; "gclq: a file could not be read: {about}"),
+        Status::NoMemory => eprintln!(rt; "gclq: out of memory"),
+        Status::ScriptTooLong => eprintln!(rt;
+            "gclq: the script has more than {SCRIPT_MOST} bytes"
+        ),
+    };
 }
 
-// One line on standard error, with the word or the name that the status is about.
-fn tell<R: Eprint>(rt: &R, status: Status, about: &[u8]) {
-    let about = str::from_utf8(about).unwrap_or("(no text)");
-    if let Some(line) = explain(status) {
-        let _ = eprintln!(rt; "gclq: {line} {about}");
+// The exit status of a run that did not begin, with its line on standard error.
+fn refuse<R: Eprint>(rt: &R, fault: WordFault) -> Status {
+    match fault {
+        WordFault::NotText => {
+            let _ = eprintln!(rt; "gclq: a word is not UTF-8; usage: gclq [--first ADDRESS]");
+            Status::Usage
+        }
+        WordFault::NoMemory => {
+            tell(rt, Status::NoMemory, b"");
+            Status::NoMemory
+        }
     }
 }
 
@@ -71,8 +93,7 @@ fn main(rt: HostRuntime) -> ExitCode {
     let alloc = rt.alloc();
     let words = match words(&rt) {
         Ok(words) => words,
-        Err(WordFault::Usage) => return ExitCode::from(Status::Usage.number()),
-        Err(WordFault::NoMemory) => return ExitCode::from(Status::NoMemory.number()),
+        Err(fault) => return ExitCode::from(refuse(&rt, fault).number()),
     };
     let mut files = StdFiles::new(&rt);
     let mut source = StdSource::new(rt.stdin());
