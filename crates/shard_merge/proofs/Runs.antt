@@ -17,9 +17,10 @@ use Rattle.gcl_model.proofs.WordLists.{places-append}
 use Rattle.gcl_model.proofs.Lists.{all_append, all_left, all_right, all_weaker}
 use Rattle.live_version.proofs.ChangeFiles.{run_left, run_right}
 use Rattle.live_version.specs.Changes.{IsSameLive, LiesInside, slots_at, whole_range}
-use Rattle.shard_merge.proofs.Loops.{flat_map_item}
+use Rattle.slot_terms.proofs.Loops.{flat_map_item}
 use Rattle.shard_merge.proofs.SameWords.{shard_has_words}
-use Rattle.shard_merge.specs.Parts.{PartContent, AreWordsOf, IsPart, part_of, postings_left}
+use Rattle.slot_terms.specs.Parts.{PartContent, IsPart, part_of, postings_left}
+use Rattle.shard_merge.specs.Merged.{AreWordsOf}
 
 -- the next file of a run goes behind those before it
 pub run_next : (xs ys : List FileEntry) (y : FileEntry) → IsFileRun (xs ++ y ∷ ys) → IfSome (last_file xs) (λ last. Precedes last y)

@@ -9,8 +9,9 @@ use Rattle.gcl_model.specs.Slots.{SlotRange}
 use Rattle.gcl_model.specs.Texts.{Word, places}
 use Rattle.index_shard.specs.Tables.{RiseWithin, TermEntry, ComesBefore, AreApart, ArePostingsIn, last_entry, postings_of}
 use Rattle.index_shard.proofs.TableLaws.{all_push}
-use Rattle.shard_merge.specs.Parts.{PartContent, alive, postings_left, IsPart, is_headed, head_postings, past, AreWordsOf, IsNoLater, head_term}
-use Rattle.shard_merge.proofs.Passing.{AllPartsAfter, NoneEarlier, before_differs, heads_postings, past_after, after_none_left, past_others, past_tables, past_keeps_after, member_after, none_left}
+use Rattle.slot_terms.specs.Parts.{PartContent, alive, postings_left, IsPart, is_headed, head_postings, past, IsNoLater, head_term, IsNext, NoneEarlier}
+use Rattle.shard_merge.specs.Merged.{AreWordsOf}
+use Rattle.slot_terms.proofs.Passing.{AllPartsAfter, before_differs, heads_postings, past_after, after_none_left, past_others, past_tables, past_keeps_after, member_after, none_left}
 use Rattle.shard_merge.proofs.SameWords.{places_apart}
 use Rattle.live_version.proofs.WordLemmas.{places_rise}
 
@@ -53,20 +54,6 @@ last_before (e ∷ d ∷ ds) term all = last_before (d ∷ ds) term all.1
 keep_after : (parts : List PartContent) (table : List TermEntry) (term : List ℕ) → AllByRecursion (λ e. AllPartsAfter e.term parts) table → AllByRecursion (λ e. AllPartsAfter e.term (map (past term) parts)) table
 keep_after parts [] term all = tt
 keep_after parts (e ∷ es) term all = (past_keeps_after parts term e.term all.0, keep_after parts es term all.1)
-
--- a term that is the least of what is still to come, and its live postings
-pub record IsNext (parts : List PartContent) (term addresses : List ℕ) : Type 0 where
-  pub least : NoneEarlier term parts
-  pub member : list_any (λ part. is_headed part.left term) parts ≡ true
-  pub all : addresses ≡ postings_left parts term
-
-pub next_of : (parts : List PartContent) (term cleared addresses : List ℕ) → AllByRecursion IsPart parts → NoneEarlier term parts → list_any (λ part. is_headed part.left term) parts ≡ true →
-    cleared ≡ [] → addresses ≡ cleared ++ flat_map (λ part. alive part.mask (head_postings part.left term)) parts → IsNext parts term addresses
-next_of parts term cleared addresses tables least member none put = record {
-  least = least;
-  member = member;
-  all = put ∙ ap (λ l. l ++ flat_map (λ part. alive part.mask (head_postings part.left term)) parts) none ∙ heads_postings parts term tables least;
-}
 
 -- nothing of the term was made yet
 whole_start : (start parts : List PartContent) (table : List TermEntry) (term addresses : List ℕ) → IsMerging start parts table → IsNext parts term addresses → addresses ≡ postings_left start term
@@ -147,6 +134,6 @@ no_addresses [] none = refl
 no_addresses (p ∷ ps) none = absurd (omega arith)
 
 -- the table has all, where nothing is left
-pub merged_all : (start parts : List PartContent) (table : List TermEntry) → IsMerging start parts table → AllByRecursion (λ part. IsNoLater None (head_term part.left)) parts →
+pub merged_all : (start parts : List PartContent) (table : List TermEntry) → IsMerging start parts table → ((term : List ℕ) → postings_left parts term ≡ []) →
     (term : List ℕ) → postings_of table term ≡ postings_left start term
-merged_all start parts table m none term = sym (append-nil (postings_of table term)) ∙ ap (λ l. postings_of table term ++ l) (sym (none_left parts term none)) ∙ m.together term
+merged_all start parts table m none term = sym (append-nil (postings_of table term)) ∙ ap (λ l. postings_of table term ++ l) (sym (none term)) ∙ m.together term

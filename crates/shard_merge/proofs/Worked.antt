@@ -5,7 +5,7 @@ use Rattle.gcl_model.specs.Texts.{Word}
 use Rattle.index_shard.specs.Tables.{TermEntry, ShardContent, words_of}
 use Rattle.live_version.specs.Contents.{SlotContent, slot_content, ranges_of, live_of}
 use Rattle.live_version.specs.Changes.{whole_range}
-use Rattle.shard_merge.specs.Parts.{part_of, postings_left, past}
+use Rattle.slot_terms.specs.Parts.{part_of, postings_left, past}
 
 abbrev entry : List ℕ → List ℕ → TermEntry
 entry term addresses = record { term = term; addresses = addresses }

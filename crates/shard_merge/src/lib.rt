@@ -8,10 +8,9 @@
 //! whose words are `<file!>` at 8 and `</file!>` at 9: no word moves to another address.
 #![tactic(auto)]
 
+mod merged;
 mod merging;
-mod part;
 mod records;
-mod terms;
 #[cfg(test)]
 mod tests;
 

@@ -1,15 +1,14 @@
-ghost use Rattle.std.specs.Prelude.{◌≡◌, ℕ, ◌+◌, ◌≤◌, [], ◌∷◌, length, map, IfOk, Some};
+ghost use Rattle.std.specs.Prelude.{◌≡◌, ℕ, ◌+◌, ◌≤◌, [], ◌∷◌, length, IfOk, Some};
 ghost use Rattle.gcl_model.specs.Slots.{AreRangesWithin};
 ghost use Rattle.index_shard.specs.Tables.{words_of};
 ghost use Rattle.live_version.specs.Contents.{ranges_of, files_of, live_of};
 ghost use Rattle.live_version.specs.Changes.{IsSameLive, LiesInside, slots_at, whole_range};
-ghost use Rattle.shard_merge.specs.Parts.{part_of};
 
-use crate::part::Part;
+use crate::merged::merge_terms;
 use crate::records::records_of;
-use crate::terms::merge_parts;
 use address_space::Range;
 use live_version::{Slot, Version};
+use slot_terms::SlotTerms;
 use std::alloc::{AllocError, Global};
 
 /// One slot in place of `count` slots from place `at` on. Each posting and each record is gone through once.
@@ -26,8 +25,8 @@ pub fn merge(alloc: Global, version: &Version, at: usize, count: usize) -> Resul
     let slots = &version.slots()[at..at + count];
     let range = range_of(slots);
     let files = records_of(alloc, slots)?;
-    let mut parts = parts_of(alloc, slots)?;
-    let shard = merge_parts(alloc, range, parts.as_mut_slice())?;
+    let mut terms = SlotTerms::new(alloc, slots)?;
+    let shard = merge_terms(alloc, range, &mut terms)?;
     Slot::new(alloc, range, shard, files)
 }
 
@@ -41,14 +40,4 @@ fn range_of(slots: &[Slot]) -> Range
         first: slots[0].range().first,
         last: slots[slots.len() - 1].range().last,
     }
-}
-
-fn parts_of<'a>(alloc: Global, slots: &'a [Slot]) -> Result<Vec<Part<'a>>, AllocError>
-    ensures { IfOk result (λ parts. parts.items ≡ map part_of slots.now) }
-{
-    let mut parts = Vec::with_capacity(alloc, slots.len())?;
-    for slot in slots {
-        parts.push(Part::new(slot.shard(), slot.mask()))?;
-    }
-    Ok(parts)
 }

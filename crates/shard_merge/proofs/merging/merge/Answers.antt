@@ -4,7 +4,8 @@ use Rattle.std.proofs.lemmas.Result.{IfOk-weaker}
 use Rattle.index_shard.specs.Tables.{words_of}
 use Rattle.live_version.specs.Contents.{LiesIn, SlotContent, is_of_files, files_of, live_of}
 use Rattle.live_version.specs.Changes.{IsSameLive, slots_at}
-use Rattle.shard_merge.specs.Parts.{IsPart, AreWordsOf}
+use Rattle.slot_terms.specs.Parts.{IsPart}
+use Rattle.shard_merge.specs.Merged.{AreWordsOf}
 use Rattle.shard_merge.proofs.Runs.{run_lent, range_of_run, files_lie, parts_are_tables, words_of_run, words_owned, merged_words, slots_lent, same_live}
 use Rattle.shard_merge.proofs.merging.merge.Goals as goal
 
@@ -18,36 +19,36 @@ records_of-requires c =
     let run = run_lent c.args.version.now c.slots.result.now c.args.at c.args.count (c.args.at + c.args.count - c.args.at) c.slots.ensures.version c.slots.ensures.value (omega arith) in
     run.files
 
-pub merge_parts-requires-clause-parts : goal.merge_parts-requires-clause-parts
-merge_parts-requires-clause-parts c =
+pub merge_terms-requires-clause-parts : goal.merge_terms-requires-clause-parts
+merge_terms-requires-clause-parts c =
     let run = run_lent c.args.version.now c.slots.result.now c.args.at c.args.count (c.args.at + c.args.count - c.args.at) c.slots.ensures.version c.slots.ensures.value (omega arith) in
-    subst (AllByRecursion IsPart) (sym (c.as_mut_slice.ensures.value ∙ c.in_ok-parts.ensures)) (parts_are_tables (take (c.args.at + c.args.count - c.args.at) (drop c.args.at c.slots.result.now)) run.all)
+    subst (AllByRecursion IsPart) (sym c.in_ok-terms.ensures.value) (parts_are_tables (take (c.args.at + c.args.count - c.args.at) (drop c.args.at c.slots.result.now)) run.all)
 
-pub merge_parts-requires-clause-words : goal.merge_parts-requires-clause-words
-merge_parts-requires-clause-words c =
+pub merge_terms-requires-clause-words : goal.merge_terms-requires-clause-words
+merge_terms-requires-clause-words c =
     let slots = take (c.args.at + c.args.count - c.args.at) (drop c.args.at c.slots.result.now) in
     let run = run_lent c.args.version.now c.slots.result.now c.args.at c.args.count (c.args.at + c.args.count - c.args.at) c.slots.ensures.version c.slots.ensures.value (omega arith) in
     let range = c.range_of-range.result in (
       live_of slots,
-      subst (λ parts. AreWordsOf range parts (live_of slots)) (sym (c.as_mut_slice.ensures.value ∙ c.in_ok-parts.ensures))
+      subst (λ parts. AreWordsOf range parts (live_of slots)) (sym c.in_ok-terms.ensures.value)
           (words_of_run range slots run (range_of_run slots range run c.range_of-range.ensures)),
     )
 
-pub new-requires-clause-files : goal.new-requires-clause-files
-new-requires-clause-files c =
+pub new-requires-2-clause-files : goal.new-requires-2-clause-files
+new-requires-2-clause-files c =
     let slots = take (c.args.at + c.args.count - c.args.at) (drop c.args.at c.slots.result.now) in
     let run = run_lent c.args.version.now c.slots.result.now c.args.at c.args.count (c.args.at + c.args.count - c.args.at) c.slots.ensures.version c.slots.ensures.value (omega arith) in
     let range = c.range_of-range.result in
     subst (AllByRecursion (LiesIn range)) (sym c.in_ok-files.ensures) (files_lie range slots run (range_of_run slots range run c.range_of-range.ensures))
 
-pub new-requires-clause-owned : goal.new-requires-clause-owned
-new-requires-clause-owned c =
+pub new-requires-2-clause-owned : goal.new-requires-2-clause-owned
+new-requires-2-clause-owned c =
     let slots = take (c.args.at + c.args.count - c.args.at) (drop c.args.at c.slots.result.now) in
     let run = run_lent c.args.version.now c.slots.result.now c.args.at c.args.count (c.args.at + c.args.count - c.args.at) c.slots.ensures.version c.slots.ensures.value (omega arith) in
     let range = c.range_of-range.result in
     let shard = c.in_ok-shard.shard in
     let words =
-    merged_words range slots c.as_mut_slice.result.now shard run c.range_of-range.ensures (c.as_mut_slice.ensures.value ∙ c.in_ok-parts.ensures) c.in_ok-shard.ensures.shard c.in_ok-shard.ensures.range
+    merged_words range slots c.in_ok-terms.terms shard run c.range_of-range.ensures c.in_ok-terms.ensures.value c.in_ok-shard.ensures.shard c.in_ok-shard.ensures.range
     c.in_ok-shard.ensures.postings in
     subst (λ ws. AllByRecursion (λ w. is_of_files c.in_ok-files.files w.address ≡ true) ws) (sym words)
     (subst (λ files. AllByRecursion (λ w. is_of_files files w.address ≡ true) (live_of slots)) (sym c.in_ok-files.ensures) (words_owned slots run.all))
@@ -59,11 +60,11 @@ returns-clause-words c =
     let run = run_lent c.args.version.now c.slots.result.now c.args.at c.args.count n c.slots.ensures.version c.slots.ensures.value (omega arith) in
     let shard = c.in_ok-shard.shard in
     let words =
-    merged_words c.range_of-range.result slots c.as_mut_slice.result.now shard run c.range_of-range.ensures (c.as_mut_slice.ensures.value ∙ c.in_ok-parts.ensures) c.in_ok-shard.ensures.shard
+    merged_words c.range_of-range.result slots c.in_ok-terms.terms shard run c.range_of-range.ensures c.in_ok-terms.ensures.value c.in_ok-shard.ensures.shard
     c.in_ok-shard.ensures.range c.in_ok-shard.ensures.postings in
     let same = slots_lent c.slots.result.now c.args.version.now.slots c.args.at c.args.count n c.slots.ensures.value (omega arith) in
-    IfOk-weaker c.new.result _ (λ slot. words_of slot.shard ≡ live_of (slots_at c.args.at c.args.count c.args.version.now.slots))
-    (λ slot is. ap (λ (s : SlotContent). words_of s.shard) is ∙ words ∙ ap live_of same) c.new.ensures.value
+    IfOk-weaker c.new-2.result _ (λ slot. words_of slot.shard ≡ live_of (slots_at c.args.at c.args.count c.args.version.now.slots))
+    (λ slot is. ap (λ (s : SlotContent). words_of s.shard) is ∙ words ∙ ap live_of same) c.new-2.ensures.value
 
 pub returns-clause-same : goal.returns-clause-same
 returns-clause-same c =
@@ -72,11 +73,11 @@ returns-clause-same c =
     let run = run_lent c.args.version.now c.slots.result.now c.args.at c.args.count n c.slots.ensures.version c.slots.ensures.value (omega arith) in
     let shard = c.in_ok-shard.shard in
     let words =
-    merged_words c.range_of-range.result slots c.as_mut_slice.result.now shard run c.range_of-range.ensures (c.as_mut_slice.ensures.value ∙ c.in_ok-parts.ensures) c.in_ok-shard.ensures.shard
+    merged_words c.range_of-range.result slots c.in_ok-terms.terms shard run c.range_of-range.ensures c.in_ok-terms.ensures.value c.in_ok-shard.ensures.shard
     c.in_ok-shard.ensures.range c.in_ok-shard.ensures.postings in
     let same = slots_lent c.slots.result.now c.args.version.now.slots c.args.at c.args.count n c.slots.ensures.value (omega arith) in
-    IfOk-weaker c.new.result _ (λ slot. IsSameLive (slots_at c.args.at c.args.count c.args.version.now.slots) (slot ∷ []))
+    IfOk-weaker c.new-2.result _ (λ slot. IsSameLive (slots_at c.args.at c.args.count c.args.version.now.slots) (slot ∷ []))
     (λ slot is.
     same_live (slots_at c.args.at c.args.count c.args.version.now.slots) slot (ap (λ (s : SlotContent). s.mask) is) (ap (λ (s : SlotContent). words_of s.shard) is ∙ words ∙ ap live_of same)
     (ap (λ (s : SlotContent). s.files) is ∙ c.in_ok-files.ensures ∙ ap files_of same))
-    c.new.ensures.value
+    c.new-2.ensures.value

@@ -1,0 +1,14 @@
+use Rattle.std.proofs.Common.{◌≡◌}
+use Rattle.slot_terms.specs.Parts.{entries_left}
+use Rattle.shard_merge.proofs.TermByTerm.{IsMerging}
+use Rattle.shard_merge.proofs.merged.merge_terms.Given as goal
+
+-- the maker has the terms so far, and the rest is still to come
+abbrev pub invariant-loop-addresses : goal.invariant-loop-addresses
+invariant-loop-addresses l = record {
+  range : l.maker.range ≡ l.fn.range;
+  merging : IsMerging l.fn.terms l.terms l.maker.table;
+}
+
+abbrev pub decreases-loop-addresses : goal.decreases-loop-addresses
+decreases-loop-addresses l = entries_left l.terms

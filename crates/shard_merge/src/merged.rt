@@ -1,0 +1,33 @@
+ghost use Rattle.std.specs.Prelude.{◌≡◌, List, ℕ, IfOk};
+ghost use Rattle.std.specs.List.{AllByRecursion};
+ghost use Rattle.gcl_model.specs.Texts.{Word};
+ghost use Rattle.index_shard.specs.Tables.{IsShard, postings_of};
+ghost use Rattle.slot_terms.specs.Parts.{IsPart, postings_left};
+ghost use Rattle.shard_merge.specs.Merged.{AreWordsOf};
+
+use address_space::Range;
+use index_shard::{Shard, ShardMaker};
+use slot_terms::SlotTerms;
+use std::alloc::{AllocError, Global};
+
+/// The shard of the terms that are still to come, but for those without a live posting.
+pub(crate) fn merge_terms(
+    alloc: Global,
+    range: Range,
+    terms: &mut SlotTerms<'_>,
+) -> Result<Shard, AllocError>
+    requires parts { AllByRecursion IsPart terms.old }
+    requires words { (words : List Word) × AreWordsOf range terms.old words }
+    ensures range { IfOk result (λ shard. shard.range ≡ range) }
+    ensures postings { IfOk result (λ shard. (term : List ℕ) → postings_of shard.table term ≡ postings_left terms.old term) }
+    ensures shard { IfOk result IsShard }
+{
+    let mut maker = ShardMaker::new(alloc, range);
+    let mut addresses = Vec::new(alloc);
+    while let Some(term) = terms.next(&mut addresses)? {
+        if !addresses.is_empty() {
+            maker.push_term(term, &addresses)?;
+        }
+    }
+    Ok(maker.finish())
+}
