@@ -1,8 +1,8 @@
 -- Where halving finds the range that an address may be in.
-use Rattle.std.proofs.Common.{subst, ◌≡◌, ℕ, zero, suc, ◌+◌, ◌^◌, ◌<◌, ◌≤◌, Bool, true, false, ◌&&◌, cond, leb, ltb, List, [], ◌∷◌, length, take, drop, get_or, le_refl, Option, Some, None, refl, sym, ap, ◌∙◌, arith, inl, inr, ◌⊎◌, ◌↔◌}
+use Rattle.std.proofs.Common.{subst, ◌≡◌, ℕ, zero, suc, ◌+◌, ◌<◌, ◌≤◌, Bool, true, false, ◌&&◌, cond, leb, ltb, List, [], ◌∷◌, length, take, drop, get_or, le_refl, Option, Some, None, refl, sym, ap, ◌∙◌, arith, inl, inr, ◌⊎◌, ◌↔◌}
 use Rattle.gcl_model.specs.Limits.{address_end}
 use Rattle.std.specs.List.{prefix_len, slice_get}
-use Rattle.std.specs.List.Sorted.{IsPartitionPoint, IsNonDecreasingBy}
+use Rattle.std.specs.List.Sorted.{IsNonDecreasingBy}
 use Rattle.std.proofs.lemmas.Bool.{cond_both, cond-true, cond-false, ltb-true, ltb-false, cases_lt, lt-ltb, le-ltb, le-leb, lt-leb, or_from}
 use Rattle.gcl_model.specs.Slots.{SlotRange, AreRangesWithin}
 use Rattle.delete_mask.specs.Masks.{is_within, is_dead, dead_range, IsApart}

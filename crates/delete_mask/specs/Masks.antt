@@ -1,5 +1,5 @@
 -- Ranges of addresses that are dead.
-use Rattle.std.specs.Prelude.{◌≡◌, ℕ, ◌+◌, ◌<◌, ◌≤◌, Bool, true, false, ◌&&◌, ◌==◌, nat_le, nat_lt, List, [], ◌∷◌, find, Option, if◌then◌else◌}
+use Rattle.std.specs.Prelude.{◌≡◌, ℕ, ◌+◌, Bool, true, false, ◌&&◌, ◌==◌, nat_le, nat_lt, List, [], ◌∷◌, find, Option, if◌then◌else◌}
 use Rattle.std.specs.List.{list_any}
 use Rattle.gcl_model.specs.Slots.{SlotRange, joined}
 

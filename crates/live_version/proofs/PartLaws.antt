@@ -1,18 +1,18 @@
 -- What a version has of the collection that it stands for, and what a slot has of its version.
-use Rattle.std.proofs.Common.{◌≡◌, ◌↔◌, ℕ, zero, suc, ◌+◌, ◌<◌, ◌≤◌, Bool, true, false, ◌||◌, cond, eqb, List, [], ◌∷◌, ◌++◌, map, filter, length, slice_get, Option, None, Some, IsSome, refl, sym, ap, ◌∙◌, subst, arith, append-nil}
+use Rattle.std.proofs.Common.{◌≡◌, ◌↔◌, ℕ, zero, suc, ◌+◌, ◌<◌, ◌≤◌, Bool, true, false, ◌||◌, cond, eqb, List, [], ◌∷◌, ◌++◌, map, filter, slice_get, Some, IsSome, refl, sym, ap, ◌∙◌, subst, arith, append-nil}
 use Rattle.std.specs.List.{AllByRecursion, list_any}
 use Rattle.std.proofs.lemmas.List.Elements.{filter-append}
 use Rattle.gcl_model.specs.Slots.{SlotRange, AreRangesWithin}
 use Rattle.gcl_model.specs.Texts.{Word, AreRisingBelow}
-use Rattle.gcl_model.specs.Collections.{Collection, File, words_of}
+use Rattle.gcl_model.specs.Collections.{File}
 use Rattle.gcl_model.proofs.Lists.{all_append, all_both, all_weaker, filter_kept, filter_gone}
 use Rattle.address_space.specs.Runs.{FileEntry, IsPlaced, IsFileRun}
 use Rattle.delete_mask.specs.Masks.{is_within}
 use Rattle.delete_mask.proofs.MaskLemmas.{is_within-inside, is_within-before, is_within-behind}
-use Rattle.live_version.specs.Contents.{SlotContent, VersionContent, IsSlot, IsVersion, LiesIn, live_words, live_of, files_of, ranges_of}
+use Rattle.live_version.specs.Contents.{SlotContent, IsSlot, LiesIn, live_words, live_of, files_of, ranges_of}
 use Rattle.live_version.specs.Changes.{file_with_id}
-use Rattle.live_version.specs.StandsFor.{StandsFor, entry_of}
-use Rattle.live_version.specs.Laws.{HasTextOf, HasFilesOf, WordsAreOfFiles, IsPartOf, SlotsArePartsOf}
+use Rattle.live_version.specs.StandsFor.{entry_of}
+use Rattle.live_version.specs.Laws.{HasTextOf, HasFilesOf, WordsAreOfFiles, SlotsArePartsOf}
 use Rattle.live_version.proofs.ChangeDelete.{placed_all}
 use Rattle.live_version.proofs.ChangeFiles.{run_left, run_right}
 use Rattle.live_version.proofs.WordLemmas.{no_live_words, live_words_rise, live_of_rise}

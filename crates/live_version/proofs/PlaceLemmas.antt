@@ -1,7 +1,6 @@
 -- Slots by their places: where those that end before an address, or begin up to it, end.
-use Rattle.std.proofs.Common.{◌≡◌, ℕ, zero, suc, ◌+◌, ◌<◌, ◌≤◌, Bool, true, false, List, [], ◌∷◌, length, get_or, refl, ap, arith, le_refl}
-use Rattle.std.specs.List.{prefix_len}
-use Rattle.std.specs.List.Sorted.{IsNonDecreasingBy, IsPartitionPoint}
+use Rattle.std.proofs.Common.{◌≡◌, ℕ, zero, suc, ◌+◌, ◌<◌, ◌≤◌, List, [], ◌∷◌, length, get_or, ap, arith, le_refl}
+use Rattle.std.specs.List.Sorted.{IsNonDecreasingBy}
 use Rattle.gcl_model.specs.Slots.{AreRangesWithin}
 use Rattle.live_version.specs.Contents.{SlotContent, ranges_of}
 

@@ -1,7 +1,6 @@
 -- When a range, an index, dead ranges and files are a slot.
-use Rattle.std.proofs.Common.{◌≡◌, Bool, true, List, [], ◌∷◌, filter, inl, inr, refl, sym, subst}
+use Rattle.std.proofs.Common.{◌≡◌, true, List, [], refl, sym, subst}
 use Rattle.std.specs.List.{AllByRecursion}
-use Rattle.std.proofs.lemmas.Bool.{cases_Bool}
 use Rattle.gcl_model.specs.Slots.{SlotRange}
 use Rattle.address_space.specs.Runs.{FileEntry}
 use Rattle.index_shard.specs.Tables.{ShardContent, IsShard, words_of}

@@ -1,8 +1,8 @@
 -- The ranges after an add, where slots at the end are made one and where none is; and how many the rule makes one, counted from the end.
-use Rattle.std.proofs.Common.{◌≡◌, ℕ, suc, ◌+◌, ◌-◌, ◌*◌, ◌<◌, ◌≤◌, true, false, cond, leb, List, [], ◌∷◌, ◌++◌, map, length, take, drop, reverse, get_or, Option, None, Some, refl, sym, ap, ◌∙◌, arith, length-append, append-nil, append_assoc}
+use Rattle.std.proofs.Common.{◌≡◌, ℕ, suc, ◌+◌, ◌-◌, ◌*◌, ◌<◌, true, false, cond, leb, List, [], ◌∷◌, ◌++◌, length, take, drop, reverse, get_or, Option, Some, sym, ap, ◌∙◌, arith, length-append, append-nil}
 use Rattle.std.specs.Option.{option_to_list}
 use Rattle.std.proofs.lemmas.List.{take_at, drop_at, map-append, take-map, drop-map, length-map, length-drop, reverse-append, take_all, drop_all}
-use Rattle.gcl_model.specs.Slots.{SlotRange, slot_range, slot_width, spanned, ranges_spanned, joined_count, slots_after_add, tail_count}
+use Rattle.gcl_model.specs.Slots.{SlotRange, slot_range, slot_width, spanned, ranges_spanned, joined_count, tail_count}
 use Rattle.address_space.proofs.TailLemmas.{tails_are_joined}
 use Rattle.live_version.specs.Contents.{SlotContent, ranges_of}
 use Rattle.live_version.specs.Changes.{slots_at, whole_range, AreSettledAlone, JoinsTail}

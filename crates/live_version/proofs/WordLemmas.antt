@@ -1,13 +1,10 @@
 -- The words of slots: they rise, and a look-up among them is one among the postings.
-use Rattle.std.proofs.Common.{◌≡◌, ℕ, zero, suc, ◌+◌, ◌<◌, ◌≤◌, Bool, true, not, cond, leb, ltb, List, [], ◌∷◌, ◌++◌, length, map, filter, find, take, drop, bytes_eq, Option, Some, None, inl, inr, refl, sym, ap, ◌∙◌, subst, arith, le_refl, get_or, slice_get, length-append}
+use Rattle.std.proofs.Common.{◌≡◌, ℕ, zero, suc, ◌+◌, ◌<◌, ◌≤◌, Bool, true, not, leb, ltb, List, [], ◌∷◌, ◌++◌, length, filter, find, take, drop, bytes_eq, Option, Some, None, inl, inr, refl, sym, ap, ◌∙◌, subst, arith, le_refl, get_or, slice_get, length-append}
 use Rattle.std.specs.List.{AllByRecursion, prefix_len}
 use Rattle.std.specs.Option.{option_or}
-use Rattle.std.proofs.lemmas.Bool.{true≢false, cases_Bool, leb-false, lt-leb, ltb-true}
-use Rattle.std.proofs.lemmas.List.{map-append, append-nil}
+use Rattle.std.proofs.lemmas.Bool.{true≢false, cases_Bool, leb-false, ltb-true}
+use Rattle.std.proofs.lemmas.List.{append-nil}
 use Rattle.std.proofs.lemmas.Grind.{flat_map-append}
-use Rattle.address_space.specs.Runs.{FileEntry}
-use Rattle.std.proofs.lemmas.List.Elements.{filter-append}
-use Rattle.std.proofs.lemmas.List.Folds.{find-append}
 use Rattle.gcl_model.specs.Limits.{most_slots}
 use Rattle.gcl_model.specs.Access.{find_last, later_or}
 use Rattle.gcl_model.specs.Slots.{SlotRange, slot_range, AreRangesWithin}
@@ -18,7 +15,6 @@ use Rattle.delete_mask.specs.Masks.{is_dead}
 use Rattle.live_version.specs.Contents.{SlotContent, VersionContent, IsSlot, IsVersion, is_of_files, live_words, live_of, ranges_of, dead_of, version_text}
 use Rattle.gcl_model.proofs.WordLists.{rising_earlier, rising_filter, rising_append, next_place-append, previous_place-append, none_next, none_previous}
 use Rattle.live_version.specs.LookUps.{is_alive, look_ups}
-use Rattle.live_version.proofs.LeapLemmas.{next_out, previous_out}
 
 pub places_rise : (next low : ℕ) (words : List Word) (term : List ℕ) → AreRisingBelow next low words → RiseWithin low next (places words term)
 places_rise next low [] term r = tt

@@ -1,5 +1,5 @@
 -- What a slot and a version are, and the words and files that they have.
-use Rattle.std.specs.Prelude.{◌≡◌, ℕ, ◌+◌, ◌^◌, ◌<◌, ◌≤◌, Bool, true, false, not, ◌&&◌, nat_le, nat_lt, List, length, map, filter, flat_map}
+use Rattle.std.specs.Prelude.{◌≡◌, ℕ, ◌+◌, ◌<◌, ◌≤◌, Bool, true, false, not, ◌&&◌, nat_le, nat_lt, List, length, map, filter, flat_map}
 use Rattle.gcl_model.specs.Limits.{address_end, most_slots}
 use Rattle.std.specs.List.{AllByRecursion, list_any}
 use Rattle.gcl_model.specs.Slots.{SlotRange, AreRangesWithin}

@@ -1,5 +1,5 @@
 -- What a merge has made so far, and what is still to come, are together what there was.
-use Rattle.std.proofs.Common.{◌≡◌, ℕ, ◌+◌, ◌<◌, true, false, List, [], ◌∷◌, ◌++◌, length, map, flat_map, bytes_eq, None, inl, inr, refl, sym, ap, ◌∙◌, subst, arith}
+use Rattle.std.proofs.Common.{◌≡◌, ℕ, ◌+◌, ◌<◌, true, false, List, [], ◌∷◌, ◌++◌, length, map, bytes_eq, inl, inr, refl, sym, ap, ◌∙◌, subst, arith}
 use Rattle.std.specs.List.{AllByRecursion, list_any}
 use Rattle.std.specs.Option.{IfSome}
 use Rattle.std.proofs.lemmas.Bool.{true≢false, cases_Bool}
@@ -9,9 +9,9 @@ use Rattle.gcl_model.specs.Slots.{SlotRange}
 use Rattle.gcl_model.specs.Texts.{Word, places}
 use Rattle.index_shard.specs.Tables.{RiseWithin, TermEntry, ComesBefore, AreApart, ArePostingsIn, last_entry, postings_of}
 use Rattle.index_shard.proofs.TableLaws.{all_push}
-use Rattle.slot_terms.specs.Parts.{PartContent, alive, postings_left, IsPart, is_headed, head_postings, past, IsNoLater, head_term, IsNext, NoneEarlier}
+use Rattle.slot_terms.specs.Parts.{PartContent, postings_left, IsPart, is_headed, past, IsNext}
 use Rattle.shard_merge.specs.Merged.{AreWordsOf}
-use Rattle.slot_terms.proofs.Passing.{AllPartsAfter, before_differs, heads_postings, past_after, after_none_left, past_others, past_tables, past_keeps_after, member_after, none_left}
+use Rattle.slot_terms.proofs.Passing.{AllPartsAfter, before_differs, past_after, after_none_left, past_others, past_tables, past_keeps_after, member_after}
 use Rattle.shard_merge.proofs.SameWords.{places_apart}
 use Rattle.live_version.proofs.WordLemmas.{places_rise}
 

@@ -1,4 +1,4 @@
-use Rattle.std.proofs.Common.{refl, sym, ap, ◌≡◌, ◌+◌, ◌∙◌, Some, None, arith}
+use Rattle.std.proofs.Common.{refl, sym, ap, ◌≡◌, ◌+◌, ◌∙◌, Some, arith}
 use Rattle.gcl_model.specs.Slots.{SlotRange, slot_range}
 use Rattle.gcl_model.specs.Texts.{next_place}
 use Rattle.index_shard.specs.Tables.{postings_of}

@@ -1,4 +1,4 @@
-use Rattle.std.proofs.Common.{◌≡◌, ◌+◌, ◌≤◌, [], slice_get, ap, sym, ◌∙◌, drop, arith}
+use Rattle.std.proofs.Common.{◌+◌, slice_get, ap, sym, ◌∙◌, drop, arith}
 use Rattle.std.proofs.lemmas.List.{drop_all}
 use Rattle.gcl_model.specs.Texts.{next_place}
 use Rattle.live_version.specs.Contents.{live_of}

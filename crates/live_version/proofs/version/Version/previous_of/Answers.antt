@@ -1,4 +1,4 @@
-use Rattle.std.proofs.Common.{◌≡◌, ◌+◌, ◌-◌, ◌≤◌, suc, [], length, slice_get, ap, sym, ◌∙◌, take, arith}
+use Rattle.std.proofs.Common.{◌≡◌, ◌-◌, suc, length, slice_get, ap, sym, ◌∙◌, take, arith}
 use Rattle.gcl_model.specs.Texts.{previous_place}
 use Rattle.live_version.specs.Contents.{live_of}
 use Rattle.live_version.specs.LookUps.{look_ups}

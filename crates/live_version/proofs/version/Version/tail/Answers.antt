@@ -1,4 +1,4 @@
-use Rattle.std.proofs.Common.{◌≡◌, ◌+◌, ◌-◌, ◌*◌, ◌<◌, ◌≤◌, suc, true, false, nat_le, length, List, take, reverse, Some, sym, ap, ◌∙◌, subst, arith}
+use Rattle.std.proofs.Common.{◌≡◌, ◌-◌, ◌*◌, ◌<◌, suc, true, false, nat_le, length, List, take, reverse, Some, sym, ap, ◌∙◌, subst, arith}
 use Rattle.gcl_model.specs.Slots.{SlotRange, slot_range, slot_width, joined_count, tail_count, AreRangesWithin}
 use Rattle.live_version.specs.Contents.{SlotContent, ranges_of}
 use Rattle.live_version.proofs.PlaceLemmas.{begins_before}

@@ -1,4 +1,4 @@
-use Rattle.std.proofs.Common.{◌≡◌, ◌+◌, [], ◌∷◌, ◌++◌, sym, ap, ◌∙◌, subst}
+use Rattle.std.proofs.Common.{◌+◌, [], ◌∷◌, ◌++◌, sym, ap, ◌∙◌, subst}
 use Rattle.gcl_model.specs.Collections.{with_file}
 use Rattle.live_version.specs.Contents.{VersionContent, IsVersion, ranges_of}
 use Rattle.live_version.specs.Changes.{version_with_file}

@@ -1,4 +1,4 @@
-use Rattle.std.proofs.Common.{◌≡◌, ◌+◌, ◌++◌, List, take, drop, sym, ap, ◌∙◌, subst}
+use Rattle.std.proofs.Common.{◌+◌, ◌++◌, List, take, drop, sym, ap, ◌∙◌, subst}
 use Rattle.std.specs.Option.{option_to_list}
 use Rattle.live_version.specs.Contents.{SlotContent, VersionContent, IsVersion}
 use Rattle.live_version.specs.Changes.{version_with_slot, IsSameLive, JoinsTail}

@@ -1,4 +1,4 @@
-use Rattle.std.proofs.Common.{◌≡◌, ◌+◌, List, sym, ap, ◌∙◌, subst}
+use Rattle.std.proofs.Common.{◌+◌, List, sym, ap, ◌∙◌, subst}
 use Rattle.gcl_model.specs.Collections.{without_file}
 use Rattle.live_version.specs.Contents.{SlotContent, VersionContent, IsVersion, ranges_of}
 use Rattle.live_version.specs.Changes.{version_without_file, KillsFile}

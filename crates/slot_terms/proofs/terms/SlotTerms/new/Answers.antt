@@ -1,8 +1,7 @@
-use Rattle.std.proofs.Common.{◌≡◌, ◌+◌, ◌++◌, ◌∷◌, [], map, take, sym, ap, ◌∙◌, subst}
+use Rattle.std.proofs.Common.{◌≡◌, ◌++◌, ◌∷◌, [], sym, ap, ◌∙◌, subst}
 use Rattle.std.specs.List.{AllByRecursion}
-use Rattle.index_shard.specs.Tables.{IsTable}
 use Rattle.index_shard.proofs.TableLaws.{all_push}
-use Rattle.slot_terms.specs.Parts.{PartContent, IsPart, part_of}
+use Rattle.slot_terms.specs.Parts.{IsPart, part_of}
 use Rattle.slot_terms.proofs.Loops.{map_item}
 use Rattle.slot_terms.proofs.terms.SlotTerms.new.Goals as goal
 
