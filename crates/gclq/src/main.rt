@@ -52,6 +52,7 @@ fn wrong_word(words: &[Bytes]) -> &[u8] {
         [word] => word.as_slice(),
         [option, value] if option.as_slice() == b"--first".as_slice() => value.as_slice(),
         [option, _, next, ..] if option.as_slice() == b"--first".as_slice() => next.as_slice(),
+        [option, next, ..] if option.as_slice().starts_with(b"--first=") => next.as_slice(),
         [option, ..] => option.as_slice(),
     }
 }
