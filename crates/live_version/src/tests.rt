@@ -15,6 +15,7 @@ use std::process::Abort;
 use std::test::Fail;
 
 /// Where a term is next and where it was last, seen from an address.
+#[derive(Drop)]
 struct Nearest<'a> {
     version: &'a Version,
     term: &'a [u8],
