@@ -3,6 +3,3 @@ use Rattle.reader_pass.proofs.tests.lists_as_many_as_are_wanted.Given as goal
 -- the ledger is the one of the counter that the call makes
 abbrev pub ghosts-listed : goal.ghosts-listed
 ghosts-listed g a = record { name = a.blank.name; parts = a.blank.parts }
-
-abbrev pub ghosts-listed-members : goal.ghosts-listed-members
-ghosts-listed-members g a = record { name = a.blank.name; parts = a.blank.parts }
