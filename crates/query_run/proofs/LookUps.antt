@@ -1,19 +1,17 @@
 -- Look-ups among the words of files: in which file, and where in it.
-use Rattle.std.proofs.Common.{◌≡◌, ℕ, Bool, codes, zero, suc, ◌+◌, ◌-◌, ◌≤◌, ◌<◌, true, false, leb, List, [], ◌∷◌, ◌++◌, map, filter, find, length, drop, take, get_or, Option, Some, None, inl, inr, ◌⊎◌, refl, sym, ap, ◌∙◌, arith, subst, bytes_eq, cond}
+use Rattle.std.proofs.Common.{◌≡◌, ℕ, codes, zero, suc, ◌+◌, ◌-◌, ◌≤◌, ◌<◌, true, false, leb, List, [], ◌∷◌, ◌++◌, length, drop, take, get_or, Option, Some, None, inl, inr, ◌⊎◌, refl, sym, ap, ◌∙◌, arith, subst, bytes_eq}
 use Rattle.std.specs.List.{AllByRecursion, prefix_len}
 use Rattle.std.specs.Option.{option_or}
 use Rattle.std.specs.Cmp.Lexicographic.{bytes_decides}
-use Rattle.std.proofs.lemmas.Bool.{leb-true, leb-false, le-leb, lt-leb, cases_Bool, or_cases}
-use Rattle.std.proofs.lemmas.List.{map-append, length-append, append-nil, length-take-le, take-append-drop, take_more, drop_all}
-use Rattle.std.proofs.lemmas.List.Elements.{filter-append}
-use Rattle.std.proofs.lemmas.List.Folds.{find-append}
+use Rattle.std.proofs.lemmas.Bool.{leb-true, leb-false, le-leb, cases_Bool, or_cases}
+use Rattle.std.proofs.lemmas.List.{length-append, append-nil, length-take-le, take-append-drop, take_more, drop_all}
 use Rattle.std.proofs.lemmas.Grind.{flat_map-append}
 use Rattle.std.proofs.Math.Seq.{drop-cons}
-use Rattle.gcl_model.specs.Access.{find_last, later_or}
+use Rattle.gcl_model.specs.Access.{later_or}
 use Rattle.gcl_model.specs.Texts.{Word, AreRisingBelow, places, next_place, previous_place}
 use Rattle.gcl_model.specs.Collections.{File, Collection, AreFilesFrom, IsToken, words_from, with_boundaries, width_of, file_start, file_end, is_boundary}
 use Rattle.gcl_model.specs.Tokens.{tokens_of}
-use Rattle.gcl_model.proofs.WordLists.{places-append, next_place-append, previous_place-append, none_next, none_previous}
+use Rattle.gcl_model.proofs.WordLists.{next_place-append, previous_place-append, none_next, none_previous}
 use Rattle.query_run.specs.Stored.{words_of_files, IsCountUpto}
 
 -- tokens at consecutive addresses rise
