@@ -6,8 +6,8 @@ use Rattle.std.proofs.lemmas.Bool.Decides.{nat_tests}
 use Rattle.gcl_model.specs.Extents.{Extent}
 use Rattle.address_space.specs.Runs.{FileEntry}
 use Rattle.script_lang.specs.declared.refusals.Refusal.{Refusal}
-use Rattle.script_lang.specs.declared.refusals.Refusal.TheVariants.{Command, LongLine, Query, NoFile, TooLong, NoAddresses}
-use Rattle.script_lang.specs.Answers.{file_line, gone_line, interval_line, total_line, record_line, refusal_line, is_refusal}
+use Rattle.script_lang.specs.declared.refusals.Refusal.TheVariants.{Command, LongLine, Query, NoFile, TooLong, NoAddresses, NotEmpty, NotImage}
+use Rattle.script_lang.specs.Answers.{file_line, gone_line, interval_line, total_line, record_line, merging_line, shards_line, saved_line, opened_line, refusal_line, is_refusal}
 
 -- a digit is no exclamation mark
 digit_glyph-plain : (d : ℕ) → (digit_glyph false d == 33) ≡ false
@@ -54,6 +54,18 @@ pub record_line-plain : (file : FileEntry) → is_refusal (record_line file) ≡
 record_line-plain file =
     simp append_assoc (decimal-plain file.id (codes " " ++ (decimal file.base ++ (codes " " ++ (decimal (file.base + file.len - 1) ++ (codes " " ++ file.name))))))
 
+pub merging_line-plain : is_refusal merging_line ≡ false
+merging_line-plain = refl
+
+pub shards_line-plain : (count : ℕ) → is_refusal (shards_line count) ≡ false
+shards_line-plain count = refl
+
+pub saved_line-plain : (bytes : ℕ) → is_refusal (saved_line bytes) ≡ false
+saved_line-plain bytes = refl
+
+pub opened_line-plain : (files : ℕ) → is_refusal (opened_line files) ≡ false
+opened_line-plain files = refl
+
 pub refusal_line-marked : (refusal : Refusal) → is_refusal (refusal_line refusal) ≡ true
 refusal_line-marked Command = refl
 refusal_line-marked LongLine = refl
@@ -61,3 +73,5 @@ refusal_line-marked (Query fault) = refl
 refusal_line-marked (NoFile id) = refl
 refusal_line-marked TooLong = refl
 refusal_line-marked NoAddresses = refl
+refusal_line-marked NotEmpty = refl
+refusal_line-marked NotImage = refl

@@ -2,8 +2,8 @@
 use Rattle.std.proofs.Common.{◌≡◌, refl, codes}
 use Rattle.gcl_model.specs.Extents.{extent}
 use Rattle.std.specs.Fmt.{digits}
-use Rattle.script_lang.specs.Answers.{file_line, gone_line, interval_line, total_line, record_line, refusal_line}
-use Rattle.script_lang.specs.declared.refusals.Refusal.TheVariants.{NoFile, Query}
+use Rattle.script_lang.specs.Answers.{file_line, gone_line, interval_line, total_line, record_line, merging_line, shards_line, saved_line, opened_line, refusal_line}
+use Rattle.script_lang.specs.declared.refusals.Refusal.TheVariants.{NoFile, NotEmpty, NotImage, Query}
 use Rattle.gcl_parser.specs.declared.fault.QueryKind.TheVariants.{OperatorOrCloseExpected}
 
 file-added : file_line 0 0 7 ≡ codes "file 0 0 7"
@@ -25,6 +25,27 @@ total-of_none = refl
 record-listed : record_line (record { id = 2; base = 10; len = 2; name = codes "a b" }) ≡ codes "2 10 11 a b"
 unfolding digits
 record-listed = refl
+
+merge-asked_for : merging_line ≡ codes "merging"
+merge-asked_for = refl
+
+shards-of_two : shards_line 2 ≡ codes "shards 2"
+unfolding digits
+shards-of_two = refl
+
+image-saved : saved_line 118 ≡ codes "saved 118"
+unfolding digits
+image-saved = refl
+
+image-opened : opened_line 0 ≡ codes "opened 0"
+unfolding digits
+image-opened = refl
+
+refusal-not_empty : refusal_line NotEmpty ≡ codes "! not empty"
+refusal-not_empty = refl
+
+refusal-not_image : refusal_line NotImage ≡ codes "! not an image"
+refusal-not_image = refl
 
 refusal-no_file : refusal_line (NoFile 3) ≡ codes "! no file 3"
 unfolding digits

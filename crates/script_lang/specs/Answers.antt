@@ -7,7 +7,7 @@ use Rattle.gcl_parser.specs.declared.fault.QueryFault.{QueryFault}
 use Rattle.gcl_parser.specs.declared.fault.QueryKind.{QueryKind}
 use Rattle.gcl_parser.specs.declared.fault.QueryKind.TheVariants.{OperandExpected, OperatorOrCloseExpected, EmptyTerm, BadWidth, OpenQuote, Character, TooLarge, TooDeep}
 use Rattle.script_lang.specs.declared.refusals.Refusal.{Refusal}
-use Rattle.script_lang.specs.declared.refusals.Refusal.TheVariants.{Command, LongLine, Query, NoFile, TooLong, NoAddresses}
+use Rattle.script_lang.specs.declared.refusals.Refusal.TheVariants.{Command, LongLine, Query, NoFile, TooLong, NoAddresses, NotEmpty, NotImage}
 
 -- "file ID FIRST LAST" of a file that was added
 abbrev pub file_line : ℕ → ℕ → ℕ → List ℕ
@@ -28,6 +28,22 @@ total_line total = codes "= " ++ decimal total
 -- "ID FIRST LAST NAME" of a surviving file
 abbrev pub record_line : FileEntry → List ℕ
 record_line file = decimal file.id ++ codes " " ++ decimal file.base ++ codes " " ++ decimal (file.base + file.len - 1) ++ codes " " ++ file.name
+
+-- "merging", once a merge is asked for
+abbrev pub merging_line : List ℕ
+merging_line = codes "merging"
+
+-- "shards N" of the number of slots
+abbrev pub shards_line : ℕ → List ℕ
+shards_line count = codes "shards " ++ decimal count
+
+-- "saved BYTES" of an image of this length that was kept
+abbrev pub saved_line : ℕ → List ℕ
+saved_line bytes = codes "saved " ++ decimal bytes
+
+-- "opened FILES" of an image with this number of files that was taken
+abbrev pub opened_line : ℕ → List ℕ
+opened_line files = codes "opened " ++ decimal files
 
 -- what is wrong with a query, in words
 abbrev pub kind_text : QueryKind → List ℕ
@@ -52,6 +68,8 @@ refusal_line (Query fault) = query_line fault
 refusal_line (NoFile id) = codes "! no file " ++ decimal id
 refusal_line TooLong = codes "! file too long"
 refusal_line NoAddresses = codes "! no addresses"
+refusal_line NotEmpty = codes "! not empty"
+refusal_line NotImage = codes "! not an image"
 
 -- the line begins with an exclamation mark: "! command" does, and "= 2" does not
 abbrev pub is_refusal : List ℕ → Bool

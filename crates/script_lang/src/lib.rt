@@ -24,7 +24,10 @@ pub use laws::refusals_are_marked;
 pub use line_cut::LineCut;
 pub use lines::line_at;
 pub use numbers::number_of;
-pub use put::{put_file, put_gone, put_interval, put_record, put_refusal, put_total};
+pub use put::{
+    put_file, put_gone, put_interval, put_merging, put_opened, put_record, put_refusal, put_saved,
+    put_shards, put_total,
+};
 pub use refusals::Refusal;
 
 #[cfg(test)]

@@ -1,5 +1,5 @@
 ghost use Rattle.std.specs.Prelude.{◌≡◌, [], ◌∷◌, ◌++◌, OnOk, decimal, codes};
-ghost use Rattle.script_lang.specs.Answers.{file_line, gone_line, interval_line, total_line, record_line, refusal_line, kind_text, query_line, Grows};
+ghost use Rattle.script_lang.specs.Answers.{file_line, gone_line, interval_line, total_line, record_line, merging_line, shards_line, saved_line, opened_line, refusal_line, kind_text, query_line, Grows};
 
 use crate::refusals::Refusal;
 use address_space::FileRecord;
@@ -99,6 +99,41 @@ pub fn put_record(out: &mut Vec<u8>, file: &FileRecord) -> Result<(), AllocError
     put_end(out, file.name.as_slice())
 }
 
+/// Appends the answer to a `merge`, `merging`.
+pub fn put_merging(out: &mut Vec<u8>) -> Result<(), AllocError>
+    ensures ok { OnOk result (out.new.items ≡ out.old.items ++ merging_line ++ 10 ∷ []) }
+    ensures grown { Grows out.old.items out.new.items }
+{
+    put_end(out, b"merging")
+}
+
+/// Appends the number of slots, as `shards 2`.
+pub fn put_shards(out: &mut Vec<u8>, count: u64) -> Result<(), AllocError>
+    ensures ok { OnOk result (out.new.items ≡ out.old.items ++ shards_line count ++ 10 ∷ []) }
+    ensures grown { Grows out.old.items out.new.items }
+{
+    put_text(out, b"shards ")?;
+    put_last(out, count)
+}
+
+/// Appends the answer to an accepted `save`, as `saved 118`: the length of the image.
+pub fn put_saved(out: &mut Vec<u8>, bytes: u64) -> Result<(), AllocError>
+    ensures ok { OnOk result (out.new.items ≡ out.old.items ++ saved_line bytes ++ 10 ∷ []) }
+    ensures grown { Grows out.old.items out.new.items }
+{
+    put_text(out, b"saved ")?;
+    put_last(out, bytes)
+}
+
+/// Appends the answer to an accepted `open`, as `opened 1`: the number of files of the image.
+pub fn put_opened(out: &mut Vec<u8>, files: u64) -> Result<(), AllocError>
+    ensures ok { OnOk result (out.new.items ≡ out.old.items ++ opened_line files ++ 10 ∷ []) }
+    ensures grown { Grows out.old.items out.new.items }
+{
+    put_text(out, b"opened ")?;
+    put_last(out, files)
+}
+
 // What is wrong with a query, in words.
 fn kind_text(kind: QueryKind) -> &'static [u8]
     ensures { result.now ≡ kind_text kind }
@@ -140,5 +175,7 @@ pub fn put_refusal(out: &mut Vec<u8>, refusal: &Refusal) -> Result<(), AllocErro
         }
         Refusal::TooLong => put_end(out, b"! file too long"),
         Refusal::NoAddresses => put_end(out, b"! no addresses"),
+        Refusal::NotEmpty => put_end(out, b"! not empty"),
+        Refusal::NotImage => put_end(out, b"! not an image"),
     }
 }

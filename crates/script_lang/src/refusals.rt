@@ -11,8 +11,12 @@ pub enum Refusal {
     Query(QueryFault),
     /// No surviving file has this id.
     NoFile(u64),
-    /// A file has more bytes than it may have.
+    /// A file or an image has more bytes than it may have.
     TooLong,
     /// A file needs addresses at or above 2^56.
     NoAddresses,
+    /// An image is opened where files were added before.
+    NotEmpty,
+    /// The bytes to open are no image.
+    NotImage,
 }

@@ -1,6 +1,6 @@
 use crate::{
-    Command, LineCut, Refusal, command, line_at, put_file, put_gone, put_interval, put_record,
-    put_refusal, put_total,
+    Command, LineCut, Refusal, command, line_at, put_file, put_gone, put_interval, put_merging,
+    put_opened, put_record, put_refusal, put_saved, put_shards, put_total,
 };
 use address_space::{FileId, FileRecord};
 use gcl_model::{Bytes, Interval};
@@ -133,14 +133,20 @@ fn each_answer_is_one_line(rt: HostRuntime) -> Result<(), Fail> {
             name: Bytes::copy_of(rt.alloc(), b"a b")?,
         },
     )?;
+    put_merging(&mut out)?;
+    put_shards(&mut out, 2)?;
+    put_saved(&mut out, 118)?;
+    put_opened(&mut out, 0)?;
     put_refusal(&mut out, &Refusal::Command)?;
     put_refusal(&mut out, &Refusal::LongLine)?;
     put_refusal(&mut out, &Refusal::NoFile(3))?;
     put_refusal(&mut out, &Refusal::TooLong)?;
     put_refusal(&mut out, &Refusal::NoAddresses)?;
+    put_refusal(&mut out, &Refusal::NotEmpty)?;
+    put_refusal(&mut out, &Refusal::NotImage)?;
     assert_eq!(rt;
         out.as_slice(),
-        b"file 0 0 7\ngone 12\n1 20\n= 0\n2 10 11 a b\n! command\n! long line\n! no file 3\n! file too long\n! no addresses\n".as_slice()
+        b"file 0 0 7\ngone 12\n1 20\n= 0\n2 10 11 a b\nmerging\nshards 2\nsaved 118\nopened 0\n! command\n! long line\n! no file 3\n! file too long\n! no addresses\n! not empty\n! not an image\n".as_slice()
     );
     Ok(())
 }
