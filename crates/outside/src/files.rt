@@ -1,7 +1,7 @@
-ghost use Rattle.std.specs.Prelude.{◌≡◌, ℕ, List, Option, None, Some, IfSome, IsErrOf, ◌⊎◌};
+ghost use Rattle.std.specs.Prelude.{◌≡◌, ℕ, List, [], ◌∷◌, ◌++◌, Option, None, Some, IfSome, OnOk, OnErr, IsErrOf, ◌⊎◌, ◌↔◌};
 ghost use Rattle.std.specs.Option.{option_copied};
-ghost use Rattle.outside.specs.Causes.{HasFileCause};
-ghost use Rattle.outside.specs.Contents.{Contents, Loads, content_of, sure_content_of};
+ghost use Rattle.outside.specs.Causes.{HasFileCause, CountsFileFault};
+ghost use Rattle.outside.specs.Contents.{Contents, Loads, IsKept, content_of, sure_content_of};
 
 use crate::{FailList, FileError};
 use gcl_model::Bytes;
@@ -29,7 +29,14 @@ pub trait Files {
     fn load(&mut self, name: &[u8], most: u64, out: &mut Vec<u8>) -> Result<Loaded, FileError>
         ensures loaded { Loads (held self.old) name.now most result out.new.items }
         ensures same { held self.new ≡ held self.old }
-        ensures cause { HasFileCause (faults self.old) (faults self.new) result };
+        ensures cause { HasFileCause (faults self.old) (faults self.new) result }
+        ensures counts { CountsFileFault (faults self.old) (faults self.new) result };
+
+    /// Makes these bytes the content under a name. Every other name is as before, whatever the answer.
+    fn keep(&mut self, name: &[u8], bytes: &[u8]) -> Result<(), FileError>
+        ensures kept { IsKept (held self.old) (held self.new) name.now bytes.now result }
+        ensures cause { HasFileCause (faults self.old) (faults self.new) result }
+        ensures counts { CountsFileFault (faults self.old) (faults self.new) result };
 }
 
 // The content of the first entry of that name.
@@ -53,6 +60,17 @@ fn put_content(content: &[u8], most: u64, out: &mut Vec<u8>) -> Result<Loaded, A
     }
     out.extend_from_slice(&content[..most as usize + 1])?;
     Ok(Loaded::Long)
+}
+
+// Puts an entry before all others, so that it is the one that counts.
+fn put_entry(held: &mut Vec<(Bytes, Bytes)>, name: &[u8], bytes: &[u8]) -> Result<(), AllocError>
+    ensures ok { OnOk result (held.new.items ≡ (name.now, bytes.now) ∷ held.old.items) }
+    ensures err { OnErr result (held.new.items ≡ held.old.items) }
+{
+    let alloc = *held.allocator();
+    let entry = (Bytes::copy_of(alloc, name)?, Bytes::copy_of(alloc, bytes)?);
+    held.insert(0, entry)?;
+    Ok(())
 }
 
 /// Files in memory. They fail at the calls with these numbers, counted from 1, and at each name that they don't hold.
@@ -95,6 +113,7 @@ impl Files for MemFiles {
         ensures loaded { Loads (⟦<MemFiles as Files>⟧.held self.old) name.now most result out.new.items }
         ensures same { ⟦<MemFiles as Files>⟧.held self.new ≡ ⟦<MemFiles as Files>⟧.held self.old }
         ensures cause { HasFileCause (⟦<MemFiles as Files>⟧.faults self.old) (⟦<MemFiles as Files>⟧.faults self.new) result }
+        ensures counts { CountsFileFault (⟦<MemFiles as Files>⟧.faults self.old) (⟦<MemFiles as Files>⟧.faults self.new) result }
         ensures planned { IsErrOf result FileError.Failed → IsDue (files_plan self.old) ⊎ IfSome (⟦<MemFiles as Files>⟧.held self.old) (λ contents. contents name.now ≡ None) }
         ensures due { IsDue (files_plan self.old) → IsErrOf result FileError.Failed }
         ensures missing { IfSome (⟦<MemFiles as Files>⟧.held self.old) (λ contents. contents name.now ≡ None → IsErrOf result FileError.Failed) }
@@ -109,6 +128,19 @@ impl Files for MemFiles {
             }
             Some(content) => Ok(put_content(content, most, out)?),
         }
+    }
+
+    fn keep(&mut self, name: &[u8], bytes: &[u8]) -> Result<(), FileError>
+        ensures kept { IsKept (⟦<MemFiles as Files>⟧.held self.old) (⟦<MemFiles as Files>⟧.held self.new) name.now bytes.now result }
+        ensures unchanged { OnErr result (⟦<MemFiles as Files>⟧.held self.new ≡ ⟦<MemFiles as Files>⟧.held self.old) }
+        ensures cause { HasFileCause (⟦<MemFiles as Files>⟧.faults self.old) (⟦<MemFiles as Files>⟧.faults self.new) result }
+        ensures counts { CountsFileFault (⟦<MemFiles as Files>⟧.faults self.old) (⟦<MemFiles as Files>⟧.faults self.new) result }
+        ensures planned { IsErrOf result FileError.Failed ↔ IsDue (files_plan self.old) }
+        ensures called { IsOneCallLater (files_plan self.old) (files_plan self.new) }
+    {
+        self.calls.call()?;
+        put_entry(&mut self.held, name, bytes)?;
+        Ok(())
     }
 }
 
@@ -138,6 +170,8 @@ impl SureFiles {
 }
 
 impl Files for SureFiles {
+    ghost use Rattle.outside.specs.Plans.{sure_entries};
+
     ghost held = { λ f. Some (sure_content_of f.held.items) };
 
     ghost faults = { λ _. 0 };
@@ -146,5 +180,16 @@ impl Files for SureFiles {
         out.clear();
         let content = find_content(self.held.as_slice(), name).unwrap_or(&[]);
         Ok(put_content(content, most, out)?)
+    }
+
+    fn keep(&mut self, name: &[u8], bytes: &[u8]) -> Result<(), FileError>
+        ensures kept { IsKept (⟦<SureFiles as Files>⟧.held self.old) (⟦<SureFiles as Files>⟧.held self.new) name.now bytes.now result }
+        ensures unchanged { OnErr result (⟦<SureFiles as Files>⟧.held self.new ≡ ⟦<SureFiles as Files>⟧.held self.old) }
+        ensures cause { HasFileCause 0 0 result }
+        ensures counts { CountsFileFault 0 0 result }
+        ensures entries { OnOk result (sure_entries self.new ≡ (name.now, bytes.now) ∷ sure_entries self.old) }
+    {
+        put_entry(&mut self.held, name, bytes)?;
+        Ok(())
     }
 }

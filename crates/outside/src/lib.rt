@@ -1,9 +1,10 @@
-//! The outside of a run: what it reads, what it writes, the files that it loads, and a gate that it passes.
+//! The outside of a run: what it reads, what it writes, the files that it loads and keeps, and a gate that it passes.
 //!
-//! Each is a trait. Contracts see a count of faults, which never falls and explains each `Failed`, and what the
-//! object holds where that is known: the bytes left of a `Source`, the bytes taken by a `Sink`, the content of `Files`
-//! by name. It is known of the objects in memory, and of nothing over a real file or stream. The layer above proves
-//! what it wrote wherever it is known, and names a fault only where that object's count rose.
+//! Each is a trait. Contracts see a count of faults, which never falls, explains each `Failed` and moves at nothing else,
+//! and what the object holds where that is known: the bytes left of a `Source`, the bytes taken by a `Sink`, the content
+//! of `Files` by name, of which a keep changes one. It is known of the objects in memory, and of nothing over a real file
+//! or stream. The layer above proves what it wrote wherever it is known, and names a fault only where that object's count
+//! rose.
 //!
 //! Example: a `MemSource` over `to be` whose second call is to fail hands out `to be`, and then answers `Failed`.
 #![tactic(auto)]
@@ -21,3 +22,6 @@ pub use files::{Files, Loaded, MemFiles, SureFiles};
 pub use gate::{FreeGate, Gate};
 pub use sink::{MemSink, Sink, SureSink};
 pub use source::{MemSource, Source, SureSource};
+
+#[cfg(test)]
+mod tests;

@@ -1,6 +1,6 @@
 ghost use Rattle.std.specs.Prelude.{◌≡◌, ◌<◌, ◌≤◌, ◌↔◌, ℕ, List, [], Option, Some, IfOk, IsErrOf, length};
 ghost use Rattle.std.specs.Io.KnownBytes.{WriteAppends};
-ghost use Rattle.outside.specs.Causes.{HasWriteCause};
+ghost use Rattle.outside.specs.Causes.{HasWriteCause, CountsWriteFault};
 
 use crate::{FailList, WriteError};
 use std::alloc::Global;
@@ -18,7 +18,8 @@ pub trait Sink {
         ensures bound { IfOk result (λ n. n ≤ length piece.now) }
         ensures some { IfOk result (λ n. 0 < length piece.now → 0 < n) }
         ensures bytes { WriteAppends (written self.old) (written self.new) result piece.now }
-        ensures cause { HasWriteCause (faults self.old) (faults self.new) result };
+        ensures cause { HasWriteCause (faults self.old) (faults self.new) result }
+        ensures counts { CountsWriteFault (faults self.old) (faults self.new) result };
 }
 
 /// Keeps what is written. It fails at the calls with these numbers, counted from 1.
@@ -62,6 +63,7 @@ impl Sink for MemSink {
         ensures some { IfOk result (λ n. 0 < length piece.now → 0 < n) }
         ensures bytes { WriteAppends (⟦<MemSink as Sink>⟧.written self.old) (⟦<MemSink as Sink>⟧.written self.new) result piece.now }
         ensures cause { HasWriteCause (⟦<MemSink as Sink>⟧.faults self.old) (⟦<MemSink as Sink>⟧.faults self.new) result }
+        ensures counts { CountsWriteFault (⟦<MemSink as Sink>⟧.faults self.old) (⟦<MemSink as Sink>⟧.faults self.new) result }
         ensures planned { IsErrOf result WriteError.Failed ↔ IsDue (sink_plan self.old) }
         ensures called { IsOneCallLater (sink_plan self.old) (sink_plan self.new) }
     {
