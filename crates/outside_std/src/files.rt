@@ -1,12 +1,16 @@
-ghost use Rattle.std.specs.Prelude.{◌≡◌, ◌≤◌, [], None};
+ghost use Rattle.std.specs.Prelude.{◌≡◌, ◌≤◌, [], None, IsTrue};
+ghost use Rattle.std.specs.Io.KnownBytes.{Appends};
 ghost use Rattle.outside.specs.Contents.{Loads};
 ghost use Rattle.outside.specs.Causes.{Rose};
 ghost use Rattle.outside_std.specs.Loading.{content_left};
 
+use crate::beside::create_beside;
+use crate::sink::write_again;
 use crate::source::read_again;
 use gcl_model::Bytes;
 use outside::{FileError, Files, Loaded};
-use std::io::Read;
+use std::fs::OpenFile;
+use std::io::{Read, Write};
 use std::{fs, rt};
 
 /// How many bytes are read at a time.
@@ -40,13 +44,13 @@ impl<'a, R: rt::Files + AllocGlobal> StdFiles<'a, R> {
         }
     }
 
-    fn fault(&mut self, name: &[u8]) -> FileError
+    // Counts a fault, and keeps the name.
+    fn fault(&mut self, name: &[u8])
         ensures later { self.old.faults ≤ self.new.faults }
         ensures rose { Rose self.old.faults self.new.faults }
     {
         self.faults = self.faults.saturating_add(1);
         self.last = Bytes::copy_of(self.rt.alloc(), name).ok();
-        FileError::Failed
     }
 }
 
@@ -74,6 +78,44 @@ fn read_up_to<R: Read>(file: &mut R, most: u64, out: &mut Vec<u8>) -> Result<Loa
     Err(FileError::Failed)
 }
 
+// Writes a whole text, and says whether all of it was taken.
+fn write_whole<W: Write>(writer: &mut W, text: &[u8]) -> bool
+    ensures { IsTrue result → Appends (W.contents writer.old) (W.contents writer.new) text.now }
+{
+    let mut at = 0;
+    while at < text.len() {
+        match write_again(writer, &text[at..]) {
+            Ok(count) if count > 0 => at += count,
+            _ => return false,
+        }
+    }
+    true
+}
+
+// A folder, a device or a pipe is no place for a file: a rename would put one there instead.
+fn is_place<R: rt::Files>(rt: &R, path: &str) -> bool {
+    match fs::metadata(rt, path) {
+        Ok(there) => there.is_file(),
+        Err(_) => true,
+    }
+}
+
+// Writes the bytes to a file of their own, which then takes the path. Until that step the old content stays.
+fn replace<R: rt::Files + AllocGlobal>(rt: &R, path: &str, bytes: &[u8]) -> Result<(), FileError> {
+    if !is_place(rt, path) {
+        return Err(FileError::Failed);
+    }
+    let (beside, mut file) = create_beside(rt, path)?;
+    let done = write_whole(&mut file, bytes)
+        && file.sync_all().is_ok()
+        && fs::rename(rt, beside.as_str(), path).is_ok();
+    if !done {
+        let _ = fs::remove_file(rt, beside.as_str());
+        return Err(FileError::Failed);
+    }
+    Ok(())
+}
+
 impl<'a, R: rt::Files + AllocGlobal> Files for StdFiles<'a, R> {
     ghost held = { λ _. None };
 
@@ -82,15 +124,35 @@ impl<'a, R: rt::Files + AllocGlobal> Files for StdFiles<'a, R> {
     fn load(&mut self, name: &[u8], most: u64, out: &mut Vec<u8>) -> Result<Loaded, FileError> {
         out.clear();
         let Ok(path) = str::from_utf8(name) else {
-            return Err(self.fault(name));
+            self.fault(name);
+            return Err(FileError::Failed);
         };
         let Ok(mut file) = fs::open(self.rt, path) else {
-            return Err(self.fault(name));
+            self.fault(name);
+            return Err(FileError::Failed);
         };
         match read_up_to(&mut file, most, out) {
             Ok(loaded) => Ok(loaded),
             Err(FileError::NoMemory) => Err(FileError::NoMemory),
-            Err(FileError::Failed) => Err(self.fault(name)),
+            Err(FileError::Failed) => {
+                self.fault(name);
+                Err(FileError::Failed)
+            }
+        }
+    }
+
+    fn keep(&mut self, name: &[u8], bytes: &[u8]) -> Result<(), FileError> {
+        let Ok(path) = str::from_utf8(name) else {
+            self.fault(name);
+            return Err(FileError::Failed);
+        };
+        match replace(self.rt, path, bytes) {
+            Ok(()) => Ok(()),
+            Err(FileError::NoMemory) => Err(FileError::NoMemory),
+            Err(FileError::Failed) => {
+                self.fault(name);
+                Err(FileError::Failed)
+            }
         }
     }
 }

@@ -1,6 +1,6 @@
 ghost use Rattle.std.specs.Prelude.{◌≡◌, ◌<◌, ◌≤◌, IfOk, IsErrOf, length};
 ghost use Rattle.std.specs.Io.KnownBytes.{WriteAppends};
-ghost use Rattle.outside.specs.Causes.{HasWriteCause};
+ghost use Rattle.outside.specs.Causes.{HasWriteCause, CountsWriteFault};
 
 use outside::{Sink, WriteError};
 use std::io;
@@ -23,8 +23,8 @@ impl<W: Write> StdSink<W> {
     }
 }
 
-// One write, made again where a signal interrupted it.
-fn write_again<W: Write>(inner: &mut W, piece: &[u8]) -> io::Result<usize>
+/// One write, made again where a signal interrupted it.
+pub fn write_again<W: Write>(inner: &mut W, piece: &[u8]) -> io::Result<usize>
     ensures bound { IfOk result (λ n. n ≤ length piece.now) }
     ensures bytes { WriteAppends (W.contents inner.old) (W.contents inner.new) result piece.now }
 {
@@ -47,6 +47,7 @@ impl<W: Write> Sink for StdSink<W> {
         ensures some { IfOk result (λ n. 0 < length piece.now → 0 < n) }
         ensures bytes { WriteAppends (⟦<StdSink<W> as Sink>⟧.written self.old) (⟦<StdSink<W> as Sink>⟧.written self.new) result piece.now }
         ensures cause { HasWriteCause (⟦<StdSink<W> as Sink>⟧.faults self.old) (⟦<StdSink<W> as Sink>⟧.faults self.new) result }
+        ensures counts { CountsWriteFault (⟦<StdSink<W> as Sink>⟧.faults self.old) (⟦<StdSink<W> as Sink>⟧.faults self.new) result }
         ensures never { ¬ IsErrOf result WriteError.NoMemory }
     {
         match write_again(&mut self.inner, piece) {
