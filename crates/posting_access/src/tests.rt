@@ -1,13 +1,44 @@
-ghost use Rattle.std.specs.Prelude.{◌≡◌, ◌<◌, IfOk};
+ghost use Rattle.std.specs.Prelude.{IfOk};
 ghost use Rattle.posting_code.specs.Postings.{ArePostings};
 
 use crate::search::{at_or_after, at_or_before};
-use gcl_model::{Steps, Tally};
+use gcl_model::{Ledger, Question, Steps, counted};
 use posting_code::{ADDRESS_END, PostingList, encode};
 use std::alloc::{AllocError, Global};
-use std::marker::Brand;
-use std::sync::ledger;
-use std::sync::ledger::Blank;
+
+/// One of the two look-ups.
+#[derive(Clone, Copy, Debug)]
+enum Side {
+    AtOrAfter,
+    AtOrBefore,
+}
+
+/// The address that is nearest to `k` on one side.
+#[derive(Drop)]
+struct Nearest<'a> {
+    list: &'a PostingList,
+    k: u64,
+    side: Side,
+}
+
+impl Question for Nearest<'_> {
+    ghost use Rattle.std.specs.Prelude.{◌+◌, ◌*◌, ⊤, length};
+
+    type Answer = Option<u64>;
+
+    ghost can_ask = { λ _. ⊤ };
+
+    ghost answers = { λ _ _. ⊤ };
+
+    ghost most = { λ asked _. 2 * length asked.list.now + 1 };
+
+    fn ask<L: Ledger>(&self, probes: &mut Steps<L>) -> Option<u64> {
+        match self.side {
+            Side::AtOrAfter => at_or_after(self.list, self.k, probes),
+            Side::AtOrBefore => at_or_before(self.list, self.k, probes),
+        }
+    }
+}
 
 /// Some addresses from 3 on, each `gap` above the one before, and no more than fit.
 fn addresses(alloc: Global, count: u16, gap: u64) -> Result<Vec<u64>, AllocError>
@@ -26,24 +57,19 @@ fn addresses(alloc: Global, count: u16, gap: u64) -> Result<Vec<u64>, AllocError
     Ok(numbers)
 }
 
-/// Both look-ups at `k`, each with its probes.
-fn look_up<B: ledger::Ledger>(
-    list: &PostingList,
-    k: u64,
-    blank: Blank,
-) -> ((Option<u64>, Option<u64>), (u64, u64))
-    requires name { blank.name ≡ B.name }
-    requires parts { blank.parts ≡ B.parts }
-    requires some { 0 < blank.parts }
-{
-    let mut probes = Steps::<Tally<B>>::open(blank);
-    let least = at_or_after(list, k, &mut probes);
-    let forward = probes.count();
-    let greatest = at_or_before(list, k, &mut probes);
-    (
-        (least, greatest),
-        (forward, probes.count().saturating_sub(forward)),
-    )
+/// Both look-ups at `k`, and how many probes each took.
+fn look_up(list: &PostingList, k: u64) -> ((Option<u64>, Option<u64>), (u64, u64)) {
+    let (least, forward) = counted(&Nearest {
+        list,
+        k,
+        side: Side::AtOrAfter,
+    });
+    let (greatest, backward) = counted(&Nearest {
+        list,
+        k,
+        side: Side::AtOrBefore,
+    });
+    ((least, greatest), (forward, backward))
 }
 
 #[test]
@@ -62,12 +88,12 @@ fn look_ups_are_those_of_a_look_at_each_address_within_the_digits_of_the_length(
         (1000, 10),
     ];
     for (count, digits) in counts {
-        for gap in [1, 127, 128, 1 << 14, 1 << 46] {
+        for gap in [1, 127, 128, 1 << 14, 1 << 46, 1 << 55] {
             let addresses = addresses(rt.alloc(), count, gap)?;
             let list = encode(rt.alloc(), &addresses)?;
             for member in &addresses {
                 for k in [member.wrapping_sub(1), *member, member.wrapping_add(1)] {
-                    let (found, probes) = look_up::<Brand>(&list, k, Blank::new(1));
+                    let (found, probes) = look_up(&list, k);
                     let least = addresses.iter().copied().find(|p| k <= *p);
                     let greatest = addresses.iter().rev().copied().find(|p| *p <= k);
                     assert_eq!(rt; found, (least, greatest), "at {k}, {count} by {gap}");
@@ -92,11 +118,7 @@ fn two_addresses_far_apart_are_found(rt: HostRuntime) -> Result<(), AllocError> 
         (u64::MAX, None, Some(ADDRESS_END - 1)),
     ];
     for (k, least, greatest) in cases {
-        assert_eq!(rt;
-            look_up::<Brand>(&list, k, Blank::new(1)).0,
-            (least, greatest),
-            "at {k}"
-        );
+        assert_eq!(rt; look_up(&list, k).0, (least, greatest), "at {k}");
     }
     Ok(())
 }
@@ -105,20 +127,13 @@ fn two_addresses_far_apart_are_found(rt: HostRuntime) -> Result<(), AllocError> 
 fn each_reading_of_a_first_address_is_a_probe(rt: HostRuntime) -> Result<(), AllocError> {
     let few = encode(rt.alloc(), &[2, 5, 9])?;
     for k in [0, 3, 9, 10] {
-        assert_eq!(rt;
-            look_up::<Brand>(&few, k, Blank::new(1)).1,
-            (1, 1),
-            "at {k}"
-        );
+        assert_eq!(rt; look_up(&few, k).1, (1, 1), "at {k}");
     }
     let none = encode(rt.alloc(), &[])?;
-    assert_eq!(rt; look_up::<Brand>(&none, 3, Blank::new(1)).1, (0, 0));
+    assert_eq!(rt; look_up(&none, 3).1, (0, 0));
     // two blocks: behind the first one and before the second, the first address of the second is read once more
     let two = addresses(rt.alloc(), 65, 10)?;
     let two = encode(rt.alloc(), &two)?;
-    assert_eq!(rt;
-        look_up::<Brand>(&two, 640, Blank::new(1)),
-        ((Some(643), Some(633)), (3, 2))
-    );
+    assert_eq!(rt; look_up(&two, 640), ((Some(643), Some(633)), (3, 2)));
     Ok(())
 }
