@@ -1,4 +1,6 @@
 pub mod TableLaws
 pub mod ShardWords
 pub mod Walks
+pub mod Heads
+pub mod KeptTables
 mod Worked

@@ -166,3 +166,47 @@ words_in_turn table (suc n) p (t ∷ ts) is at =
     (λ i lt. let next : p + 1 + i ≡ p + suc i = omega arith in ap (term_at table) next ∙ at (suc i) (omega arith)) in
     ap (λ o. option_to_list (option_map (word p) o) ++ flat_map (words_at table) (range_with_len (p + 1) n)) first
     ∙ ap (λ ws. word p t ∷ ws) later
+
+-- the places of a term among rising words rise
+pub rising_places : (next low : ℕ) (words : List Word) (term : List ℕ) → AreRisingBelow next low words → RiseWithin low next (places words term)
+rising_places next low [] term rise = tt
+rising_places next low (w ∷ ws) term rise =
+    let le = rise.0 in
+    let rest = rising_places next (w.address + 1) ws term rise.2 in
+    elim (cases_Bool (bytes_eq w.token term)) [
+      | inl e ↦ rw e (rise.0, rise.1, rest)
+      | inr e ↦ rw e (rise_wider (w.address + 1) low next next (places ws term) rest (omega (arith, le)) (omega arith))
+    ]
+
+-- where words rise each address stands once: no two terms have a place in common
+pub rising_apart : (next low : ℕ) (words : List Word) (a b : List ℕ) → AreRisingBelow next low words → (a ≡ b → ⊥) → AreApart (places words a) (places words b)
+rising_apart next low [] a b rise other q has = refl
+rising_apart next low (w ∷ ws) a b rise other q has =
+    let p = w.address in
+    let mine = places ws a in
+    let others = places ws b in
+    let early_a = lacks_earlier (p + 1) next mine p (rising_places next (p + 1) ws a rise.2) (omega arith) in
+    let early_b = lacks_earlier (p + 1) next others p (rising_places next (p + 1) ws b rise.2) (omega arith) in
+    let rest = rising_apart next (p + 1) ws a b rise.2 other q in
+    elim (cases_Bool (bytes_eq w.token a)) [
+      | inl ea ↦ elim (cases_Bool (bytes_eq w.token b)) [
+        | inl eb ↦ absurd (other (sym ((bytes_eq-Decides w.token a).0 ea) ∙ (bytes_eq-Decides w.token b).0 eb))
+        | inr eb ↦ rw eb (elim (or_cases (eqb p q) (has_address mine q) (rw ea at has)) [
+          | inl e ↦ ap (has_address others) (sym (eqb-true p q e)) ∙ early_b
+          | inr e ↦ rest e
+        ])
+      ]
+      | inr ea ↦
+          let has = rw ea at has in
+          elim (cases_Bool (bytes_eq w.token b)) [
+            | inl eb ↦ rw eb (elim (cases_Bool (eqb p q)) [
+              | inl e ↦ absurd (true≢false (sym has ∙ ap (has_address mine) (sym (eqb-true p q e)) ∙ early_a))
+              | inr e ↦ rw e (rest has)
+            ])
+            | inr eb ↦ rw eb (rest has)
+          ]
+    ]
+
+-- so it is of the words of a shard
+pub shard_apart : (shard : ShardContent) (a b : List ℕ) → IsShard shard → (a ≡ b → ⊥) → AreApart (places (words_of shard) a) (places (words_of shard) b)
+shard_apart shard a b is other = rising_apart (shard.range.last + 1) shard.range.first (words_of shard) a b (shard_words_rise shard is) other

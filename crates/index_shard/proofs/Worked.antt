@@ -1,8 +1,9 @@
 -- Tables, computed: `to be or not to be` from address 1 on.
-use Rattle.std.proofs.Common.{◌≡◌, ℕ, List, [], ◌∷◌, map, codes, Some, None, refl}
+use Rattle.std.proofs.Common.{◌≡◌, ◌+◌, ◌*◌, true, false, ℕ, List, [], ◌∷◌, map, codes, Some, None, refl}
 use Rattle.gcl_model.specs.Slots.{slot_range}
 use Rattle.gcl_model.specs.Texts.{places}
-use Rattle.index_shard.specs.Tables.{TermEntry, ShardContent, postings_of, term_at, words_of, ComesBefore}
+use Rattle.index_shard.specs.Tables.{TermEntry, ShardContent, postings_of, addresses_at, place_of, term_at, words_of, least_term, ComesBefore}
+use Rattle.index_shard.specs.Kept.{leading, part_of}
 
 abbrev entry : List ℕ → List ℕ → TermEntry
 entry term addresses = record { term = term; addresses = addresses }
@@ -38,3 +39,33 @@ before_longer = refl
 
 before_tag : ComesBefore (codes "</file!>") (codes "<file!>")
 before_tag = refl
+
+-- the place of a term, and the postings there
+place_of-or : place_of hamlet (codes "or") ≡ Some 2
+place_of-or = refl
+
+place_of-missing : place_of hamlet (codes "note") ≡ None
+place_of-missing = refl
+
+addresses_at-last : addresses_at hamlet 3 ≡ 1 ∷ 5 ∷ []
+addresses_at-last = refl
+
+-- the least term from a bound on, above it, and behind the last
+least_term-from : least_term hamlet (codes "bee") false ≡ Some (codes "not")
+least_term-from = refl
+
+least_term-above : least_term hamlet (codes "not") true ≡ Some (codes "or")
+least_term-above = refl
+
+least_term-none : least_term hamlet (codes "to") true ≡ None
+least_term-none = refl
+
+-- two bytes as a number, with a 0 for one that is not there
+leading-both : leading 2 0 (codes "be") ≡ 98 * 256 + 101
+leading-both = refl
+
+leading-one : leading 2 0 (codes "b") ≡ 98 * 256
+leading-one = refl
+
+part_of-middle : part_of (codes "benotor") 2 3 ≡ codes "not"
+part_of-middle = refl

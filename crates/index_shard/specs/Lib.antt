@@ -1,3 +1,4 @@
 pub mod Tables
 pub mod Searched
 pub mod Laws
+pub mod Kept

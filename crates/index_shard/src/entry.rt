@@ -1,80 +1,61 @@
-ghost use Rattle.std.specs.Prelude.{◌≡◌, MatchOption, [], ◌+◌, ◌^◌, ◌<◌, length, map, slice_get, if◌then◌else◌};
-ghost use Rattle.std.specs.Ordering.{nat_cmp};
-ghost use Rattle.std.specs.Cmp.Lexicographic.{slice_cmp};
-ghost use Rattle.gcl_model.specs.Slots.{SlotRange};
-ghost use Rattle.index_shard.specs.Tables.{IsTable, postings_of, addresses_at, place_of, least_term, TermEntry};
+ghost use Rattle.std.specs.Prelude.{◌≡◌, get_or};
+ghost use Rattle.index_shard.specs.Kept.{leading, part_of, order_in};
 
-use gcl_model::Bytes;
 use posting_code::PostingList;
 use std::cmp::Ordering;
-use std::marker::Model;
 
-/// A term and its postings.
+/// The postings of a term, and where the term stands among the bytes of all terms.
+// The first eight bytes stand here once more as one number: most comparisons end with it, and touch no other memory.
 #[derive(Drop)]
 pub(crate) struct Entry {
-    pub(crate) term: Bytes,
+    pub(crate) head: u64,
+    pub(crate) start: usize,
+    pub(crate) size: usize,
     pub(crate) postings: PostingList,
 }
 
-impl Model for Entry {
-    ghost use Rattle.index_shard.specs.Tables.{TermEntry};
-
-    ghost Value = { TermEntry };
-
-    ghost view = { λ e. record { term = e.term; addresses = e.postings } };
-}
-
 impl Entry {
-    fn compare(&self, term: &[u8]) -> Ordering
-        ensures { result ≡ slice_cmp nat_cmp self.now.term term.now }
+    /// The entry's term.
+    pub(crate) fn term<'a>(&self, bytes: &'a [u8]) -> &'a [u8]
+        ensures { result.now ≡ part_of bytes.now self.now.start self.now.size }
     {
-        self.term.as_slice().cmp(term)
+        part(bytes, self.start, self.size)
+    }
+
+    /// The order of the entry's term to another one with this head.
+    pub(crate) fn compare(&self, bytes: &[u8], head: u64, term: &[u8]) -> Ordering
+        ensures { result ≡ order_in bytes.now head term.now self.now }
+    {
+        match self.head.cmp(&head) {
+            Ordering::Less => Ordering::Less,
+            Ordering::Equal => self.term(bytes).cmp(term),
+            Ordering::Greater => Ordering::Greater,
+        }
     }
 }
 
-/// The place of a term, found by halving.
-pub(crate) fn find_place(entries: &[Entry], term: &[u8]) -> Option<usize>
-    requires { (range : SlotRange) × IsTable range entries.now }
-    ensures { result ≡ place_of entries.now term.now }
+/// So many bytes from a place on, as far as there are any.
+fn part(bytes: &[u8], start: usize, size: usize) -> &[u8]
+    ensures { result.now ≡ part_of bytes.now start size }
 {
-    match entries.binary_search_by(|entry| entry.compare(term)) {
-        Ok(i) => Some(i),
-        Err(_) => None,
+    let (_, rest) = bytes.split_at(start.min(bytes.len()));
+    let (part, _) = rest.split_at(size.min(rest.len()));
+    part
+}
+
+/// The first eight bytes of a term as a number. Terms are in the order of their numbers as far as these differ.
+pub(crate) fn head_of(term: &[u8]) -> u64
+    ensures { result ≡ leading 8 0 term.now }
+{
+    let mut head = 0;
+    for i in 0..8usize {
+        head = head * 256 + byte_at(term, i) as u64;
     }
+    head
 }
 
-/// The postings at a place.
-pub(crate) fn postings_at(entries: &[Entry], place: usize) -> &PostingList
-    requires { place < length entries.now }
-    ensures { result.now ≡ addresses_at entries.now place }
+fn byte_at(bytes: &[u8], i: usize) -> u8
+    ensures { result ≡ get_or bytes.now i 0 }
 {
-    let entry = &entries[place];
-    &entry.postings
-}
-
-/// The postings of a term.
-pub(crate) fn find_postings<'a>(entries: &'a [Entry], term: &[u8]) -> Option<&'a PostingList>
-    requires { (range : SlotRange) × IsTable range entries.now }
-    ensures { MatchOption result (postings_of entries.now term.now ≡ []) (λ list. postings_of entries.now term.now ≡ list.now) }
-{
-    let place = find_place(entries, term)?;
-    Some(postings_at(entries, place))
-}
-
-/// The place of the least term that is at least `low`, or above it with `strict`: the end where there is none.
-pub(crate) fn place_from(entries: &[Entry], low: &[u8], strict: bool) -> usize
-    requires { (range : SlotRange) × IsTable range entries.now }
-    ensures { slice_get (map (λ (entry : TermEntry). entry.term) entries.now) result ≡ least_term entries.now low.now strict }
-{
-    match entries.binary_search_by(|entry| entry.compare(low)) {
-        Ok(i) => behind(i, strict),
-        Err(i) => i,
-    }
-}
-
-fn behind(place: usize, strict: bool) -> usize
-    requires { place < 2 ^ 63 }
-    ensures { result ≡ (if strict then place + 1 else place) }
-{
-    if strict { place + 1 } else { place }
+    if i < bytes.len() { bytes[i] } else { 0 }
 }

@@ -10,9 +10,11 @@
 
 mod direction;
 mod entry;
+mod find;
 mod laws;
 mod maker;
 mod shard;
+mod table;
 #[cfg(test)]
 mod tests;
 mod walk;

@@ -2,10 +2,9 @@ ghost use Rattle.std.specs.Prelude.{◌≡◌, [], ◌∷◌, ◌++◌, OnOk, On
 ghost use Rattle.std.specs.List.{AllByRecursion};
 ghost use Rattle.index_shard.specs.Tables.{ArePostingsIn, AreApart, ComesBefore, IsShard, last_entry};
 
-use crate::entry::Entry;
 use crate::shard::Shard;
+use crate::table::TermTable;
 use address_space::Range;
-use gcl_model::Bytes;
 use posting_code::{PostingList, encode};
 use std::alloc::{AllocError, Global};
 use std::marker::Model;
@@ -14,7 +13,7 @@ use std::marker::Model;
 #[derive(Drop)]
 pub struct ShardMaker {
     range: Range,
-    entries: Vec<Entry>,
+    table: TermTable,
 }
 
 impl Model for ShardMaker {
@@ -22,9 +21,9 @@ impl Model for ShardMaker {
 
     ghost Value = { ShardContent };
 
-    ghost view = { λ m. record { range = m.range; table = m.entries.items } };
+    ghost view = { λ m. record { range = m.range; table = m.table } };
 
-    ghost invariant = { λ m. IsShard (record { range = m.range; table = m.entries.items }) };
+    ghost invariant = { λ m. IsShard (record { range = m.range; table = m.table }) };
 }
 
 impl ShardMaker {
@@ -36,7 +35,7 @@ impl ShardMaker {
         let _ = &range.first;
         ShardMaker {
             range,
-            entries: Vec::new(alloc),
+            table: TermTable::new(alloc),
         }
     }
 
@@ -48,7 +47,7 @@ impl ShardMaker {
         ensures ok { OnOk result (self.new ≡ record self.old { table = self.old.table ++ record { term = term.now; addresses = addresses.now } ∷ [] }) }
         ensures err { OnErr result (self.new ≡ self.old) }
     {
-        let postings = encode(*self.entries.allocator(), addresses)?;
+        let postings = encode(self.table.alloc(), addresses)?;
         self.push_list(term, postings)
     }
 
@@ -60,9 +59,7 @@ impl ShardMaker {
         ensures ok { OnOk result (self.new ≡ record self.old { table = self.old.table ++ record { term = term.now; addresses = postings } ∷ [] }) }
         ensures err { OnErr result (self.new ≡ self.old) }
     {
-        let alloc = *self.entries.allocator();
-        let term = Bytes::copy_of(alloc, term)?;
-        self.entries.push(Entry { term, postings })?;
+        self.table.push(term, postings)?;
         Ok(())
     }
 
@@ -71,6 +68,8 @@ impl ShardMaker {
         ensures value { result ≡ self }
         ensures shard { IsShard result }
     {
-        Shard::of(self.range, self.entries)
+        let mut table = self.table;
+        table.fit();
+        Shard::of(self.range, table)
     }
 }

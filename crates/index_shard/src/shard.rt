@@ -4,7 +4,7 @@ ghost use Rattle.index_shard.specs.Searched.{look_up};
 ghost use Rattle.posting_access.specs.Search.{RisesByDigits};
 
 use crate::direction::Direction;
-use crate::entry::{Entry, find_place, find_postings, place_from, postings_at};
+use crate::table::TermTable;
 use crate::walk::Walk;
 use address_space::Range;
 use gcl_model::{Ledger, NoLedger, Steps};
@@ -18,7 +18,7 @@ use std::sync::ledger::Blank;
 #[derive(Drop)]
 pub struct Shard {
     range: Range,
-    entries: Vec<Entry>,
+    table: TermTable,
 }
 
 impl Model for Shard {
@@ -26,18 +26,18 @@ impl Model for Shard {
 
     ghost Value = { ShardContent };
 
-    ghost view = { λ s. record { range = s.range; table = s.entries.items } };
+    ghost view = { λ s. record { range = s.range; table = s.table } };
 
-    ghost invariant = { λ s. IsShard (record { range = s.range; table = s.entries.items }) };
+    ghost invariant = { λ s. IsShard (record { range = s.range; table = s.table }) };
 }
 
 impl Shard {
-    pub(crate) fn of(range: Range, entries: Vec<Entry>) -> Self
-        requires { IsShard (record { range = range; table = entries.items }) }
+    pub(crate) fn of(range: Range, table: TermTable) -> Self
+        requires { IsShard (record { range = range; table = table }) }
         ensures range { result.range ≡ range }
-        ensures table { result.table ≡ entries.items }
+        ensures table { result.table ≡ table }
     {
-        Shard { range, entries }
+        Shard { range, table }
     }
 
     /// The posting of the term that is nearest to `k` on one side. It is one step.
@@ -70,7 +70,7 @@ impl Shard {
         ensures shard { IsShard self.now }
     {
         steps.tick();
-        let list = find_postings(&self.entries, term)?;
+        let list = self.table.find_postings(term)?;
         match direction {
             Direction::Forward => at_or_after(list, k, probes),
             Direction::Backward => at_or_before(list, k, probes),
@@ -82,7 +82,7 @@ impl Shard {
         ensures value { result ≡ place_of self.now.table term.now }
         ensures shard { IsShard self.now }
     {
-        find_place(&self.entries, term)
+        self.table.place(term)
     }
 
     /// The postings of the term at a place.
@@ -91,7 +91,7 @@ impl Shard {
         ensures value { result.now ≡ addresses_at self.now.table place }
         ensures shard { IsShard self.now }
     {
-        postings_at(&self.entries, place)
+        self.table.postings_at(place)
     }
 
     /// The number of terms.
@@ -99,7 +99,7 @@ impl Shard {
         ensures value { result ≡ length self.now.table }
         ensures shard { IsShard self.now }
     {
-        self.entries.len()
+        self.table.len()
     }
 
     /// The term at place `i`, counted from 0 in rising byte order.
@@ -108,8 +108,7 @@ impl Shard {
         ensures value { slice_get (map (λ (entry : TermEntry). entry.term) self.now.table) i ≡ Some result.now }
         ensures shard { IsShard self.now }
     {
-        let entry = &self.entries[i];
-        entry.term.as_slice()
+        self.table.term(i)
     }
 
     /// The least term that is at least `low`, or above it with `strict`.
@@ -117,13 +116,7 @@ impl Shard {
         ensures value { MatchOption result (least_term self.now.table low.now strict ≡ None) (λ term. least_term self.now.table low.now strict ≡ Some term.now) }
         ensures shard { IsShard self.now }
     {
-        let place = place_from(&self.entries, low, strict);
-        if place < self.entries.len() {
-            let entry = &self.entries[place];
-            Some(entry.term.as_slice())
-        } else {
-            None
-        }
+        self.table.term_from(low, strict)
     }
 
     /// The postings of the term at place `i`, from the first on.
@@ -132,8 +125,7 @@ impl Shard {
         ensures value { slice_get (map (λ (entry : TermEntry). entry.addresses) self.now.table) i ≡ Some result }
         ensures shard { IsShard self.now }
     {
-        let entry = &self.entries[i];
-        Walk::new(&entry.postings)
+        Walk::new(self.table.postings_at(i))
     }
 }
 

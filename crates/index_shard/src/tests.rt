@@ -1,59 +1,90 @@
-ghost use Rattle.std.specs.Prelude.{◌≡◌, ◌<◌};
+ghost use Rattle.std.specs.Prelude.{◌<◌};
 
 use crate::direction::Direction;
 use crate::maker::ShardMaker;
 use crate::shard::Shard;
-use crate::walk::Walk;
 use address_space::Range;
-use gcl_model::{Steps, Tally};
+use gcl_model::{Ledger, Question, Steps, counted};
+use posting_code::encode;
 use std::alloc::{AllocError, Global};
-use std::marker::Brand;
-use std::sync::ledger;
-use std::sync::ledger::Blank;
+
+/// The posting of a term that is nearest to an address on one side.
+#[derive(Drop)]
+struct Nearest<'s, 't> {
+    shard: &'s Shard,
+    term: &'t [u8],
+    k: u64,
+    direction: Direction,
+}
+
+impl Question for Nearest<'_, '_> {
+    ghost use Rattle.std.specs.Prelude.{◌≡◌, ⊤};
+    ghost use Rattle.index_shard.specs.Searched.{look_up};
+
+    type Answer = Option<u64>;
+
+    ghost can_ask = { λ _. ⊤ };
+
+    ghost answers = { λ asked answer. answer ≡ look_up asked.shard.now.table asked.term.now asked.k asked.direction };
+
+    ghost most = { λ _ _. 1 };
+
+    fn ask<L: Ledger>(&self, steps: &mut Steps<L>) -> Option<u64> {
+        self.shard.look_up(self.term, self.k, self.direction, steps)
+    }
+}
+
+/// The first three postings of the term at a place.
+#[derive(Drop)]
+struct FirstThree<'a> {
+    shard: &'a Shard,
+    place: usize,
+}
+
+impl Question for FirstThree<'_> {
+    ghost use Rattle.std.specs.Prelude.{◌<◌, ⊤, length};
+
+    type Answer = [Option<u64>; 3];
+
+    ghost can_ask = { λ asked. asked.place < length asked.shard.now.table };
+
+    ghost answers = { λ _ _. ⊤ };
+
+    ghost most = { λ _ _. 3 };
+
+    fn ask<L: Ledger>(&self, steps: &mut Steps<L>) -> [Option<u64>; 3] {
+        let mut walk = self.shard.walk(self.place);
+        let first = walk.next(steps);
+        let second = walk.next(steps);
+        let third = walk.next(steps);
+        [first, second, third]
+    }
+}
 
 /// `to be or not to be`, from address 1 on.
 fn hamlet(alloc: Global) -> Result<Shard, AllocError> {
     let mut maker = ShardMaker::new(alloc, Range { first: 1, last: 6 });
     maker.push_term(b"be", &[2, 6])?;
-    maker.push_term(b"not", &[4])?;
+    maker.push_list(b"not", encode(alloc, &[4])?)?;
     maker.push_term(b"or", &[3])?;
     maker.push_term(b"to", &[1, 5])?;
     Ok(maker.finish())
 }
 
-/// The answer of one look-up, and its steps.
-fn look_up<B: ledger::Ledger>(
-    shard: &Shard,
-    term: &[u8],
-    k: u64,
-    direction: Direction,
-    blank: Blank,
-) -> (Option<u64>, u64)
-    requires name { blank.name ≡ B.name }
-    requires parts { blank.parts ≡ B.parts }
-    requires some { 0 < blank.parts }
-{
-    let mut steps = Steps::<Tally<B>>::open(blank);
-    let found = shard.look_up(term, k, direction, &mut steps);
-    (found, steps.count())
-}
-
-/// The next three postings of a walk, and its steps.
-fn walked<B: ledger::Ledger>(mut walk: Walk<'_>, blank: Blank) -> ([Option<u64>; 3], u64)
-    requires name { blank.name ≡ B.name }
-    requires parts { blank.parts ≡ B.parts }
-    requires some { 0 < blank.parts }
-{
-    let mut steps = Steps::<Tally<B>>::open(blank);
-    let first = walk.next(&mut steps);
-    let second = walk.next(&mut steps);
-    let third = walk.next(&mut steps);
-    ([first, second, third], steps.count())
+/// Terms that are alike in their first eight bytes, or have fewer.
+fn chapters(alloc: Global) -> Result<Shard, AllocError> {
+    let mut maker = ShardMaker::new(alloc, Range { first: 1, last: 6 });
+    maker.push_term(b"chapter", &[6])?;
+    maker.push_term(b"chapter\0", &[5])?;
+    maker.push_term(b"chapter1", &[4])?;
+    maker.push_term(b"chapter10", &[3])?;
+    maker.push_term(b"chapter2", &[2])?;
+    Ok(maker.finish())
 }
 
 #[test]
 fn a_look_up_is_one_step_whatever_it_finds(rt: HostRuntime) -> Result<(), AllocError> {
-    let shard = hamlet(rt.alloc())?;
+    let shard = &hamlet(rt.alloc())?;
     let cases = [
         ("to", 2, Direction::Forward, Some(5)),
         ("to", 5, Direction::Forward, Some(5)),
@@ -65,16 +96,22 @@ fn a_look_up_is_one_step_whatever_it_finds(rt: HostRuntime) -> Result<(), AllocE
         ("no", 0, Direction::Forward, None),
         ("", 0, Direction::Forward, None),
     ];
-    for (term, k, direction, want) in cases {
-        let found = look_up::<Brand>(&shard, term.as_bytes(), k, direction, Blank::new(1));
-        assert_eq!(rt; found, (want, 1), "{term} at {k}");
+    for (word, k, direction, want) in cases {
+        let term = word.as_bytes();
+        let found = counted(&Nearest {
+            shard,
+            term,
+            k,
+            direction,
+        });
+        assert_eq!(rt; found, (want, 1), "{word} at {k}");
     }
     Ok(())
 }
 
 #[test]
 fn terms_come_in_byte_order_and_a_walk_in_address_order(rt: HostRuntime) -> Result<(), AllocError> {
-    let shard = hamlet(rt.alloc())?;
+    let shard = &hamlet(rt.alloc())?;
     assert_eq!(rt; shard.term_count(), 4);
     let cases = [
         ("be", [Some(2), Some(6), None], 2),
@@ -82,15 +119,57 @@ fn terms_come_in_byte_order_and_a_walk_in_address_order(rt: HostRuntime) -> Resu
         ("or", [Some(3), None, None], 1),
         ("to", [Some(1), Some(5), None], 2),
     ];
-    for (i, (term, postings, steps)) in cases.into_iter().enumerate() {
-        if i < shard.term_count() {
-            assert_eq!(rt; shard.term(i), term.as_bytes());
-            assert_eq!(rt;
-                walked::<Brand>(shard.walk(i), Blank::new(1)),
-                (postings, steps),
-                "of {term}"
-            );
+    for (place, (term, postings, steps)) in cases.into_iter().enumerate() {
+        assert_eq!(rt; shard.place(term.as_bytes()), Some(place), "{term}");
+        if place < shard.term_count() {
+            assert_eq!(rt; shard.term(place), term.as_bytes());
+            assert_eq!(rt; shard.postings(place).len(), steps as usize, "{term}");
+            let walked = counted(&FirstThree { shard, place });
+            assert_eq!(rt; walked, (postings, steps), "of {term}");
         }
+    }
+    Ok(())
+}
+
+#[test]
+fn terms_that_are_alike_in_eight_bytes_are_told_apart(rt: HostRuntime) -> Result<(), AllocError> {
+    let shard = &chapters(rt.alloc())?;
+    let cases = [
+        ("chapter", Some(0)),
+        ("chapter\0", Some(1)),
+        ("chapter1", Some(2)),
+        ("chapter10", Some(3)),
+        ("chapter2", Some(4)),
+        ("chapte", None),
+        ("chapter\0\0", None),
+        ("chapter100", None),
+    ];
+    for (term, place) in cases {
+        assert_eq!(rt; shard.place(term.as_bytes()), place, "{term}");
+    }
+    Ok(())
+}
+
+#[test]
+fn the_least_term_from_a_bound_is_the_next_in_byte_order(
+    rt: HostRuntime,
+) -> Result<(), AllocError> {
+    let hamlet = &hamlet(rt.alloc())?;
+    let chapters = &chapters(rt.alloc())?;
+    let cases = [
+        (hamlet, "", false, Some("be")),
+        (hamlet, "be", false, Some("be")),
+        (hamlet, "be", true, Some("not")),
+        (hamlet, "bee", false, Some("not")),
+        (hamlet, "to", true, None),
+        (hamlet, "tz", false, None),
+        (chapters, "chapter", true, Some("chapter\0")),
+        (chapters, "chapter1", true, Some("chapter10")),
+        (chapters, "chapter11", false, Some("chapter2")),
+    ];
+    for (shard, low, strict, want) in cases {
+        let found = shard.term_from(low.as_bytes(), strict);
+        assert_eq!(rt; found, want.map(|term| term.as_bytes()), "from {low}");
     }
     Ok(())
 }

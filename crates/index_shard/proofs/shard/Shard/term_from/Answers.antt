@@ -1,4 +1,4 @@
 use Rattle.index_shard.proofs.shard.Shard.term_from.Goals as goal
 
-pub place_from-place-requires : goal.place_from-place-requires
-place_from-place-requires c = (c.self.inside.range, rw c.deref.ensures.value c.self.invariant.table)
+pub term_from-requires : goal.term_from-requires
+term_from-requires c = (c.self.inside.range, c.self.invariant.table)

@@ -1,5 +1,0 @@
-use Rattle.index_shard.proofs.tests.a_look_up_is_one_step_whatever_it_finds.Given as goal
-
--- the counter of the test is the one that it made
-abbrev pub ghosts-look_up : goal.ghosts-look_up
-ghosts-look_up g a = record { name = a.blank.name; parts = a.blank.parts }
