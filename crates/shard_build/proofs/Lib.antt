@@ -2,3 +2,4 @@ pub mod Places
 pub mod Tables
 pub mod Updates
 pub mod MapTables
+mod Worked

@@ -1,12 +1,12 @@
 -- The places of the tokens of consecutive words.
 use Rattle.std.proofs.Common.{◌≡◌, ℕ, zero, suc, ◌+◌, ◌<◌, ◌≤◌, Bool, true, false, cond, ◌||◌, eqb, List, [], ◌∷◌, ◌++◌, length, map, filter, bytes_eq, get_or, Option, Some, None, inl, inr, refl, sym, ap, ◌∙◌, subst, arith, le_refl}
-use Rattle.std.specs.Option.{unwrap_or}
+use Rattle.std.specs.Option.{IfSome, unwrap_or}
 use Rattle.std.proofs.lemmas.Bool.{true≢false, cases_Bool, or_cases, eqb-true}
 use Rattle.std.proofs.lemmas.Slice.Eq.{bytes_eq-Decides}
-use Rattle.gcl_model.specs.Texts.{Word, places}
+use Rattle.gcl_model.specs.Texts.{Word, places, AreRisingBelow}
 use Rattle.gcl_model.specs.Collections.{words_from}
 use Rattle.index_shard.specs.Tables.{RiseWithin, has_address, AreApart}
-use Rattle.index_shard.proofs.ShardWords.{rise_wider, word, lacks_earlier, has_first, has_later}
+use Rattle.index_shard.proofs.ShardWords.{rise_wider, word, lacks_earlier, has_first, has_later, rising_places, rising_apart}
 use Rattle.shard_build.specs.Groups.{unless_empty, group_of}
 
 -- one token more is one word more
@@ -40,14 +40,21 @@ group_of-push words p t token =
       | inr e ↦ rw e (ap unless_empty (places-push words p t token ∙ rw e refl))
     ]
 
+-- consecutive words rise
+words_from_rise : (tokens : List (List ℕ)) (p end : ℕ) → p + length tokens ≤ end → AreRisingBelow end p (words_from p tokens)
+words_from_rise [] p end le = tt
+words_from_rise (t ∷ ts) p end le = (le_refl p, omega (arith, le), words_from_rise ts (p + 1) end (omega (arith, le)))
+
 pub places_rise : (tokens : List (List ℕ)) (p : ℕ) (token : List ℕ) → RiseWithin p (p + length tokens) (places (words_from p tokens) token)
-places_rise [] p token = tt
-places_rise (t ∷ ts) p token =
-    let rest = places_rise ts (p + 1) token in
-    elim (cases_Bool (bytes_eq t token)) [
-      | inl e ↦ rw e (le_refl p, omega arith, rise_wider (p + 1) (p + 1) (p + 1 + length ts) (p + suc (length ts)) _ rest (omega arith) (omega arith))
-      | inr e ↦ rw e (rise_wider (p + 1) p (p + 1 + length ts) (p + suc (length ts)) _ rest (omega arith) (omega arith))
-    ]
+places_rise tokens p token = rising_places (p + length tokens) p (words_from p tokens) token (words_from_rise tokens p (p + length tokens) (le_refl (p + length tokens)))
+
+-- so the next address is behind those of each token
+pub group_behind : (p : ℕ) (tokens : List (List ℕ)) (token : List ℕ) (address : ℕ) (o : Option (List ℕ)) → address ≡ p + length tokens → o ≡ group_of (words_from p tokens) token → IfSome o (λ list. RiseWithin 0 address list)
+group_behind p tokens token address o at is = subst (λ g. IfSome g (λ list. RiseWithin 0 address list)) (sym is) (if_there (places (words_from p tokens) token) (rise_wider p 0 (p + length tokens) address (places (words_from p tokens) token) (places_rise tokens p token) (omega arith) (omega (arith, at))))
+  where
+    if_there : (ps : List ℕ) → RiseWithin 0 address ps → IfSome (unless_empty ps) (λ list. RiseWithin 0 address list)
+    if_there [] rise = tt
+    if_there (q ∷ qs) rise = rise
 
 -- an address is a place of its own token alone
 pub place_tells : (tokens : List (List ℕ)) (p i : ℕ) (token : List ℕ) → i < length tokens → has_address (places (words_from p tokens) token) (p + i) ≡ bytes_eq (get_or tokens i []) token
@@ -68,31 +75,7 @@ place_tells (t ∷ ts) p (suc i) token lt =
 
 -- two tokens share no place
 pub places_apart : (tokens : List (List ℕ)) (p : ℕ) (a b : List ℕ) → (a ≡ b → ⊥) → AreApart (places (words_from p tokens) a) (places (words_from p tokens) b)
-places_apart [] p a b other q has = refl
-places_apart (t ∷ ts) p a b other q has =
-    let mine = places (words_from (p + 1) ts) a in
-    let others = places (words_from (p + 1) ts) b in
-    let early_a = lacks_earlier (p + 1) (p + 1 + length ts) mine p (places_rise ts (p + 1) a) (omega arith) in
-    let early_b = lacks_earlier (p + 1) (p + 1 + length ts) others p (places_rise ts (p + 1) b) (omega arith) in
-    let rest = places_apart ts (p + 1) a b other q in
-    elim (cases_Bool (bytes_eq t a)) [
-      | inl ea ↦ elim (cases_Bool (bytes_eq t b)) [
-        | inl eb ↦ absurd (other (sym ((bytes_eq-Decides t a).0 ea) ∙ (bytes_eq-Decides t b).0 eb))
-        | inr eb ↦ rw eb (elim (or_cases (eqb p q) (has_address mine q) (rw ea at has)) [
-          | inl e ↦ ap (has_address others) (sym (eqb-true p q e)) ∙ early_b
-          | inr e ↦ rest e
-        ])
-      ]
-      | inr ea ↦
-          let has = rw ea at has in
-          elim (cases_Bool (bytes_eq t b)) [
-            | inl eb ↦ rw eb (elim (cases_Bool (eqb p q)) [
-              | inl e ↦ absurd (true≢false (sym has ∙ ap (has_address mine) (sym (eqb-true p q e)) ∙ early_a))
-              | inr e ↦ rw e (rest has)
-            ])
-            | inr eb ↦ rw eb (rest has)
-          ]
-    ]
+places_apart tokens p a b other = rising_apart (p + length tokens) p (words_from p tokens) a b (words_from_rise tokens p (p + length tokens) (le_refl (p + length tokens))) other
 
 -- the list of a token after one token more
 pub grouped_more : (p : ℕ) (tokens : List (List ℕ)) (token cs : List ℕ) (address : ℕ) (old new : Option (List ℕ)) → address ≡ p + length tokens → old ≡ group_of (words_from p tokens) cs →

@@ -1,50 +1,76 @@
--- A map from tokens to lists, after one of its lists grew.
-use Rattle.std.proofs.Common.{◌≡◌, ℕ, Bool, true, false, cond, List, [], ◌∷◌, ◌++◌, bytes_eq, nat_cmp, Option, Some, None, inl, inr, refl, sym, ap, ◌∙◌, subst}
-use Rattle.std.specs.Option.{unwrap_or, option_map}
+-- A map from tokens to lists: one of its lists grew, and its entries were sorted.
+use Rattle.std.proofs.Common.{◌≡◌, ℕ, zero, suc, ◌+◌, ◌<◌, Bool, true, false, cond, List, [], ◌∷◌, ◌++◌, length, get_or, bytes_eq, nat_cmp, Option, Some, None, inl, inr, refl, sym, ap, ◌∙◌, subst, arith}
+use Rattle.std.specs.declared.cmp.Ordering.{Ordering}
+use Rattle.std.specs.declared.cmp.Ordering.TheVariants.{Less, Equal, Greater}
+use Rattle.std.specs.Ordering.{is_lt, is_eq, ordering_reverse}
+use Rattle.std.specs.List.{AllByRecursion, IsDistinct}
+use Rattle.std.specs.List.Sorted.{IsSorted, IsStrictlySortedBy, IsPermutation}
+use Rattle.std.specs.Option.{unwrap_or}
+use Rattle.std.specs.Cmp.{IsEquivalence}
 use Rattle.std.specs.Cmp.Lexicographic.{slice_cmp}
-use Rattle.std.specs.BTreeMap.{BTreeMap, get_by, is_at, IsOrdered, UpdatesBy}
-use Rattle.std.specs.Map.{keys_of, set_value}
-use Rattle.std.specs.List.Sorted.{IsStrictlySortedBy}
-use Rattle.std.proofs.lemmas.Map.{keys-set_value}
+use Rattle.std.specs.HashMap.{HashMap, get_by, UpdatesBy}
+use Rattle.std.specs.Map.{lookup, keys_of}
 use Rattle.std.proofs.lemmas.Bool.{cases_Bool}
-use Rattle.std.proofs.lemmas.Map.Text.{btree_map_updates_str}
+use Rattle.std.proofs.lemmas.Cmp.{nat_list_cmp_total, nat_list_eq_equiv}
+use Rattle.std.proofs.lemmas.Map.Text.{hash_map_updates_str, is_eq-slice_cmp}
 use Rattle.std.proofs.lemmas.Slice.Eq.{bytes_eq-Decides}
+use Rattle.indexmap.proofs.MapLemmas.{lookup_permutation}
 use denote.Ref.{Bor}
 
-abbrev list_at : {V : Type 0} → (V → List ℕ) → BTreeMap (Bor (List ℕ)) V → List ℕ → Option (List ℕ)
-list_at items m token = option_map items (get_by (λ k. slice_cmp nat_cmp token k.now) m)
+abbrev same_key : Bor (List ℕ) → Bor (List ℕ) → Bool
+same_key x y = bytes_eq x.now y.now
+
+abbrev pub key_order : Bor (List ℕ) → Bor (List ℕ) → Ordering
+key_order x y = slice_cmp nat_cmp x.now y.now
+
+abbrev list_at : {S : Type 0} → HashMap (Bor (List ℕ)) (List ℕ) S → List ℕ → Option (List ℕ)
+list_at m token = get_by (λ k. bytes_eq token k.now) m
+
+key_laws : IsEquivalence same_key
+key_laws = record { refl = λ x. nat_list_eq_equiv.refl x.now; symm = λ x y. nat_list_eq_equiv.symm x.now y.now; congr = λ x y z. nat_list_eq_equiv.congr x.now y.now z.now }
 
 -- where the list of one token grew by an address, every other list is as it was
-pub list_grown : {V : Type 0} (items : V → List ℕ) (token : List ℕ) (m n : BTreeMap (Bor (List ℕ)) V) (w : V) (address : ℕ) →
-    UpdatesBy (λ x y. slice_cmp nat_cmp x.now y.now) (λ k. slice_cmp nat_cmp token k.now) m n (Some w) →
-    items w ≡ unwrap_or (option_map items (get_by (λ k. slice_cmp nat_cmp token k.now) m)) [] ++ address ∷ [] →
-    (cs : List ℕ) → option_map items (get_by (λ k. slice_cmp nat_cmp cs k.now) n)
-    ≡ cond (bytes_eq token cs) (Some (unwrap_or (option_map items (get_by (λ k. slice_cmp nat_cmp cs k.now) m)) [] ++ address ∷ [])) (option_map items (get_by (λ k. slice_cmp nat_cmp cs k.now) m))
-list_grown items token m n w address updates grown cs =
-    let e = btree_map_updates_str token m n (Some w) updates cs in
+pub list_grown : {S : Type 0} (token : List ℕ) (m n : HashMap (Bor (List ℕ)) (List ℕ) S) (w : List ℕ) (address : ℕ) →
+    UpdatesBy same_key (λ k. bytes_eq token k.now) m n (Some w) → w ≡ unwrap_or (get_by (λ k. bytes_eq token k.now) m) [] ++ address ∷ [] →
+    (cs : List ℕ) → get_by (λ k. bytes_eq cs k.now) n ≡ cond (bytes_eq token cs) (Some (unwrap_or (get_by (λ k. bytes_eq cs k.now) m) [] ++ address ∷ [])) (get_by (λ k. bytes_eq cs k.now) m)
+list_grown token m n w address updates grown cs =
+    let e = hash_map_updates_str token m n (Some w) updates cs in
     elim (cases_Bool (bytes_eq token cs)) [
       | inl h ↦
           let same : token ≡ cs = (bytes_eq-Decides token cs).0 h in
-          let here : list_at items n cs ≡ Some (items w) = let e = rw h at e in ap (option_map items) e in
-          let there : Some (items w) ≡ Some (unwrap_or (list_at items m cs) [] ++ address ∷ []) =
-          ap (λ l. Some l) grown ∙ ap (λ t. Some (unwrap_or (list_at items m t) [] ++ address ∷ [])) same in
-          rw h (here ∙ there)
-      | inr h ↦ let e = rw h at e in rw h (ap (option_map items) e)
+          let here : list_at n cs ≡ Some w = let e = rw h at e in e in
+          rw h (here ∙ ap (λ l. Some l) grown ∙ ap (λ t. Some (unwrap_or (list_at m t) [] ++ address ∷ [])) same)
+      | inr h ↦ let e = rw h at e in rw h e
     ]
 
 -- the same where the token had no list yet
-pub list_begun : {V : Type 0} (items : V → List ℕ) (token : List ℕ) (m before n : BTreeMap (Bor (List ℕ)) V) (w : V) (address : ℕ) → before ≡ m →
-    UpdatesBy (λ x y. slice_cmp nat_cmp x.now y.now) (λ k. slice_cmp nat_cmp token k.now) before n (Some w) →
-    None ≡ get_by (λ k. slice_cmp nat_cmp token k.now) m → items w ≡ address ∷ [] →
-    (cs : List ℕ) → option_map items (get_by (λ k. slice_cmp nat_cmp cs k.now) n)
-    ≡ cond (bytes_eq token cs) (Some (unwrap_or (option_map items (get_by (λ k. slice_cmp nat_cmp cs k.now) m)) [] ++ address ∷ [])) (option_map items (get_by (λ k. slice_cmp nat_cmp cs k.now) m))
-list_begun items token m before n w address same updates none one cs =
-    list_grown items token m n w address
-    (subst (λ l. UpdatesBy (λ x y. slice_cmp nat_cmp x.now y.now) (λ k. slice_cmp nat_cmp token k.now) l n (Some w)) same updates)
-    (one ∙ ap (λ o. unwrap_or (option_map items o) [] ++ address ∷ []) none) cs
+pub list_begun : {S : Type 0} (token : List ℕ) (m before n : HashMap (Bor (List ℕ)) (List ℕ) S) (w : List ℕ) (address : ℕ) → before ≡ m →
+    UpdatesBy same_key (λ k. bytes_eq token k.now) before n (Some w) → None ≡ get_by (λ k. bytes_eq token k.now) m → w ≡ address ∷ [] →
+    (cs : List ℕ) → get_by (λ k. bytes_eq cs k.now) n ≡ cond (bytes_eq token cs) (Some (unwrap_or (get_by (λ k. bytes_eq cs k.now) m) [] ++ address ∷ [])) (get_by (λ k. bytes_eq cs k.now) m)
+list_begun token m before n w address same updates none one cs =
+    list_grown token m n w address (subst (λ l. UpdatesBy same_key (λ k. bytes_eq token k.now) l n (Some w)) same updates) (one ∙ ap (λ o. unwrap_or o [] ++ address ∷ []) none) cs
 
--- a list that grew leaves the order of the tokens
-pub order_kept : {V : Type 0} (token : List ℕ) (m n : BTreeMap (Bor (List ℕ)) V) (w : V) → n.entries ≡ set_value (is_at (λ k. slice_cmp nat_cmp token k.now)) m.entries w →
-    IsOrdered (λ x y. slice_cmp nat_cmp x.now y.now) m → IsOrdered (λ x y. slice_cmp nat_cmp x.now y.now) n
-order_kept token m n w is ordered =
-    subst (IsStrictlySortedBy (λ x y. slice_cmp nat_cmp x.now y.now)) (sym (ap keys_of is ∙ keys-set_value (is_at (λ k. slice_cmp nat_cmp token k.now)) m.entries w)) ordered
+-- an order among the entries changes no look-up
+pub list_moved : {S : Type 0} (m n : HashMap (Bor (List ℕ)) (List ℕ) S) → IsPermutation m.entries n.entries → IsDistinct same_key (keys_of n.entries) →
+    (cs : List ℕ) → get_by (λ k. bytes_eq cs k.now) n ≡ get_by (λ k. bytes_eq cs k.now) m
+list_moved m n moved distinct cs = lookup_permutation key_laws m.entries n.entries moved distinct (λ k. bytes_eq cs k.now) (λ x y. nat_list_eq_equiv.congr cs x.now y.now)
+
+-- of two keys that differ the first is the lesser where the second is not
+apart_less : (x y : Bor (List ℕ)) (o : Ordering) → key_order x y ≡ o → is_lt (key_order y x) ≡ false → same_key x y ≡ false → key_order x y ≡ Less
+apart_less x y Less is not_less differs = is
+apart_less x y Equal is not_less differs = let same = sym differs ∙ sym (is_eq-slice_cmp x.now y.now) ∙ ap is_eq is in absurd cc
+apart_less x y Greater is not_less differs = let less = sym not_less ∙ ap is_lt (nat_list_cmp_total.antisymm y.now x.now ∙ ap ordering_reverse is) in absurd cc
+
+all_less : (x y : Bor (List ℕ)) (ys : List (Bor (List ℕ))) → key_order x y ≡ Less → AllByRecursion (λ z. key_order y z ≡ Less) ys → AllByRecursion (λ z. key_order x z ≡ Less) ys
+all_less x y [] less all = tt
+all_less x y (z ∷ zs) less all = (nat_list_cmp_total.trans x.now y.now z.now less all.0, all_less x y zs less all.1)
+
+-- sorted keys of which no two are equal rise strictly
+pub strictly_sorted : (ks : List (Bor (List ℕ))) → IsSorted key_order ks → IsDistinct same_key ks → IsStrictlySortedBy key_order ks
+unfolding IsStrictlySortedBy IsDistinct
+strictly_sorted [] sorted distinct = tt
+strictly_sorted (x ∷ []) sorted distinct = (tt, tt)
+strictly_sorted (x ∷ y ∷ ys) sorted distinct =
+    let rest = strictly_sorted (y ∷ ys) (λ k d low lt. let next : suc (k + 1) ≡ suc k + 1 = omega arith in ap (λ j. is_lt (key_order (get_or (x ∷ y ∷ ys) j d) (get_or (y ∷ ys) k d))) next ∙ sorted (suc k) d (omega arith) (omega (arith, lt))) distinct.1 in
+    let less = apart_less x y (key_order x y) refl (sorted 0 x (omega arith) (omega arith)) distinct.0.0 in
+    ((less, all_less x y ys less rest.0), rest)

@@ -13,10 +13,10 @@ unless_empty (p ∷ ps) = Some (p ∷ ps)
 abbrev pub group_of : List Word → List ℕ → Option (List ℕ)
 group_of words token = unless_empty (places words token)
 
--- the entries of a map from tokens to lists of addresses
-abbrev pub table_entry : {V : Type 0} → (V → List ℕ) → Bor (List ℕ) × V → TermEntry
-table_entry addresses_of entry = record { term = entry.0.now; addresses = addresses_of entry.1 }
+-- an entry of a map from tokens to lists of addresses
+abbrev pub table_entry : Bor (List ℕ) × List ℕ → TermEntry
+table_entry entry = record { term = entry.0.now; addresses = entry.1 }
 
 -- the map as the table of a shard
-abbrev pub table_of : {V : Type 0} → (V → List ℕ) → List (Bor (List ℕ) × V) → List TermEntry
-table_of addresses_of entries = map (table_entry addresses_of) entries
+abbrev pub table_of : List (Bor (List ℕ) × List ℕ) → List TermEntry
+table_of entries = map table_entry entries

@@ -7,11 +7,13 @@
 //! has `to` at 1 and 5, and `</file!>` at 7. Any `Tokens` will do: a list of tokens, or a text that was cut.
 #![tactic(auto)]
 
+mod boundaries;
 mod group;
 mod making;
 mod source;
 #[cfg(test)]
 mod tests;
 
+pub use boundaries::{file_end, file_start};
 pub use making::{build, build_from};
 pub use source::Tokens;

@@ -10,8 +10,9 @@ use crate::source::Tokens;
 use address_space::Range;
 use gcl_model::TokenList;
 use index_shard::{Shard, ShardMaker};
+use indexmap::IndexMap;
+use posting_code::PostingMaker;
 use std::alloc::{AllocError, Global};
-use std::collections::BTreeMap;
 
 /// The shard of a file with these tokens: `<file!>` is at `base`, the tokens follow, and `</file!>` is at the last address.
 pub fn build(alloc: Global, base: u64, tokens: &TokenList) -> Result<Shard, AllocError>
@@ -33,21 +34,21 @@ pub fn build_from<T: Tokens>(alloc: Global, base: u64, tokens: &T) -> Result<Sha
         first: base,
         last: base + tokens.len() as u64 + 1,
     };
-    shard_of(alloc, range, &postings)
+    shard_of(alloc, range, postings)
 }
 
 /// The shard with these terms and their postings.
 fn shard_of(
     alloc: Global,
     range: Range,
-    postings: &BTreeMap<&[u8], Vec<u64>>,
+    postings: IndexMap<&[u8], PostingMaker>,
 ) -> Result<Shard, AllocError>
-    requires { IsTable range (table_of (λ addresses. addresses.items) postings.now.entries) }
-    ensures { IfOk result (λ shard. shard ≡ record { range = range; table = table_of (λ addresses. addresses.items) postings.now.entries }) }
+    requires { IsTable range (table_of postings.entries) }
+    ensures { IfOk result (λ shard. shard ≡ record { range = range; table = table_of postings.entry.entries }) }
 {
     let mut maker = ShardMaker::new(alloc, range);
-    for (token, addresses) in postings {
-        maker.push_term(token, addresses)?;
+    for (token, list) in postings {
+        maker.push_list(token, list.finish())?;
     }
     Ok(maker.finish())
 }

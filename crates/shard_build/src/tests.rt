@@ -1,13 +1,12 @@
-ghost use Rattle.std.specs.Prelude.{◌≡◌, ◌<◌};
+ghost use Rattle.std.specs.Prelude.{◌<◌};
 
-use crate::making::build;
-use gcl_model::{Bytes, Steps, Tally, TokenList};
-use index_shard::{Direction, Shard, Walk};
+use crate::making::{build, build_from};
+use gcl_model::{Bytes, Ledger, Question, Steps, TokenList, counted};
+use index_shard::{Direction, Shard};
 use std::alloc::{AllocError, Global};
-use std::marker::Brand;
-use std::sync::ledger;
-use std::sync::ledger::Blank;
+use std::process::Abort;
 use std::test::Fail;
+use word_tokens::token_text;
 
 fn tokens_of(alloc: Global, words: &[&str]) -> Result<TokenList, AllocError> {
     let mut tokens = TokenList::new(alloc);
@@ -17,61 +16,107 @@ fn tokens_of(alloc: Global, words: &[&str]) -> Result<TokenList, AllocError> {
     Ok(tokens)
 }
 
-/// The answer of one look-up, and its steps.
-fn look_up<B: ledger::Ledger>(
-    shard: &Shard,
-    term: &[u8],
+/// The posting of a term that is nearest to an address on one side.
+#[derive(Drop)]
+struct Nearest<'s, 't> {
+    shard: &'s Shard,
+    term: &'t [u8],
     k: u64,
     direction: Direction,
-    blank: Blank,
-) -> (Option<u64>, u64)
-    requires name { blank.name ≡ B.name }
-    requires parts { blank.parts ≡ B.parts }
-    requires some { 0 < blank.parts }
-{
-    let mut steps = Steps::<Tally<B>>::open(blank);
-    let found = shard.look_up(term, k, direction, &mut steps);
-    (found, steps.count())
 }
 
-/// The next three postings of a walk, and its steps.
-fn walked<B: ledger::Ledger>(mut walk: Walk<'_>, blank: Blank) -> ([Option<u64>; 3], u64)
-    requires name { blank.name ≡ B.name }
-    requires parts { blank.parts ≡ B.parts }
-    requires some { 0 < blank.parts }
-{
-    let mut steps = Steps::<Tally<B>>::open(blank);
-    let first = walk.next(&mut steps);
-    let second = walk.next(&mut steps);
-    let third = walk.next(&mut steps);
-    ([first, second, third], steps.count())
+impl Question for Nearest<'_, '_> {
+    ghost use Rattle.std.specs.Prelude.{◌≡◌, ⊤};
+    ghost use Rattle.index_shard.specs.Searched.{look_up};
+
+    type Answer = Option<u64>;
+
+    ghost can_ask = { λ _. ⊤ };
+
+    ghost answers = { λ asked answer. answer ≡ look_up asked.shard.now.table asked.term.now asked.k asked.direction };
+
+    ghost most = { λ _ _. 1 };
+
+    fn ask<L: Ledger>(&self, steps: &mut Steps<L>) -> Option<u64> {
+        self.shard.look_up(self.term, self.k, self.direction, steps)
+    }
+}
+
+/// The first three postings of the term at a place.
+#[derive(Drop)]
+struct FirstThree<'a> {
+    shard: &'a Shard,
+    place: usize,
+}
+
+impl Question for FirstThree<'_> {
+    ghost use Rattle.std.specs.Prelude.{◌<◌, ⊤, length};
+
+    type Answer = [Option<u64>; 3];
+
+    ghost can_ask = { λ asked. asked.place < length asked.shard.now.table };
+
+    ghost answers = { λ _ _. ⊤ };
+
+    ghost most = { λ _ _. 3 };
+
+    fn ask<L: Ledger>(&self, steps: &mut Steps<L>) -> [Option<u64>; 3] {
+        let mut walk = self.shard.walk(self.place);
+        let first = walk.next(steps);
+        let second = walk.next(steps);
+        let third = walk.next(steps);
+        [first, second, third]
+    }
+}
+
+/// The shard is that of `to be or not to be` from address 0 on.
+fn is_hamlet<R: Abort>(rt: &R, shard: &Shard) {
+    let cases: [(&str, [Option<u64>; 3], u64); 6] = [
+        ("</file!>", [Some(7), None, None], 1),
+        ("<file!>", [Some(0), None, None], 1),
+        ("be", [Some(2), Some(6), None], 2),
+        ("not", [Some(4), None, None], 1),
+        ("or", [Some(3), None, None], 1),
+        ("to", [Some(1), Some(5), None], 2),
+    ];
+    assert_eq!(rt; shard.term_count(), cases.len());
+    for (place, (term, postings, steps)) in cases.into_iter().enumerate() {
+        if place < shard.term_count() {
+            assert_eq!(rt; shard.term(place), term.as_bytes());
+            let walked = counted(&FirstThree { shard, place });
+            assert_eq!(rt; walked, (postings, steps), "of {term}");
+        }
+    }
 }
 
 #[test]
 fn a_file_is_indexed_with_its_boundaries(rt: HostRuntime) -> Result<(), Fail> {
     let tokens = tokens_of(rt.alloc(), &["to", "be", "or", "not", "to", "be"])?;
     assert_eq!(rt; tokens.len(), 6);
-    let shard = build(rt.alloc(), 0, &tokens)?;
-    let terms = ["</file!>", "<file!>", "be", "not", "or", "to"];
-    assert_eq!(rt; shard.term_count(), terms.len());
-    for (i, term) in terms.into_iter().enumerate() {
-        if i < shard.term_count() {
-            assert_eq!(rt; shard.term(i), term.as_bytes());
-        }
-    }
-    assert_eq!(rt;
-        look_up::<Brand>(&shard, b"to", 2, Direction::Forward, Blank::new(1)),
-        (Some(5), 1)
-    );
-    assert_eq!(rt;
-        look_up::<Brand>(&shard, b"to", 0, Direction::Backward, Blank::new(1)),
-        (None, 1)
-    );
-    if shard.term_count() > 2 {
-        assert_eq!(rt;
-            walked::<Brand>(shard.walk(2), Blank::new(1)),
-            ([Some(2), Some(6), None], 2)
-        );
+    is_hamlet(&rt, &build(rt.alloc(), 0, &tokens)?);
+    Ok(())
+}
+
+#[test]
+fn a_text_that_was_cut_is_indexed_as_its_tokens(rt: HostRuntime) -> Result<(), Fail> {
+    let text = token_text(rt.alloc(), b"To be, or NOT to be?")?;
+    assert_eq!(rt; text.len(), 6);
+    is_hamlet(&rt, &build_from(rt.alloc(), 0, &text)?);
+    Ok(())
+}
+
+#[test]
+fn a_file_without_tokens_has_its_boundaries(rt: HostRuntime) -> Result<(), Fail> {
+    let shard = &build(rt.alloc(), 5, &TokenList::new(rt.alloc()))?;
+    assert_eq!(rt; shard.term_count(), 2);
+    for (word, k) in [("<file!>", 5), ("</file!>", 6)] {
+        let found = counted(&Nearest {
+            shard,
+            term: word.as_bytes(),
+            k: 0,
+            direction: Direction::Forward,
+        });
+        assert_eq!(rt; found, (Some(k), 1), "{word}");
     }
     Ok(())
 }
@@ -93,30 +138,6 @@ fn plain_look_up(tokens: &[&[u8]], term: &[u8], k: u64, direction: Direction) ->
     found
 }
 
-/// The first `k` from 98 on at which a look-up differs from the plain one, and the steps of all look-ups.
-fn first_difference<B: ledger::Ledger>(
-    shard: &Shard,
-    tokens: &[&[u8]],
-    term: &[u8],
-    blank: Blank,
-) -> (Option<u64>, u64)
-    requires name { blank.name ≡ B.name }
-    requires parts { blank.parts ≡ B.parts }
-    requires some { 0 < blank.parts }
-{
-    let mut steps = Steps::<Tally<B>>::open(blank);
-    for k in 98..115u64 {
-        let forward = shard.look_up(term, k, Direction::Forward, &mut steps);
-        let backward = shard.look_up(term, k, Direction::Backward, &mut steps);
-        if forward != plain_look_up(tokens, term, k, Direction::Forward)
-            || backward != plain_look_up(tokens, term, k, Direction::Backward)
-        {
-            return (Some(k), steps.count());
-        }
-    }
-    (None, steps.count())
-}
-
 #[test]
 fn look_ups_agree_with_a_look_at_each_token(rt: HostRuntime) -> Result<(), Fail> {
     let words = [
@@ -124,17 +145,25 @@ fn look_ups_agree_with_a_look_at_each_token(rt: HostRuntime) -> Result<(), Fail>
     ];
     let tokens = tokens_of(rt.alloc(), &words)?;
     assert_eq!(rt; tokens.len(), 11);
-    let shard = build(rt.alloc(), 100, &tokens)?;
+    let shard = &build(rt.alloc(), 100, &tokens)?;
     let mut all = vec![in rt.alloc(); b"<file!>".as_slice()]?;
     for word in &words {
         all.push(word.as_bytes())?;
     }
     all.push(b"</file!>".as_slice())?;
     for term in &all {
-        assert_eq!(rt;
-            first_difference::<Brand>(&shard, &all, term, Blank::new(1)),
-            (None, 34)
-        );
+        for k in 98..115u64 {
+            for direction in [Direction::Forward, Direction::Backward] {
+                let found = counted(&Nearest {
+                    shard,
+                    term,
+                    k,
+                    direction,
+                });
+                let plain = plain_look_up(&all, term, k, direction);
+                assert_eq!(rt; found, (plain, 1), "{direction:?} at {k}");
+            }
+        }
     }
     Ok(())
 }

@@ -1,7 +1,5 @@
-use Rattle.std.proofs.Common.{◌≡◌, ◌+◌, ◌∷◌, List, ℕ, take, option_map}
-use Rattle.std.specs.Ordering.{nat_cmp}
-use Rattle.std.specs.Cmp.Lexicographic.{slice_cmp}
-use Rattle.std.specs.BTreeMap.{get_by}
+use Rattle.std.proofs.Common.{◌≡◌, ◌+◌, ◌∷◌, List, ℕ, take, bytes_eq}
+use Rattle.std.specs.HashMap.{get_by}
 use Rattle.gcl_model.specs.Collections.{words_from, file_start}
 use Rattle.shard_build.specs.Groups.{group_of}
 use Rattle.shard_build.proofs.group.group_by_token.Given as goal
@@ -10,5 +8,5 @@ use Rattle.shard_build.proofs.group.group_by_token.Given as goal
 abbrev pub invariant-loop-i : goal.invariant-loop-i
 invariant-loop-i g l = record {
   counted : l.address ≡ l.base + l.i;
-  grouped : (cs : List ℕ) → option_map (λ addresses. addresses.items) (get_by (λ k. slice_cmp nat_cmp cs k.now) l.groups) ≡ group_of (words_from l.base (file_start ∷ take l.i (g.T.Tokens.tokens l.tokens))) cs;
+  grouped : (cs : List ℕ) → get_by (λ k. bytes_eq cs k.now) l.groups ≡ group_of (words_from l.base (file_start ∷ take l.i (g.T.Tokens.tokens l.tokens))) cs;
 }

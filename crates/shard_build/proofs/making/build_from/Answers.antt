@@ -12,7 +12,7 @@ shard_of-requires g c =
     let tokens = g.T.Tokens.tokens c.args.tokens.now in
     let width = length-append tokens (file_end ∷ []) in
     let found = c.in_ok-postings.ensures.lists in
-    map_is_table (λ addresses. addresses.items) c.in_ok-postings.postings.entries (with_boundaries tokens) (slot_range c.args.base (c.args.base + c.len.result + 1)) (omega (arith, width, c.len.ensures))
+    map_is_table c.in_ok-postings.postings.entries (with_boundaries tokens) (slot_range c.args.base (c.args.base + c.len.result + 1)) (omega (arith, width, c.len.ensures))
     c.in_ok-postings.ensures.ordered found
 
 pub returns-clause-words : goal.returns-clause-words
@@ -22,6 +22,6 @@ returns-clause-words g c =
     let found = c.in_ok-postings.ensures.lists in
     IfOk-weaker c.shard_of.result _ (λ shard. words_of shard ≡ words_from c.args.base (with_boundaries tokens))
     (λ shard is.
-    map_has_words (λ addresses. addresses.items) c.in_ok-postings.postings.entries (with_boundaries tokens) shard c.args.base (c.args.base + c.len.result + 1) (omega (arith, width, c.len.ensures)) (omega arith)
+    map_has_words c.in_ok-postings.postings.entries (with_boundaries tokens) shard c.args.base (c.args.base + c.len.result + 1) (omega (arith, width, c.len.ensures)) (omega arith)
     is c.in_ok-postings.ensures.ordered found)
     c.shard_of.ensures

@@ -6,5 +6,5 @@ use Rattle.shard_build.proofs.making.shard_of.Given as goal
 abbrev pub invariant-loop-token : goal.invariant-loop-token
 invariant-loop-token l = record {
   range : l.maker.range ≡ l.fn.range;
-  rest : l.maker.table ++ table_of (λ addresses. addresses.items) l.token-iterator ≡ table_of (λ addresses. addresses.items) l.postings.entries;
+  rest : l.maker.table ++ table_of l.token-iterator ≡ table_of l.fn.postings.entries;
 }

@@ -1,0 +1,31 @@
+-- Groups of words, computed: `to be to` from address 5 on.
+use Rattle.std.proofs.Common.{◌≡◌, ℕ, List, [], ◌∷◌, codes, Some, None, refl}
+use Rattle.gcl_model.specs.Texts.{Word}
+use Rattle.gcl_model.specs.Collections.{words_from, with_boundaries, width_of}
+use Rattle.shard_build.specs.Groups.{unless_empty, group_of}
+
+abbrev to_be_to : List (List ℕ)
+to_be_to = codes "to" ∷ codes "be" ∷ codes "to" ∷ []
+
+abbrev words : List Word
+words = words_from 5 (with_boundaries to_be_to)
+
+-- a token that stands twice, one that stands once, and one that stands nowhere
+group_of-twice : group_of words (codes "to") ≡ Some (6 ∷ 8 ∷ [])
+group_of-twice = refl
+
+group_of-once : group_of words (codes "be") ≡ Some (7 ∷ [])
+group_of-once = refl
+
+group_of-missing : group_of words (codes "or") ≡ None
+group_of-missing = refl
+
+-- the boundaries stand around the tokens
+group_of-start : group_of words (codes "<file!>") ≡ Some (5 ∷ [])
+group_of-start = refl
+
+group_of-end : group_of words (codes "</file!>") ≡ Some (9 ∷ [])
+group_of-end = refl
+
+width_of-three : width_of to_be_to ≡ 5
+width_of-three = refl
