@@ -1,35 +1,52 @@
 #!/usr/bin/env bash
-# Tokenises a text of 20 MB and builds its shard, and prints ratios of one run: seconds of building to seconds of
-# tokenising (target 6), and the memory that building adds to the bytes of the addresses and of the different terms
-# (target 2). It makes its text.
+# Shards of a text of 20 MB with 5,000 different words, and of one of 5 MB in which most words stand once. Prints ratios of
+# one run: seconds of building to seconds of cutting (target 6), and the bytes that one shard more keeps to those of the packed
+# differences and the different terms (target 2). It makes its texts, or takes the files that are named.
 set -eu
 here=$(cd "$(dirname "$0")/.." && pwd)
 work=$(mktemp -d)
 trap 'rm -rf "$work"' EXIT
 program=$here/crates/measure/out/measure
 (cd "$here/crates/measure" && rt run -- tokens data/a) > "$work/log" 2>&1 || { cat "$work/log" >&2; exit 1; }
-python3 - "$work" <<'P'
+if [ $# -eq 0 ]; then
+  python3 - "$work" <<'P'
 import random, sys
 random.seed(7)
-words = ["the", "of", "and", "to", "be"] * 20 + ["w%d" % n for n in range(5000)]
-with open(f"{sys.argv[1]}/text", "w") as out:
-    written = 0
-    while written < 20_000_000:
-        line = " ".join(random.choices(words, k=2000)) + "\n"
-        out.write(line)
-        written += len(line)
-text = open(f"{sys.argv[1]}/text").read().split()
-print(len(text) * 8 + sum(map(len, set(text))), file=open(f"{sys.argv[1]}/size", "w"))
+common = ["the", "of", "and", "to", "be"] * 20
+few = common + ["w%d" % n for n in range(5000)]
+for name, size, words in (("few", 20_000_000, few), ("many", 5_000_000, None)):
+    with open(f"{sys.argv[1]}/{name}", "w") as out:
+        written = 0
+        while written < size:
+            line = " ".join(random.choices(words, k=2000) if words else
+                            [random.choice(common) if random.random() < 0.5 else "w%d" % random.getrandbits(40) for _ in range(2000)]) + "\n"
+            out.write(line)
+            written += len(line)
 P
-cd "$work"
-measure() { python3 -c '
-import resource, subprocess, sys, time
-begin = time.time()
-subprocess.run(sys.argv[1], shell=True, check=True, stdout=subprocess.DEVNULL)
-print(time.time() - begin, resource.getrusage(resource.RUSAGE_CHILDREN).ru_maxrss)' "$1"; }
-read -r tokens held <<< "$(measure "$program tokens text")"
-read -r both total <<< "$(measure "$program build text")"
-awk -v t="$tokens" -v b="$both" -v h="$held" -v m="$total" -v s="$(cat size)" 'BEGIN {
-  printf "tokens %.3f s, shard %.3f s more: ratio %.2f (target 6)\n", t, b - t, (b - t) / t
-  printf "memory %.0f MB more, addresses and terms %.0f MB: ratio %.2f (target 2)\n", (m - h) / 1000, s / 1000000, (m - h) * 1024 / s
-}'
+  set -- "$work/few" "$work/many"
+fi
+# prints the kilobytes of a run
+memory() { python3 -c '
+import resource, subprocess, sys
+subprocess.run(sys.argv[1:], check=True, stdout=subprocess.DEVNULL)
+print(resource.getrusage(resource.RUSAGE_CHILDREN).ru_maxrss)' "$@"; }
+# prints the bytes of the packed differences and of the different terms, for texts of words alone
+packed() { python3 -c '
+import re, sys
+last, size, at = {}, 0, 0
+for word in re.findall(rb"[0-9A-Za-z\x80-\xff]+", open(sys.argv[1], "rb").read()):
+    word, at = word.lower(), at + 1
+    difference = at - last.get(word, 0)
+    size += max(1, (difference.bit_length() + 6) // 7)
+    last[word] = at
+print(size + sum(map(len, last)))' "$1"; }
+for text in "$@"; do
+  cut=$("$program" tokens "$text" | awk '{ print $(NF - 1) }')
+  built=$("$program" shards "$text" 1 | awk '{ print $(NF - 1) }')
+  one=$(memory "$program" shards "$text" 1)
+  five=$(memory "$program" shards "$text" 5)
+  awk -v n="$(basename "$text")" -v c="$cut" -v b="$built" -v o="$one" -v f="$five" -v p="$(packed "$text")" 'BEGIN {
+    printf "%s: cut in %.3f s, shard built in %.3f s: ratio %.2f (target 6)\n", n, c / 1e9, b / 1e9, b / c
+    printf "%s: %.2f MB a shard, differences and terms %.2f MB: ratio %.2f (target 2)\n", n, (f - o) * 1024 / 4e6, p / 1e6, (f - o) * 256 / p
+  }'
+done

@@ -1,6 +1,6 @@
 use Rattle.std.proofs.Common.{◌^◌, min}
 use Rattle.posting_code.specs.Postings.{RiseWithin}
-use Rattle.list_measure.proofs.rising.Given as goal
+use Rattle.measure.proofs.lists.rising.Given as goal
 
 abbrev pub invariant-loop-i : goal.invariant-loop-i
 invariant-loop-i l = RiseWithin 0 (min l.next (2 ^ 56)) l.numbers.items

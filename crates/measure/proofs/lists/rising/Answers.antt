@@ -1,6 +1,6 @@
 use Rattle.std.proofs.Common.{◌+◌, ◌/◌, ◌%◌, ◌^◌, min, arith}
 use Rattle.posting_code.proofs.Rising.{rise_push, rise_wider}
-use Rattle.list_measure.proofs.rising.Goals as goal
+use Rattle.measure.proofs.lists.rising.Goals as goal
 
 pub returns : goal.returns
 returns c = rise_wider 0 0 (min c.loop-i.next (2 ^ 56)) (2 ^ 56) c.loop-i.numbers.items c.loop-i.invariant (omega arith) (omega arith)

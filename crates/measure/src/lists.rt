@@ -1,22 +1,11 @@
-//! What the scripts of `bench/` run to measure posting lists. It promises nothing but to be safe.
-//!
-//! It makes a list of a million addresses with gaps from 1 to 16, and prints how many nanoseconds these took: a look-up at a
-//! random place for each beside halving over plain numbers, and a walk over all of them beside their sum. Without a word it does nothing.
-#![tactic(auto)]
-
 ghost use Rattle.std.specs.Prelude.{◌≡◌, ◌<◌, IfOk};
 ghost use Rattle.posting_code.specs.Postings.{ArePostings};
 
-use gcl_model::{NoLedger, Steps};
+use gcl_model::{Ledger, Question, Steps, uncounted};
 use posting_access::at_or_after;
 use posting_code::{ADDRESS_END, PostingList, encode};
 use std::alloc::{AllocError, Global};
-use std::env;
-use std::marker::Brand;
-use std::process::ExitCode;
 use std::rt::Clock;
-use std::sync::ledger;
-use std::sync::ledger::Blank;
 use std::time::Instant;
 
 /// A step of a generator of numbers in no order.
@@ -45,26 +34,42 @@ fn rising(alloc: Global, count: u64) -> Result<Vec<u64>, AllocError>
     Ok(numbers)
 }
 
+/// The least address of a list from `k` on.
+#[derive(Drop)]
+struct LeastFrom<'a> {
+    list: &'a PostingList,
+    k: u64,
+}
+
+impl Question for LeastFrom<'_> {
+    ghost use Rattle.std.specs.Prelude.{◌≡◌, ◌+◌, ◌*◌, ⊤, length};
+    ghost use Rattle.posting_access.specs.Search.{least_from};
+
+    type Answer = Option<u64>;
+
+    ghost can_ask = { λ _. ⊤ };
+
+    ghost answers = { λ asked answer. answer ≡ least_from asked.list.now asked.k };
+
+    ghost most = { λ asked _. 2 * length asked.list.now + 1 };
+
+    fn ask<L: Ledger>(&self, probes: &mut Steps<L>) -> Option<u64> {
+        at_or_after(self.list, self.k, probes)
+    }
+}
+
 /// The nanoseconds of a million look-ups at random places, and the sum of what they found.
-fn looked_up<B: ledger::Ledger, R: Clock>(
-    rt: &R,
-    list: &PostingList,
-    end: u64,
-    blank: Blank,
-) -> Option<(u64, u64)>
-    requires name { blank.name ≡ B.name }
-    requires parts { blank.parts ≡ B.parts }
-    requires some { 0 < blank.parts }
-    requires end { 0 < end }
+fn looked_up<R: Clock>(rt: &R, list: &PostingList, end: u64) -> Option<(u64, u64)>
+    requires { 0 < end }
 {
-    let mut probes = Steps::<NoLedger<B>>::open(blank);
     let start = Instant::now(rt).ok()?;
     let mut state = 5u64;
     let mut sum = 0u64;
     for i in 0..1_000_000u64 {
         let _ = i;
         state = drawn(state);
-        let found = at_or_after(list, (state >> 20) % end, &mut probes);
+        let k = (state >> 20) % end;
+        let found = uncounted(&LeastFrom { list, k });
         sum = sum.wrapping_add(found.unwrap_or(0));
     }
     let took = start.elapsed(rt).ok()?.as_nanos();
@@ -114,11 +119,13 @@ fn summed<R: Clock>(rt: &R, members: &[u64]) -> Option<(u64, u64)> {
     Some((u64::try_from(took).ok()?, sum))
 }
 
-fn measured<R: Clock + Print + AllocGlobal>(rt: &R) -> Option<()> {
+/// Prints the times of look-ups in a list of a million addresses with gaps from 1 to 16 and of a walk over it, each beside the
+/// same over plain numbers.
+pub(crate) fn measure_lists<R: Clock + Print + AllocGlobal>(rt: &R) -> Option<()> {
     let members = rising(rt.alloc(), 1_000_000).ok()?;
     let end = members.last().copied().unwrap_or(0).saturating_add(1);
     let list = encode(rt.alloc(), &members).ok()?;
-    let (ours, found) = looked_up::<Brand, R>(rt, &list, end, Blank::new(1))?;
+    let (ours, found) = looked_up(rt, &list, end)?;
     let (plain, same) = halved(rt, &members, end)?;
     println!(rt;
         "1000000 look-ups {ours} ns, by partition_point {plain} ns, sums {found} {same}"
@@ -126,18 +133,4 @@ fn measured<R: Clock + Print + AllocGlobal>(rt: &R) -> Option<()> {
     let (ours, found) = walked(rt, &list)?;
     let (plain, same) = summed(rt, &members)?;
     println!(rt; "walk of 1000000 {ours} ns, sum {plain} ns, sums {found} {same}").ok()
-}
-
-fn main(rt: HostRuntime) -> ExitCode {
-    let Ok(mut args) = env::args(&rt) else {
-        return ExitCode::from(2);
-    };
-    let _program = args.next();
-    if args.next().is_none() {
-        return ExitCode::from(0);
-    }
-    match measured(&rt) {
-        Some(()) => ExitCode::from(0),
-        None => ExitCode::from(1),
-    }
 }

@@ -1,0 +1,28 @@
+#!/usr/bin/env bash
+# Counts queries over a text of 1 MB that stands 1, 4 and 16 times in a version, each time in a slot of its own: the intervals, the
+# look-ups, and the nanoseconds of a look-up beside those in one slot. It makes its text.
+set -eu
+here=$(cd "$(dirname "$0")/.." && pwd)
+work=$(mktemp -d)
+trap 'rm -rf "$work"' EXIT
+program=$here/crates/measure/out/measure
+(cd "$here/crates/measure" && rt run -- tokens data/a) > "$work/log" 2>&1 || { cat "$work/log" >&2; exit 1; }
+python3 - "$work" <<'P'
+import random, sys
+random.seed(11)
+words = ["the", "of", "and", "to", "be"] * 400 + ["w%d" % n for n in range(5000)]
+with open(f"{sys.argv[1]}/text", "w") as out:
+    written = 0
+    while written < 1_000_000:
+        line = "<l>" + " ".join(random.choices(words, k=20)) + "</l>\n"
+        out.write(line)
+        written += len(line)
+P
+for query in '"the" ^ "w17"' '"of the"' '"the" < ("<l>".."</l>")'; do
+  one=
+  for times in 1 4 16; do
+    read -r look_ups took <<< "$("$program" slots "$work/text" "$times" "$query" | awk '{ print $5, $8 }')"
+    one=${one:-$(awk -v l="$look_ups" -v t="$took" 'BEGIN { print t / l }')}
+    awk -v q="$query" -v n="$times" -v l="$look_ups" -v t="$took" -v o="$one" 'BEGIN { printf "%-28s %2d slots: %d look-ups, %.0f ns each, ratio to one slot %.2f\n", q, n, l, t / l, t / l / o }'
+  done
+done
