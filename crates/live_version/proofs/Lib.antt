@@ -14,3 +14,4 @@ pub mod Tails
 pub mod ChangeLaw
 pub mod PartLaws
 mod ChangeWorked
+pub mod TermLemmas

@@ -1,5 +1,5 @@
 -- Slots and versions, computed: `to be or not to be` at 0 to 7, and an empty file at 8 and 9.
-use Rattle.std.proofs.Common.{◌≡◌, ℕ, true, false, List, [], ◌∷◌, map, codes, Some, None, refl}
+use Rattle.std.proofs.Common.{◌≡◌, ℕ, true, false, List, [], ◌∷◌, map, codes, Some, None, inl, inr, refl}
 use Rattle.gcl_model.specs.Slots.{slot_range}
 use Rattle.gcl_model.specs.Texts.{next_place, previous_place}
 use Rattle.address_space.specs.Runs.{FileEntry}
@@ -7,6 +7,7 @@ use Rattle.index_shard.specs.Tables.{TermEntry, ShardContent}
 use Rattle.live_version.specs.Contents.{SlotContent, VersionContent, slot_content, version_content, is_of_files, live_of, files_of, dead_of}
 use Rattle.live_version.specs.Changes.{file_with_id, version_without_file}
 use Rattle.live_version.specs.LookUps.{is_alive, look_ups}
+use Rattle.live_version.specs.Terms.{IsLeastTerm, terms_from, terms_of}
 
 abbrev entry : List ℕ → List ℕ → TermEntry
 entry term addresses = record { term = term; addresses = addresses }
@@ -77,3 +78,17 @@ look_ups-both = refl
 
 look_ups-left : look_ups left.slots ≡ 3
 look_ups-left = refl
+
+-- terms stand in the index also where no posting is alive
+terms_from-left : terms_from (terms_of left.slots) (codes "not") false ≡ codes "not" ∷ codes "or" ∷ codes "to" ∷ []
+terms_from-left = refl
+
+terms_from-strict : terms_from (terms_of left.slots) (codes "not") true ≡ codes "or" ∷ codes "to" ∷ []
+terms_from-strict = refl
+
+terms_from-none : terms_from (terms_of left.slots) (codes "to") true ≡ []
+terms_from-none = refl
+
+-- from "<" on the boundaries of both slots come first, and of these "</file!>"
+least-boundary : IsLeastTerm (terms_from (terms_of two_files) (codes "<") true) (codes "</file!>")
+least-boundary = record { member = refl; least = (inl refl, (inr refl, (inr refl, (inr refl, (inr refl, (inr refl, (inl refl, (inr refl, tt)))))))) }

@@ -1,9 +1,11 @@
 -- Laws of versions.
 use Rattle.std.specs.Prelude.{◌≡◌, ◌↔◌, ℕ, [], true, filter, IsSome, Some, slice_get}
+use Rattle.std.specs.List.{AllByRecursion}
 use Rattle.gcl_model.specs.Collections.{Collection, has_file, text_of}
 use Rattle.delete_mask.specs.Masks.{is_within}
 use Rattle.live_version.specs.Contents.{SlotContent, VersionContent, IsVersion, live_words, live_of, files_of, version_text}
 use Rattle.live_version.specs.Changes.{file_with_id}
+use Rattle.live_version.specs.Terms.{has_term, terms_of}
 use Rattle.live_version.specs.StandsFor.{StandsFor}
 
 -- a version stands for at most one collection
@@ -21,6 +23,10 @@ HasFilesOf = (v : VersionContent) (c : Collection) (id : ℕ) → StandsFor v c 
 -- without a surviving file there is no live word
 abbrev pub WordsAreOfFiles : Type 0
 WordsAreOfFiles = (v : VersionContent) → IsVersion v → files_of v.slots ≡ [] → live_of v.slots ≡ []
+
+-- the token of each live word is a term of the slots
+abbrev pub WordsAreOfTerms : Type 0
+WordsAreOfTerms = (v : VersionContent) → AllByRecursion (λ w. has_term (terms_of v.slots) w.token ≡ true) (live_of v.slots)
 
 -- the slot has the live words and the files of the version that lie within its range
 pub record IsPartOf (v : VersionContent) (slot : SlotContent) : Type 0 where

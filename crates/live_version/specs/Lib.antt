@@ -3,3 +3,4 @@ pub mod Changes
 pub mod StandsFor
 pub mod LookUps
 pub mod Laws
+pub mod Terms

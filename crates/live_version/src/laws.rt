@@ -1,4 +1,4 @@
-ghost use Rattle.live_version.specs.Laws.{HasFilesOf, HasTextOf, SlotsArePartsOf, StandsForOne, WordsAreOfFiles};
+ghost use Rattle.live_version.specs.Laws.{HasFilesOf, HasTextOf, SlotsArePartsOf, StandsForOne, WordsAreOfFiles, WordsAreOfTerms};
 
 /// A version stands for at most one collection: its records and words fix every file.
 pub fn a_version_stands_for_one()
@@ -18,6 +18,11 @@ pub fn a_version_has_the_files()
 /// Without a surviving file a version has no live word.
 pub fn words_are_of_files()
     ensures { WordsAreOfFiles }
+{}
+
+/// The token of each live word is a term of the slots, so whoever goes through the terms misses no word.
+pub fn words_are_of_terms()
+    ensures { WordsAreOfTerms }
 {}
 
 /// A slot has the live words of the version within its range, and the files.

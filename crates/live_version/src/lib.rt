@@ -24,14 +24,16 @@ mod look_up;
 mod slot;
 mod slot_list;
 mod tail;
+mod terms;
 mod version;
 
 pub use laws::{
     a_version_has_the_files, a_version_has_the_text, a_version_stands_for_one, slots_are_parts,
-    words_are_of_files,
+    words_are_of_files, words_are_of_terms,
 };
 pub use look_up::LookUp;
 pub use slot::Slot;
+pub use terms::earlier_term;
 pub use version::Version;
 
 #[cfg(test)]

@@ -13,6 +13,7 @@ use index_shard::{Shard, ShardMaker};
 use std::alloc::{AllocError, Global};
 use std::process::Abort;
 use std::test::Fail;
+use std::thread::{Threads, join};
 
 /// Where a term is next and where it was last, seen from an address.
 #[derive(Drop)]
@@ -188,6 +189,80 @@ fn what_was_deleted_is_passed_as_a_whole(rt: HostRuntime) -> Result<(), Fail> {
         });
         assert_eq!(rt; found, ((next, previous), steps), "{term} at {k}");
     }
+    Ok(())
+}
+
+#[test]
+fn the_least_term_from_a_bound_on_is_that_of_any_slot(rt: HostRuntime) -> Result<(), Fail> {
+    let version = three_of_four(&rt, rt.alloc())?;
+    let cases = [
+        ("", false, Some("be")),
+        ("be", false, Some("be")),
+        ("be", true, Some("not")),
+        ("bee", false, Some("not")),
+        ("not", true, Some("or")),
+        ("or", true, Some("to")),
+        ("to", false, Some("to")),
+        ("to", true, None),
+        ("tom", false, None),
+    ];
+    for (low, strict, want) in cases {
+        let found = version.term_from(low.as_bytes(), strict);
+        assert_eq!(rt;
+            found,
+            want.map(|term: &str| term.as_bytes()),
+            "from {low}, {strict}"
+        );
+    }
+    assert!(rt;
+        Version::empty(rt.alloc(), 0)
+            .term_from(b"", false)
+            .is_none()
+    );
+    Ok(())
+}
+
+/// Where the terms are, each looked for in a thread of its own.
+fn both_nearest<R: Threads>(
+    rt: &R,
+    version: &Version,
+    first: &[u8],
+    second: &[u8],
+) -> ((Option<u64>, Option<u64>), (Option<u64>, Option<u64>)) {
+    join(
+        rt,
+        || -> (Option<u64>, Option<u64>) {
+            uncounted(&Nearest {
+                version,
+                term: first,
+                k: 3,
+            })
+        },
+        || -> (Option<u64>, Option<u64>) {
+            uncounted(&Nearest {
+                version,
+                term: second,
+                k: 3,
+            })
+        },
+    )
+}
+
+/// A version and a slot go to another thread, which gives their numbers of files.
+fn counted_apart<R: Threads>(rt: &R, version: Version, slot: Slot) -> (u64, u64) {
+    let (counts, ()) = join(rt, move || (version.file_count(), slot.files()), || ());
+    counts
+}
+
+#[test]
+fn a_version_is_read_by_two_threads_and_goes_to_another_one(rt: HostRuntime) -> Result<(), Fail> {
+    let version = three_of_four(&rt, rt.alloc())?;
+    let found = both_nearest(&rt, &version, b"to", b"be");
+    assert_eq!(rt; found, ((Some(9), Some(1)), (Some(8), Some(2))));
+    assert_eq!(rt;
+        counted_apart(&rt, version, three_files(rt.alloc())?),
+        (3, 3)
+    );
     Ok(())
 }
 
