@@ -3,7 +3,7 @@ use Rattle.std.proofs.Common.{get_or, take, ◌≡◌, ◌≤◌, ℕ, zero, suc
 use Rattle.std.proofs.lemmas.List.{append_assoc}
 use Rattle.std.proofs.lemmas.List.{take_more, drop_more, length-map, length-take-le, get_or_at, set_at, map-append}
 use Rattle.gcl_model.specs.Slots.{SlotRange}
-use Rattle.index_shard.specs.Tables.{TermEntry}
+use Rattle.index_shard.specs.Tables.{TermEntry, addresses_at}
 use Rattle.slot_terms.specs.Parts.{PartContent, head_term, is_headed, head_postings, behind, past}
 
 pub head_at : (es : List TermEntry) (n : ℕ) (term : List ℕ) → slice_get (map (λ e. e.term) es) n ≡ Some term → Some term ≡ head_term (drop n es)
@@ -23,11 +23,11 @@ unheaded_past [] (suc n) term le = refl
 unheaded_past (e ∷ es) zero term le = absurd (omega arith)
 unheaded_past (e ∷ es) (suc n) term le = unheaded_past es n term (omega arith)
 
-pub headed_postings : (es : List TermEntry) (n : ℕ) (term addresses : List ℕ) → is_headed (drop n es) term ≡ true → slice_get (map (λ e. e.addresses) es) n ≡ Some addresses →
-    head_postings (drop n es) term ≡ addresses
-headed_postings [] n term addresses is at = absurd cc
-headed_postings (e ∷ es) zero term addresses is at = rw is (let same : e.addresses ≡ addresses = cc in same)
-headed_postings (e ∷ es) (suc n) term addresses is at = headed_postings es n term addresses is at
+pub headed_postings : (es : List TermEntry) (n : ℕ) (term : List ℕ) → is_headed (drop n es) term ≡ true → head_postings (drop n es) term ≡ addresses_at es n
+headed_postings [] zero term is = absurd cc
+headed_postings [] (suc n) term is = absurd cc
+headed_postings (e ∷ es) zero term is = rw is refl
+headed_postings (e ∷ es) (suc n) term is = headed_postings es n term is
 
 pub headed_behind : (es : List TermEntry) (n next : ℕ) (term : List ℕ) → next ≡ n + 1 → is_headed (drop n es) term ≡ true → behind (drop n es) term ≡ drop next es
 headed_behind es n zero term after is = absurd (omega arith)

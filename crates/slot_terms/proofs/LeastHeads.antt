@@ -1,44 +1,14 @@
 -- The least of the first terms of the parts.
-use Rattle.std.proofs.Common.{nat_cmp, Ordering, subst, ◌≡◌, ◌⊎◌, ℕ, true, false, List, [], ◌∷◌, ◌++◌, Option, Some, None, inl, inr, refl, sym, ap, ◌∙◌}
+use Rattle.std.proofs.Common.{◌≡◌, ◌⊎◌, ℕ, true, false, List, [], ◌∷◌, ◌++◌, Option, Some, None, inl, inr, refl, sym, ◌∙◌}
 use denote.Ref.{Bor}
 use Rattle.std.specs.Option.{option_map, IfSome}
 use Rattle.std.proofs.lemmas.Bool.{or_cases, or_left, or_right}
 use Rattle.std.proofs.lemmas.Slice.Eq.{bytes_eq-Decides}
-use Rattle.std.specs.declared.cmp.Ordering.TheVariants.{Less, Equal, Greater}
-use Rattle.std.specs.Ordering.{ordering_reverse}
-use Rattle.std.specs.Cmp.Lexicographic.{slice_cmp}
 use Rattle.std.specs.List.{AllByRecursion, list_any}
-use Rattle.std.proofs.lemmas.Cmp.{nat_list_cmp_total}
-use Rattle.std.proofs.lemmas.Map.Lookups.{exact_bytes}
-use Rattle.index_shard.specs.Tables.{TermEntry, ComesBefore}
+use Rattle.index_shard.specs.Tables.{TermEntry}
 use Rattle.index_shard.proofs.TableLaws.{all_push}
+use Rattle.live_version.proofs.TermLemmas.{no_later_trans}
 use Rattle.slot_terms.specs.Parts.{PartContent, head_term, is_headed, IsNoLater}
-
--- of two terms, the second where the first is greater
-pub greater_first : (a b : List ℕ) → slice_cmp nat_cmp a b ≡ Greater → IsNoLater (Some b) (Some a)
-greater_first a b is = inr (nat_list_cmp_total.antisymm b a ∙ ap ordering_reverse is)
-
-pub not_greater : (a b : List ℕ) (o : Ordering) → slice_cmp nat_cmp a b ≡ o → (o ≡ Greater → ⊥) → IsNoLater (Some a) (Some b)
-not_greater a b Less is other = inr is
-not_greater a b Equal is other = inl (exact_bytes a b is)
-not_greater a b Greater is other = absurd (other refl)
-
-pub no_later_itself : (o : Option (List ℕ)) → IsNoLater o o
-no_later_itself None = tt
-no_later_itself (Some term) = inl refl
-
-no_later_trans : (a b c : Option (List ℕ)) → IsNoLater a b → IsNoLater b c → IsNoLater a c
-no_later_trans a b None ab bc = tt
-no_later_trans a None (Some z) ab bc = absurd bc
-no_later_trans None (Some y) (Some z) ab bc = absurd ab
-no_later_trans (Some x) (Some y) (Some z) ab bc =
-    elim ab [
-      | inl same ↦ subst (λ t. IsNoLater (Some t) (Some z)) (sym same) bc
-      | inr before ↦ elim bc [
-        | inl same ↦ inr (subst (ComesBefore x) same before)
-        | inr after ↦ inr (nat_list_cmp_total.trans x y z before after)
-      ]
-    ]
 
 -- no part has a lesser first term, and one has this
 pub record IsLeastOf (least : Option (List ℕ)) (parts : List PartContent) : Type 0 where

@@ -1,10 +1,11 @@
 -- Slots, gone through term by term.
-use Rattle.std.specs.Prelude.{◌≡◌, ℕ, ◌+◌, Bool, true, false, List, [], ◌∷◌, length, filter, flat_map, bytes_eq, Option, None, Some, if◌then◌else◌, ◌⊎◌}
+use Rattle.std.specs.Prelude.{◌≡◌, ℕ, ◌+◌, Bool, true, false, List, [], ◌∷◌, length, filter, flat_map, bytes_eq, Option, None, Some, if◌then◌else◌}
 use Rattle.std.specs.List.{AllByRecursion, list_any}
 use Rattle.gcl_model.specs.Slots.{SlotRange}
-use Rattle.index_shard.specs.Tables.{TermEntry, ComesBefore, IsTable, postings_of}
+use Rattle.index_shard.specs.Tables.{TermEntry, IsTable, postings_of}
 use Rattle.live_version.specs.Contents.{SlotContent}
 use Rattle.live_version.specs.LookUps.{is_alive}
+pub use Rattle.live_version.specs.Terms.{IsNoLater}
 
 -- the dead ranges of a slot, and the entries of its index that are still to come
 pub record PartContent : Type 0 where
@@ -55,12 +56,6 @@ behind (entry ∷ entries) term = if bytes_eq entry.term term then entries else 
 -- after the term was gone through
 abbrev pub past : List ℕ → PartContent → PartContent
 past term part = record part { left = behind part.left term }
-
--- the first term is the second one, or comes before it, or there is no second
-abbrev pub IsNoLater : Option (List ℕ) → Option (List ℕ) → Type 0
-IsNoLater first None = Unit {0}
-IsNoLater None (Some second) = ⊥
-IsNoLater (Some first) (Some second) = (first ≡ second) ⊎ ComesBefore first second
 
 -- no part has an earlier first term
 abbrev pub NoneEarlier : List ℕ → List PartContent → Type 0

@@ -1,14 +1,13 @@
-ghost use Rattle.std.specs.Prelude.{◌≡◌, ℕ, ◌<◌, ◌++◌, OnOk, option_map};
-ghost use Rattle.index_shard.specs.Tables.{RiseWithin};
+ghost use Rattle.std.specs.Prelude.{◌≡◌, ◌++◌, IsTrue, OnOk, option_map};
+ghost use Rattle.posting_code.specs.Postings.{ArePostings};
 ghost use Rattle.slot_terms.specs.Parts.{alive, head_term, head_postings, past};
 
+use address_space::Range;
 use delete_mask::Mask;
-use gcl_model::{NoLedger, Steps};
-use index_shard::{Shard, Walk};
+use index_shard::Shard;
+use posting_code::PostingList;
 use std::alloc::AllocError;
-use std::marker::{Brand, Model};
-use std::sync::ledger;
-use std::sync::ledger::Blank;
+use std::marker::Model;
 
 /// The index and the dead ranges of a slot, and the place of the first term that is still to come.
 #[derive(Drop)]
@@ -60,35 +59,62 @@ impl<'a> Part<'a> {
         ensures past { OnOk result (self.new ≡ past term.now self.old) }
     {
         if self.next < self.shard.term_count() && self.shard.term(self.next) == term {
-            let walk = self.shard.walk(self.next);
-            put_live::<Brand>(walk, self.mask, addresses, Blank::new(1))?;
+            put_live(self.shard.postings(self.next), self.mask, addresses)?;
             self.next += 1;
         }
         Ok(())
     }
 }
 
-/// Puts the live postings of a walk behind the addresses. A dead range is looked up once, at the first posting in it.
-/// The steps are kept nowhere.
-fn put_live<B: ledger::Ledger>(
-    mut walk: Walk<'_>,
-    mask: &Mask,
-    addresses: &mut Vec<u64>,
-    blank: Blank,
-) -> Result<(), AllocError>
-    requires rising { (low : ℕ) × (end : ℕ) × RiseWithin low end walk }
-    requires name { blank.name ≡ B.name }
-    requires parts { blank.parts ≡ B.parts }
-    requires some { 0 < blank.parts }
-    ensures { OnOk result (addresses.new.items ≡ addresses.old.items ++ alive mask.now walk.entry) }
+/// Puts the live ones of the postings behind the addresses. Each block is read once.
+fn put_live(list: &PostingList, mask: &Mask, addresses: &mut Vec<u64>) -> Result<(), AllocError>
+    ensures { OnOk result (addresses.new.items ≡ addresses.old.items ++ alive mask.now list.now) }
 {
-    let mut steps = Steps::<NoLedger<B>>::open(blank);
+    let mut members = [0; 64];
+    for block in 0..list.block_count() {
+        let count = list.read_block(block, &mut members);
+        put_block(&members[..count], mask, addresses)?;
+    }
+    Ok(())
+}
+
+/// Puts the live ones of a block's postings behind the addresses. Where no dead range meets the block it is put as a whole.
+fn put_block(members: &[u64], mask: &Mask, addresses: &mut Vec<u64>) -> Result<(), AllocError>
+    requires { ArePostings members.now }
+    ensures { OnOk result (addresses.new.items ≡ addresses.old.items ++ alive mask.now members.now) }
+{
+    if is_untouched(members, mask) {
+        addresses.extend_from_slice(members)
+    } else {
+        put_each(members, mask, addresses)
+    }
+}
+
+/// Whether no dead range meets the stretch from the first of the postings to the last.
+fn is_untouched(members: &[u64], mask: &Mask) -> bool
+    requires { ArePostings members.now }
+    ensures { IsTrue result → alive mask.now members.now ≡ members.now }
+{
+    match (members.first(), members.last()) {
+        (Some(first), Some(last)) => mask.is_apart(Range {
+            first: *first,
+            last: *last,
+        }),
+        _ => true,
+    }
+}
+
+/// A dead range is looked up once, at the first posting in it.
+fn put_each(members: &[u64], mask: &Mask, addresses: &mut Vec<u64>) -> Result<(), AllocError>
+    requires { ArePostings members.now }
+    ensures { OnOk result (addresses.new.items ≡ addresses.old.items ++ alive mask.now members.now) }
+{
     let mut alive_from = 0;
-    while let Some(address) = walk.next(&mut steps) {
-        if address >= alive_from {
-            match mask.dead(address) {
+    for address in members {
+        if *address >= alive_from {
+            match mask.dead(*address) {
                 Some(range) => alive_from = range.last + 1,
-                None => addresses.push(address)?,
+                None => addresses.push(*address)?,
             }
         }
     }

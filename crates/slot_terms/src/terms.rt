@@ -1,11 +1,10 @@
-ghost use Rattle.std.specs.Prelude.{◌≡◌, List, ℕ, [], ◌++◌, ◌⊎◌, true, map, flat_map, option_map, IfOk, OnOk, IfSome, IsNone};
+ghost use Rattle.std.specs.Prelude.{◌≡◌, List, ℕ, [], ◌++◌, true, map, flat_map, option_map, IfOk, OnOk, IfSome, IsNone};
 ghost use Rattle.std.specs.List.{AllByRecursion, list_any};
 ghost use Rattle.slot_terms.specs.Parts.{IsNext, IsNoLater, IsPart, alive, head_term, head_postings, is_headed, part_of, past, postings_left};
 
 use crate::part::Part;
-use live_version::Slot;
+use live_version::{Slot, earlier_term};
 use std::alloc::{AllocError, Global};
-use std::cmp::Ordering;
 use std::marker::Model;
 
 /// The terms of some slots that are still to come.
@@ -91,23 +90,7 @@ fn least_head<'a>(parts: &[Part<'a>]) -> Option<&'a [u8]>
 {
     let mut least = None;
     for part in parts {
-        least = earlier(least, part.head());
+        least = earlier_term(least, part.head());
     }
     least
-}
-
-/// The lesser of two terms.
-fn earlier<'a>(first: Option<&'a [u8]>, second: Option<&'a [u8]>) -> Option<&'a [u8]>
-    ensures first { IsNoLater (option_map (λ term. term.now) result) (option_map (λ term. term.now) first.entry) }
-    ensures second { IsNoLater (option_map (λ term. term.now) result) (option_map (λ term. term.now) second.entry) }
-    ensures among { (option_map (λ term. term.now) result ≡ option_map (λ term. term.now) first.entry) ⊎ (option_map (λ term. term.now) result ≡ option_map (λ term. term.now) second.entry) }
-{
-    match (first, second) {
-        (Some(a), Some(b)) => match a.cmp(b) {
-            Ordering::Greater => second,
-            _ => first,
-        },
-        (None, _) => second,
-        (_, None) => first,
-    }
 }

@@ -11,10 +11,10 @@ loop-part-preserved c =
     let parts = c.args.parts.now in
     let part = c.part-item.result in
     let least = option_map (λ term. term.now) c.loop-part.least in
-    let after = option_map (λ term. term.now) c.earlier-least.result in
+    let after = option_map (λ term. term.now) c.earlier_term-least.result in
     subst (IsLeastOf after) (ap (λ p. take i parts ++ p ∷ []) c.part-item.is ∙ sym (take_more parts i part c.loop-part-test.true))
-    (least_more least after (take i parts) part c.loop-part.invariant c.earlier-least.ensures.first (subst (IsNoLater after) c.head.ensures c.earlier-least.ensures.second)
-    (subst (λ o. (after ≡ least) ⊎ (after ≡ o)) c.head.ensures c.earlier-least.ensures.among))
+    (least_more least after (take i parts) part c.loop-part.invariant c.earlier_term-least.ensures.first (subst (IsNoLater after) c.head.ensures c.earlier_term-least.ensures.second)
+    (subst (λ o. (after ≡ least) ⊎ (after ≡ o)) c.head.ensures c.earlier_term-least.ensures.among))
 
 pub returns-clause-least : goal.returns-clause-least
 returns-clause-least c =

@@ -1,15 +1,9 @@
 use Rattle.std.proofs.Common.{◌≡◌, ◌+◌, ◌++◌, true, false, drop, refl, sym, ap, ◌∙◌, arith, subst}
 use Rattle.std.proofs.lemmas.List.{append-nil}
 use Rattle.slot_terms.specs.Parts.{PartContent, alive, is_headed, head_postings, past}
-use Rattle.slot_terms.proofs.LivePostings.{walk_rises}
 use Rattle.slot_terms.proofs.Heads.{part_content, headed_at, headed_postings, headed_behind, unheaded_past, unheaded_postings, unheaded_behind}
 use Rattle.slot_terms.proofs.part.Part.take.Goals as goal
 use Rattle.slot_terms.proofs.part.Part.take.Goals.{else-self-term_count-via-then-self-term_count+else-eq, else-self-term_count-via-else-self-term_count}
-
-pub put_live-requires-clause-rising : goal.put_live-requires-clause-rising
-put_live-requires-clause-rising c =
-    let shard = c.self.inside.shard.now in
-    (shard.range.first, shard.range.last + 1, walk_rises shard.range shard.table c.self.inside.next c.walk-walk.result c.walk-walk.ensures.shard.table c.walk-walk.ensures.value)
 
 pub returns-in_ok-put_live : goal.returns-in_ok-put_live
 returns-in_ok-put_live c =
@@ -21,7 +15,7 @@ returns-in_ok-put_live c =
     record {
       addresses =
           c.in_ok-put_live.ensures
-          ∙ ap (λ l. out ++ alive c.self.inside.mask.now l) (sym (headed_postings table next term c.walk-walk.result headed c.walk-walk.ensures.value))
+          ∙ ap (λ l. out ++ alive c.self.inside.mask.now l) (c.postings.ensures.value ∙ sym (headed_postings table next term headed))
           ∙ ap (λ (p : PartContent). out ++ alive p.mask (head_postings p.left term)) c.self.view_is;
       past = ap (part_content c.self.inside.mask.now) (sym (headed_behind table next (next + 1) term refl headed)) ∙ ap (past term) c.self.view_is;
     }
