@@ -3,13 +3,10 @@ ghost use Rattle.std.specs.Prelude.{◌≡◌, ◌<◌};
 use crate::merging::merge;
 use Step::{Add, Del, Merge};
 use address_space::{FileId, FileRecord};
-use gcl_model::{Bytes, Leaves, NoLedger, Steps};
+use gcl_model::{Bytes, Leaves, Ledger, Question, Steps, uncounted};
 use live_version::Version;
 use shard_build::build;
 use std::alloc::{AllocError, Global};
-use std::marker::Brand;
-use std::sync::ledger;
-use std::sync::ledger::Blank;
 use std::test::Fail;
 use word_tokens::tokens;
 
@@ -23,7 +20,12 @@ enum Step<'a> {
     Merge(usize, usize),
 }
 
-const SCRIPTS: [&[Step<'static>]; 13] = [
+/// Postings in two blocks, of which a file behind it leaves one as it is.
+const LONG: &str =
+    "a a a a a a a a a a a a a a a a a a a a a a a a a a a a a a a a a a a a a a a a \
+     a a a a a a a a a a a a a a a a a a a a a a a a a a a a a a a a a a a a a a a a";
+
+const SCRIPTS: [&[Step<'static>]; 14] = [
     &[Add("to be or not to be")],
     &[Add("")],
     &[Add("to be or not to be"), Add(""), Del(0)],
@@ -85,6 +87,15 @@ const SCRIPTS: [&[Step<'static>]; 13] = [
         Merge(0, 2),
         Add("to be"),
     ],
+    &[
+        Add(LONG),
+        Add("to a"),
+        Add(LONG),
+        Merge(0, 3),
+        Del(1),
+        Merge(0, 1),
+        Add("a"),
+    ],
 ];
 
 /// A word of a surviving file.
@@ -95,8 +106,8 @@ struct PlainWord<'a> {
     token: &'a str,
 }
 
-const TERMS: [&str; 8] = [
-    "<file!>", "</file!>", "to", "be", "or", "not", "rose", "none",
+const TERMS: [&str; 9] = [
+    "<file!>", "</file!>", "to", "be", "or", "not", "rose", "a", "none",
 ];
 
 /// None where the step may not be made.
@@ -226,32 +237,45 @@ fn plain_prev(words: &[PlainWord<'_>], term: &str, k: u64) -> Option<u64> {
     found
 }
 
+/// Where a term is next and where it was last, seen from an address.
+#[derive(Drop)]
+struct Nearest<'a> {
+    version: &'a Version,
+    term: &'a str,
+    k: u64,
+}
+
+impl Question for Nearest<'_> {
+    ghost use Rattle.std.specs.Prelude.{◌+◌, ◌*◌};
+    ghost use Rattle.gcl_model.specs.Limits.{most_slots};
+
+    type Answer = (Option<u64>, Option<u64>);
+
+    ghost can_ask = { λ q. Unit {0} };
+
+    ghost answers = { λ q answer. Unit {0} };
+
+    ghost most = { λ q answer. 2 * (most_slots + q.version.now.dels) };
+
+    fn ask<L: Ledger>(&self, steps: &mut Steps<L>) -> (Option<u64>, Option<u64>) {
+        let term = self.term.as_bytes();
+        let next = Leaves::next(self.version, term, self.k, steps);
+        let previous = Leaves::prev(self.version, term, self.k, steps);
+        (next, previous)
+    }
+}
+
 /// The first term and address at which a look-up differs from the plain one.
-fn first_difference<B: ledger::Ledger>(
-    version: &Version,
-    words: &[PlainWord<'_>],
-    blank: Blank,
-) -> Option<(&'static str, u64)>
-    requires name { blank.name ≡ B.name }
-    requires parts { blank.parts ≡ B.parts }
-    requires some { 0 < blank.parts }
-{
-    let mut steps = Steps::<NoLedger<B>>::open(blank);
+fn difference(version: &Version, words: &[PlainWord<'_>]) -> Option<(&'static str, u64)> {
     for term in TERMS {
         for k in 0..version.next() + 2 {
-            let next = Leaves::next(version, term.as_bytes(), k, &mut steps);
-            let prev = Leaves::prev(version, term.as_bytes(), k, &mut steps);
-            if next != plain_next(words, term, k) || prev != plain_prev(words, term, k) {
+            let found = uncounted(&Nearest { version, term, k });
+            if found != (plain_next(words, term, k), plain_prev(words, term, k)) {
                 return Some((term, k));
             }
         }
     }
     None
-}
-
-/// The steps are kept nowhere.
-fn difference(version: &Version, words: &[PlainWord<'_>]) -> Option<(&'static str, u64)> {
-    first_difference::<Brand>(version, words, Blank::new(1))
 }
 
 /// The first run of neighbouring slots after whose merge a look-up differs from the plain one.
