@@ -7,16 +7,16 @@ ghost use Rattle.manifest_publish.specs.Histories.{IsLawful};
 
 use super::*;
 use address_space::{FileId, FileRecord, is_name};
-use gcl_model::{ADDRESS_END, Bytes, Expr, Steps, Tally};
+use gcl_model::{
+    ADDRESS_END, Bytes, Expr, IntervalList, Ledger, Question, Steps, counted, uncounted,
+};
 use gcl_parser::parse;
 use live_version::Version;
 use manifest_publish::{Pass, Publisher, Reader};
 use shard_build::build;
 use std::alloc::{AllocError, Global};
-use std::marker::Brand;
 use std::process::Abort;
-use std::sync::ledger::Blank;
-use std::sync::{Arc, Wait, ledger};
+use std::sync::{Arc, Wait};
 use std::test::*;
 use std::thread::{Threads, join};
 use word_tokens::tokens;
@@ -74,39 +74,90 @@ fn query(alloc: Global, text: &[u8]) -> Option<Expr>
     parse(alloc, text).ok()
 }
 
-/// How many members there are, and how many look-ups counted them.
-fn counted<B: ledger::Ledger>(pass: &Pass, expr: &Expr, blank: Blank) -> (u64, u64)
-    requires well_formed { IsWellFormed (form_of expr.now) }
-    requires name { blank.name ≡ B.name }
-    requires parts { blank.parts ≡ B.parts }
-    requires some { 0 < blank.parts }
-{
-    let mut steps = Steps::<Tally<B>>::open(blank);
-    let members = pass_count(pass, expr, &mut steps);
-    (members, steps.count())
+/// How many members there are.
+#[derive(Drop)]
+struct Counting<'a> {
+    pass: &'a Pass,
+    expr: &'a Expr,
+}
+
+impl Question for Counting<'_> {
+    ghost use Rattle.std.specs.List.{sum_by};
+    ghost use Rattle.gcl_model.specs.FormOf.{form_of};
+    ghost use Rattle.gcl_model.specs.WellFormed.{IsWellFormed};
+    ghost use Rattle.live_version.specs.Contents.{version_text};
+    ghost use Rattle.reader_pass.specs.Members.{access_most, look_ups};
+
+    type Answer = u64;
+
+    ghost can_ask = { λ q. IsWellFormed (form_of q.expr.now) };
+
+    ghost answers = { λ q answer. Unit {0} };
+
+    ghost most = { λ q answer. sum_by (λ v. look_ups (version_text v) (access_most v) (form_of q.expr.now) answer) q.pass.now.history };
+
+    fn ask<L: Ledger>(&self, steps: &mut Steps<L>) -> u64 {
+        // by it the history is known to have a last version, which bounds the look-ups
+        let _version = self.pass.version();
+        pass_count(self.pass, self.expr, steps)
+    }
+}
+
+/// The first members, from the first one on or from an address.
+#[derive(Drop)]
+struct Listing<'a> {
+    alloc: Global,
+    pass: &'a Pass,
+    expr: &'a Expr,
+    from: Option<u64>,
+    most: u64,
+}
+
+impl Question for Listing<'_> {
+    ghost use Rattle.std.specs.Prelude.{◌<◌, IfSome};
+    ghost use Rattle.std.specs.List.{sum_by};
+    ghost use Rattle.gcl_model.specs.FormOf.{form_of};
+    ghost use Rattle.gcl_model.specs.Limits.{far};
+    ghost use Rattle.gcl_model.specs.WellFormed.{IsWellFormed};
+    ghost use Rattle.live_version.specs.Contents.{version_text};
+    ghost use Rattle.reader_pass.specs.Members.{access_most, look_ups};
+
+    type Answer = Result<IntervalList, AllocError>;
+
+    ghost can_ask = { λ q. IsWellFormed (form_of q.expr.now) × IfSome q.from (λ k. k < far) };
+
+    ghost answers = { λ q answer. Unit {0} };
+
+    ghost most = { λ q answer. sum_by (λ v. look_ups (version_text v) (access_most v) (form_of q.expr.now) q.most) q.pass.now.history };
+
+    fn ask<L: Ledger>(&self, steps: &mut Steps<L>) -> Result<IntervalList, AllocError> {
+        // by it the history is known to have a last version, which bounds the look-ups
+        let _version = self.pass.version();
+        match self.from {
+            None => pass_list(self.alloc, self.pass, self.expr, self.most, steps),
+            Some(k) => pass_list_from(self.alloc, self.pass, self.expr, k, self.most, steps),
+        }
+    }
 }
 
 /// The first and the last address of each of the first members.
-fn listed<B: ledger::Ledger>(
+fn listed(
     alloc: Global,
     pass: &Pass,
     expr: &Expr,
-    k: u64,
+    from: Option<u64>,
     most: u64,
-    blank: Blank,
 ) -> Result<Vec<(u64, u64)>, AllocError>
-    requires below { k < far }
+    requires below { IfSome from (λ k. k < far) }
     requires well_formed { IsWellFormed (form_of expr.now) }
-    requires name { blank.name ≡ B.name }
-    requires parts { blank.parts ≡ B.parts }
-    requires some { 0 < blank.parts }
 {
-    let mut steps = Steps::<Tally<B>>::open(blank);
-    let list = if k == 0 {
-        pass_list(alloc, pass, expr, most, &mut steps)?
-    } else {
-        pass_list_from(alloc, pass, expr, k, most, &mut steps)?
-    };
+    let list = uncounted(&Listing {
+        alloc,
+        pass,
+        expr,
+        from,
+        most,
+    })?;
     let mut members = Vec::new(alloc);
     for member in list.as_slice() {
         members.push((member.start, member.end))?;
@@ -138,9 +189,11 @@ fn a_count_leaps_over_a_hundred_thousand_words(rt: HostRuntime) -> Result<(), Fa
     }
     let pass = pass_of(&rt, alloc, bytes.as_slice())?.expect(&rt, "one file");
     let expr = query(alloc, b"\"x\"^\"y\"").expect(&rt, "a query");
-    let (members, look_ups) = counted::<Brand>(&pass, &expr, Blank::new(1));
-    assert_eq!(rt; members, 2);
-    assert!(rt; look_ups <= 768, "{look_ups} look-ups");
+    let found = counted(&Counting {
+        pass: &pass,
+        expr: &expr,
+    });
+    assert_eq!(rt; found, (2, 10), "members, and look-ups");
     Ok(())
 }
 
@@ -154,11 +207,11 @@ fn lists_as_many_as_are_wanted<R: Abort>(
 {
     let all = [(1, 2), (5, 6)];
     for most in 0..4u64 {
-        let members = listed::<Brand>(alloc, pass, expr, 0, most, Blank::new(1))?;
+        let members = listed(alloc, pass, expr, None, most)?;
         let want = all.split_at(all.len().min(most as usize)).0;
         assert_eq!(rt; members.as_slice(), want, "the first {most}");
     }
-    let members = listed::<Brand>(alloc, pass, expr, 2, 4, Blank::new(1))?;
+    let members = listed(alloc, pass, expr, Some(2), 4)?;
     assert_eq!(rt; members.as_slice(), all.split_at(1).1);
     Ok(())
 }
@@ -194,7 +247,7 @@ fn count_all(reader: &mut Reader, expr: &Expr, all: u64) -> bool
         let Ok(pass) = reader.enter() else {
             return false;
         };
-        let (members, _look_ups) = counted::<Brand>(&pass, expr, Blank::new(1));
+        let members = uncounted(&Counting { pass: &pass, expr });
         if members < last {
             return false;
         }
