@@ -1,0 +1,37 @@
+-- A status is known by its number.
+use Rattle.std.proofs.Common.{◌≡◌, ℕ, eqb, cond, refl, sym, ap, ◌∙◌, inl, inr}
+use Rattle.query_run.specs.Statuses.{number_of, IsFinished}
+use Rattle.query_run.specs.declared.status.Status.{Status}
+use Rattle.query_run.specs.declared.status.Status.TheVariants.{Done, DoneWithRefusals, Usage, ReadFault, WriteFault, FileFault, NoMemory, ScriptTooLong}
+use Rattle.gclq.specs.Exits.{IsEnd}
+
+-- the status of a number
+abbrev named : ℕ → Status
+named n =
+    cond (eqb n 0) Done (cond (eqb n 1) DoneWithRefusals (cond (eqb n 2) Usage (cond (eqb n 3) ReadFault
+    (cond (eqb n 4) WriteFault (cond (eqb n 5) FileFault (cond (eqb n 6) NoMemory ScriptTooLong))))))
+
+named_number : (s : Status) → named (number_of s) ≡ s
+named_number Done = refl
+named_number DoneWithRefusals = refl
+named_number Usage = refl
+named_number ReadFault = refl
+named_number WriteFault = refl
+named_number FileFault = refl
+named_number NoMemory = refl
+named_number ScriptTooLong = refl
+
+-- two statuses of one number are one
+pub same_status : (s t : Status) (n : ℕ) → n ≡ number_of s → n ≡ number_of t → s ≡ t
+same_status s t n p q = sym (named_number s) ∙ ap named (sym p ∙ q) ∙ named_number t
+
+-- the numbers of the statuses at which all was answered, or memory was wanted
+pub finished_number : (s : Status) (n : ℕ) → n ≡ number_of s → IsFinished s → IsEnd n
+finished_number Done n p is = inl p
+finished_number DoneWithRefusals n p is = inr (inl p)
+finished_number NoMemory n p is = inr (inr p)
+finished_number Usage n p is = absurd is
+finished_number ReadFault n p is = absurd is
+finished_number WriteFault n p is = absurd is
+finished_number FileFault n p is = absurd is
+finished_number ScriptTooLong n p is = absurd is

@@ -1,0 +1,38 @@
+use Rattle.std.proofs.Common.{◌≡◌, ◌∙◌, ap, rules}
+use Rattle.query_run.specs.Statuses.{number_of}
+use Rattle.query_run.specs.declared.status.Status.TheVariants.{Done, DoneWithRefusals, Usage, ReadFault, WriteFault, FileFault, ScriptTooLong}
+use Rattle.gclq.proofs.Numbers.{same_status, finished_number}
+use Rattle.gclq.proofs.session.answer.Goals as goal
+
+pub returns-clause-usage_only : goal.returns-clause-usage_only
+returns-clause-usage_only g c is = c.run-status.ensures.usage_only (same_status c.run-status.result Usage _ c.exit.ensures is)
+
+pub returns-clause-untouched : goal.returns-clause-untouched
+returns-clause-untouched g c is = c.run-status.ensures.untouched (same_status c.run-status.result Usage _ c.exit.ensures is)
+
+pub returns-clause-done : goal.returns-clause-done
+returns-clause-done g c is = c.run-status.ensures.done (same_status c.run-status.result Done _ c.exit.ensures is)
+
+pub returns-clause-done_with_refusals : goal.returns-clause-done_with_refusals
+returns-clause-done_with_refusals g c is = c.run-status.ensures.done_with_refusals (same_status c.run-status.result DoneWithRefusals _ c.exit.ensures is)
+
+pub returns-clause-part_within : goal.returns-clause-part_within
+returns-clause-part_within g c is = c.run-status.ensures.part_within (same_status c.run-status.result ScriptTooLong _ c.exit.ensures is)
+
+pub returns-clause-read_fault : goal.returns-clause-read_fault
+returns-clause-read_fault g c is = c.run-status.ensures.read_fault (same_status c.run-status.result ReadFault _ c.exit.ensures is)
+
+pub returns-clause-write_fault : goal.returns-clause-write_fault
+returns-clause-write_fault g c is = c.run-status.ensures.write_fault (same_status c.run-status.result WriteFault _ c.exit.ensures is)
+
+pub returns-clause-file_fault : goal.returns-clause-file_fault
+returns-clause-file_fault g c is = c.run-status.ensures.file_fault (same_status c.run-status.result FileFault _ c.exit.ensures is)
+
+pub returns-clause-too_long : goal.returns-clause-too_long
+returns-clause-too_long g c is = c.run-status.ensures.too_long (same_status c.run-status.result ScriptTooLong _ c.exit.ensures is)
+
+pub returns-clause-usage_always : goal.returns-clause-usage_always
+returns-clause-usage_always g c none = c.exit.ensures ∙ ap number_of (c.run-status.ensures.usage_always none)
+
+pub returns-clause-complete : goal.returns-clause-complete
+returns-clause-complete g c some source sink files short = finished_number c.run-status.result _ c.exit.ensures (c.run-status.ensures.complete some source sink files short)

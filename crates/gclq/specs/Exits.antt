@@ -1,0 +1,13 @@
+-- What the exit statuses say.
+use Rattle.std.specs.Prelude.{◌≡◌, ℕ, ◌⊎◌}
+use Rattle.gclq.specs.declared.words.WordFault.{WordFault}
+use Rattle.gclq.specs.declared.words.WordFault.TheVariants.{NotText, NoMemory}
+
+-- the exit status where the words were not read
+abbrev pub word_status : WordFault → ℕ
+word_status NotText = 2
+word_status NoMemory = 6
+
+-- all was answered, or memory was wanted
+abbrev pub IsEnd : ℕ → Type 0
+IsEnd status = (status ≡ 0) ⊎ ((status ≡ 1) ⊎ (status ≡ 6))

@@ -1,0 +1,62 @@
+ghost use Rattle.std.specs.Prelude.{◌≡◌, ◌≤◌, ◌⊎◌, false, true, None, IsSome, IsSomeAnd, length};
+ghost use Rattle.std.specs.Process.{exit_status};
+ghost use Rattle.outside.specs.Causes.{Rose};
+ghost use Rattle.gcl_model.specs.Limits.{most_script};
+ghost use Rattle.query_run.specs.Words.{first_of};
+ghost use Rattle.query_run.specs.Answers.{output};
+ghost use Rattle.query_run.specs.Runs.{WhereTold, GetsPart, IsAnswered, HandsOverMore, within};
+ghost use Rattle.gclq.specs.Exits.{IsEnd};
+
+use crate::fault_name::FaultName;
+use crate::tell::{exit, tell};
+use gcl_model::Bytes;
+use outside::{FreeGate, Sink, Source};
+use query_run::run;
+use std::alloc::Global;
+use std::process::ExitCode;
+use std::sync::Wait;
+use std::thread::Threads;
+
+/// Runs the script of the source, tells on standard error what was wrong, and gives the exit status.
+pub fn answer<R: Threads + Wait + Sync + Eprint, F: FaultName, S: Source, K: Sink>(
+    rt: &R,
+    alloc: Global,
+    words: &[Bytes],
+    files: &mut F,
+    source: &mut S,
+    sink: &mut K,
+) -> ExitCode
+    // 2 exactly where the words are outside the grammar, and then nothing is touched.
+    ensures usage_only { exit_status result ≡ 2 → first_of words.now ≡ None }
+    ensures usage_always { first_of words.now ≡ None → exit_status result ≡ 2 }
+    ensures untouched { exit_status result ≡ 2 → (source.new ≡ source.old) × (files.new ≡ files.old) × (sink.new ≡ sink.old) }
+
+    // 0 where every line was answered and no answer is a refusal, 1 where one is.
+    ensures done { exit_status result ≡ 0 → WhereTold (first_of words.now) (S.left source.old) (F.held files.old) (λ first script contents.
+        IsAnswered first contents script false (S.left source.new) (K.written sink.old) (K.written sink.new)) }
+    ensures done_with_refusals { exit_status result ≡ 1 → WhereTold (first_of words.now) (S.left source.old) (F.held files.old) (λ first script contents.
+        IsAnswered first contents script true (S.left source.new) (K.written sink.old) (K.written sink.new)) }
+
+    // Whatever the status, the sink gets the beginning of the output.
+    ensures part { WhereTold (first_of words.now) (S.left source.old) (F.held files.old) (λ first script contents.
+        GetsPart (K.written sink.old) (K.written sink.new) (output first contents script)) }
+    ensures part_within { exit_status result ≡ 7 → WhereTold (first_of words.now) (S.left source.old) (F.held files.old) (λ first script contents.
+        GetsPart (K.written sink.old) (K.written sink.new) (output first contents (within most_script script))) }
+
+    // Each other status has its cause.
+    ensures read_fault { exit_status result ≡ 3 → Rose (S.faults source.old) (S.faults source.new) }
+    ensures write_fault { exit_status result ≡ 4 → Rose (K.faults sink.old) (K.faults sink.new) }
+    ensures file_fault { exit_status result ≡ 5 → Rose (F.faults files.old) (F.faults files.new) }
+    ensures too_long { exit_status result ≡ 7 → HandsOverMore most_script (S.left source.old) (S.left source.new) }
+
+    // Where the words are in the grammar, no object failed and the script is within the limit, all is answered, or
+    // memory is wanted.
+    ensures complete { IsSome (first_of words.now) → ¬ Rose (S.faults source.old) (S.faults source.new) → ¬ Rose (K.faults sink.old) (K.faults sink.new) →
+        ¬ Rose (F.faults files.old) (F.faults files.new) → IsSomeAnd (S.left source.old) (λ script. length script ≤ most_script) →
+        IsEnd (exit_status result) }
+    ensures same_files { F.held files.new ≡ F.held files.old }
+{
+    let status = run(rt, alloc, words, files, source, sink, &FreeGate);
+    tell(rt, status, words, files.fault_name());
+    exit(status)
+}

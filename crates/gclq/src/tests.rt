@@ -1,0 +1,138 @@
+use crate::fault_name::FaultName;
+use crate::session::answer;
+use crate::tell::refuse;
+use crate::words::{WordFault, copied};
+use gcl_model::Bytes;
+use outside::{MemFiles, MemSink, MemSource};
+use std::alloc::{AllocError, Global};
+use std::process::ExitCode;
+use std::test::Fail;
+
+impl FaultName for MemFiles {
+    fn fault_name(&self) -> &[u8] {
+        b"x"
+    }
+}
+
+fn list(alloc: Global, words: &[&[u8]]) -> Result<Vec<Bytes>, AllocError> {
+    let mut list = Vec::new(alloc);
+    for word in words {
+        list.push(Bytes::copy_of(alloc, word)?)?;
+    }
+    Ok(list)
+}
+
+// One script over objects in memory, of which the source and the sink fail at these calls.
+struct Case<'a> {
+    name: &'a str,
+    words: &'a [&'a [u8]],
+    script: &'a [u8],
+    fails: (&'a [u64], &'a [u64]),
+    output: &'a [u8],
+    status: u8,
+}
+
+const CASES: [Case<'static>; 7] = [
+    Case {
+        name: "all is answered",
+        words: &[],
+        script: b"add a\n",
+        fails: (&[], &[]),
+        output: b"file 0 0 3\n",
+        status: 0,
+    },
+    Case {
+        name: "a refusal, and the words are read",
+        words: &[b"--first", b"100"],
+        script: b"add a\ndel 7\n",
+        fails: (&[], &[]),
+        output: b"file 0 100 103\n! no file 7\n",
+        status: 1,
+    },
+    Case {
+        name: "the words are outside the grammar",
+        words: &[b"--first", b"100", b"x"],
+        script: b"add a\n",
+        fails: (&[], &[]),
+        output: b"",
+        status: 2,
+    },
+    Case {
+        name: "the first read fails",
+        words: &[],
+        script: b"add a\n",
+        fails: (&[1], &[]),
+        output: b"",
+        status: 3,
+    },
+    Case {
+        name: "the first write fails",
+        words: &[],
+        script: b"add a\nadd a\n",
+        fails: (&[], &[1]),
+        output: b"",
+        status: 4,
+    },
+    Case {
+        name: "a later write fails",
+        words: &[],
+        script: b"add a\nadd a\n",
+        fails: (&[], &[2]),
+        output: b"file 0 0 3\n",
+        status: 4,
+    },
+    Case {
+        name: "a name is not held",
+        words: &[],
+        script: b"add a\nadd b\nadd a\n",
+        fails: (&[], &[]),
+        output: b"file 0 0 3\n",
+        status: 5,
+    },
+];
+
+#[test]
+fn the_exit_status_says_how_the_run_ended(rt: HostRuntime) -> Result<(), Fail> {
+    let alloc = rt.alloc();
+    for case in &CASES {
+        let words = list(alloc, case.words)?;
+        let mut held = Vec::new(alloc);
+        held.push((
+            Bytes::copy_of(alloc, b"a")?,
+            Bytes::copy_of(alloc, b"to be")?,
+        ))?;
+        let mut files = MemFiles::new(alloc, held, Vec::new(alloc));
+        let script = Bytes::copy_of(alloc, case.script)?;
+        let mut source = MemSource::new(alloc, script, case.fails.0.to_vec(alloc)?);
+        let mut sink = MemSink::new(alloc, case.fails.1.to_vec(alloc)?);
+        let words = words.as_slice();
+        let status = answer(&rt, alloc, words, &mut files, &mut source, &mut sink);
+        assert_eq!(rt; sink.written(), case.output, "{}", case.name);
+        assert_eq!(rt; status, ExitCode::from(case.status), "{}", case.name);
+    }
+    Ok(())
+}
+
+#[test]
+fn words_that_were_not_read_end_with_their_status(rt: HostRuntime) {
+    let cases = [(WordFault::NotText, 2u8), (WordFault::NoMemory, 6)];
+    for (fault, status) in cases {
+        assert_eq!(rt; refuse(&rt, fault), ExitCode::from(status), "{fault:?}");
+    }
+}
+
+#[test]
+fn every_word_is_copied(rt: HostRuntime) -> Result<(), Fail> {
+    let alloc = rt.alloc();
+    let mut words = Vec::new(alloc);
+    for word in ["--first", "", "100"] {
+        words.push(String::from_str(alloc, word)?)?;
+    }
+    let copies = copied(alloc, words.as_slice())?;
+    let want: [&[u8]; 3] = [b"--first", b"", b"100"];
+    assert_eq!(rt; copies.len(), want.len());
+    for (copy, want) in copies.iter().zip(want) {
+        assert_eq!(rt; copy.as_slice(), want);
+    }
+    Ok(())
+}
