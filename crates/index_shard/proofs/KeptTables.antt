@@ -1,12 +1,11 @@
 -- What is kept of a table: one entry more, and halving over the entries as over the table.
-use Rattle.std.proofs.Common.{◌≡◌, ℕ, zero, suc, ◌+◌, ◌<◌, ◌≤◌, List, [], ◌∷◌, ◌++◌, length, map, get_or, take, drop, nat_cmp, Option, Some, refl, sym, ap, ◌∙◌, subst, arith, le_refl}
-use Rattle.std.specs.declared.cmp.Ordering.{Ordering}
+use Rattle.std.proofs.Common.{◌≡◌, ℕ, zero, suc, ◌+◌, ◌<◌, ◌≤◌, List, [], ◌∷◌, ◌++◌, length, map, get_or, take, drop, nat_cmp, Some, refl, sym, ap, ◌∙◌, subst, arith, le_refl}
 use Rattle.std.specs.declared.cmp.Ordering.TheVariants.{Less, Equal, Greater}
 use Rattle.std.specs.Ordering.{ordering_index, ordering_then}
 use Rattle.std.specs.Cmp.Lexicographic.{slice_cmp}
 use Rattle.std.specs.List.{AllByRecursion, slice_get}
 use Rattle.std.specs.List.Sorted.{IsNonDecreasingBy, IsPartitionPoint}
-use Rattle.std.proofs.lemmas.List.{get_or-map, length-map, map-append, get_or-take, get_or-drop, take-append-le, drop-append-le, length-append, length-drop, take_all}
+use Rattle.std.proofs.lemmas.List.{get_or-map, length-map, map-append, take-append-le, drop-append-le, length-append, length-drop, take_all}
 use Rattle.index_shard.specs.Tables.{TermEntry, addresses_at}
 use Rattle.index_shard.specs.Kept.{leading, part_of, entry_in, table_in, IsKeptIn, order_in}
 use Rattle.index_shard.specs.declared.entry.Entry.{Entry}

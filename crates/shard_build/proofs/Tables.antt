@@ -1,8 +1,8 @@
 -- The table that the groups of the words make.
-use Rattle.std.proofs.Common.{◌≡◌, ℕ, zero, suc, ◌+◌, ◌-◌, ◌<◌, ◌≤◌, Bool, true, false, cond, List, [], ◌∷◌, ◌++◌, length, map, bytes_eq, nat_cmp, get_or, Option, Some, None, inl, inr, refl, sym, ap, ◌∙◌, subst, arith}
+use Rattle.std.proofs.Common.{◌≡◌, ℕ, zero, suc, ◌+◌, ◌-◌, ◌<◌, ◌≤◌, true, false, cond, List, [], ◌∷◌, ◌++◌, length, bytes_eq, nat_cmp, get_or, Option, Some, None, inl, inr, refl, sym, ap, ◌∙◌, subst, arith}
 use Rattle.std.specs.declared.cmp.Ordering.TheVariants.{Less}
 use Rattle.std.specs.List.{AllByRecursion}
-use Rattle.std.specs.Option.{IfSome, option_map}
+use Rattle.std.specs.Option.{IfSome}
 use Rattle.std.specs.Cmp.Lexicographic.{slice_cmp}
 use Rattle.std.proofs.lemmas.Bool.{true≢false, cases_Bool}
 use Rattle.std.proofs.lemmas.Cmp.{nat_list_cmp_total, tied_itself}
@@ -10,9 +10,8 @@ use Rattle.std.proofs.lemmas.Slice.Eq.{bytes_eq-Decides}
 use Rattle.gcl_model.specs.Texts.{Word, places}
 use Rattle.gcl_model.specs.Slots.{SlotRange}
 use Rattle.gcl_model.specs.Collections.{words_from}
-use Rattle.index_shard.specs.Tables.{RiseWithin, TermEntry, ShardContent, ComesBefore, AreApart, ArePostingsIn, Precedes, IsTable, last_entry, has_address, postings_of, term_at, words_of}
+use Rattle.index_shard.specs.Tables.{RiseWithin, TermEntry, ShardContent, ComesBefore, AreApart, ArePostingsIn, Precedes, IsTable, last_entry, has_address, term_at, words_of}
 use Rattle.index_shard.proofs.ShardWords.{rise_wider, words_in_turn}
-use Rattle.index_shard.proofs.TableLaws.{same_term}
 use Rattle.shard_build.specs.Groups.{unless_empty, group_of}
 use Rattle.shard_build.proofs.Places.{places_rise, place_tells, places_apart}
 

@@ -2,7 +2,7 @@
 use Rattle.std.proofs.Common.{◌≡◌, ℕ, List, [], ◌∷◌, codes, Some, None, refl}
 use Rattle.gcl_model.specs.Texts.{Word}
 use Rattle.gcl_model.specs.Collections.{words_from, with_boundaries, width_of}
-use Rattle.shard_build.specs.Groups.{unless_empty, group_of}
+use Rattle.shard_build.specs.Groups.{group_of}
 
 abbrev to_be_to : List (List ℕ)
 to_be_to = codes "to" ∷ codes "be" ∷ codes "to" ∷ []

@@ -1,4 +1,4 @@
-use Rattle.std.proofs.Common.{◌≡◌, ◌<◌, length, sym, subst, [], rules, arith}
+use Rattle.std.proofs.Common.{◌<◌, length, sym, subst, [], rules, arith}
 use Rattle.std.proofs.lemmas.Fn.{always_returns_same}
 use Rattle.std.proofs.lemmas.List.{length-map}
 use Rattle.index_shard.specs.Tables.{TermEntry}

@@ -1,4 +1,4 @@
-use Rattle.std.proofs.Common.{◌≡◌, sym, ap, subst}
+use Rattle.std.proofs.Common.{sym, subst}
 use Rattle.std.specs.List.{AllByRecursion}
 use Rattle.index_shard.specs.Tables.{ArePostingsIn, AreApart}
 use Rattle.shard_build.proofs.MapTables.{next_entry}

@@ -1,5 +1,5 @@
 use Rattle.std.proofs.Common.{refl, arith}
-use Rattle.index_shard.proofs.KeptTables.{IsPushed, pushed}
+use Rattle.index_shard.proofs.KeptTables.{pushed}
 use Rattle.index_shard.proofs.table.TermTable.push.Goals as goal
 
 pub invariant_of-self-2 : goal.invariant_of-self-2
