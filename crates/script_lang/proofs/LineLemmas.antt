@@ -20,8 +20,8 @@ newline-found : (bytes : List ℕ) (place : ℕ) → NoneBefore (Passes (is_byte
 newline-found bytes place first here =
     prefix_len_is (λ b. not (b == 10)) bytes place 0 (omega arith) (λ k before. not_true (get_or bytes k 0 == 10) (first.before k (omega arith) before)) (λ _. ap not here)
 
-newline-none : (bytes : List ℕ) → Nowhere (Passes (is_byte 10) bytes) 0 (length bytes) → position_or_len (λ b. b == 10) bytes ≡ length bytes
-newline-none bytes none =
+pub newline-nowhere : (bytes : List ℕ) → Nowhere (Passes (is_byte 10) bytes) 0 (length bytes) → position_or_len (λ b. b == 10) bytes ≡ length bytes
+newline-nowhere bytes none =
     prefix_len_is (λ b. not (b == 10)) bytes (length bytes) 0 (omega arith) (λ k before. not_true (get_or bytes k 0 == 10) (none k (omega arith) before)) (λ past. absurd (omega arith))
 
 -- what a search of the rest of the text tells
@@ -32,7 +32,7 @@ line_end-found text rest at place same first here =
 
 pub line_end-none : (text rest : List ℕ) (at : ℕ) → rest ≡ drop at text → at ≤ length text → Nowhere (Passes (is_byte 10) rest) 0 (length rest) → length text ≡ line_end text at
 line_end-none text rest at same inside none =
-    let long : position_or_len (λ b. b == 10) (drop at text) ≡ length rest = sym (ap (position_or_len (λ b. b == 10)) same) ∙ newline-none rest none in
+    let long : position_or_len (λ b. b == 10) (drop at text) ≡ length rest = sym (ap (position_or_len (λ b. b == 10)) same) ∙ newline-nowhere rest none in
     omega (arith, ap length same, length-drop at text)
 
 -- by whether the first byte is a newline
@@ -46,12 +46,12 @@ cut_last true b = refl
 cut_last false b = refl
 
 -- the first line ends at the first newline, and the others come behind it
-cut-first : (bs : List ℕ) → 0 < length bs → cut_at_newlines bs ≡ take (position_or_len (λ b. b == 10) bs) bs ∷ cut_at_newlines (drop (position_or_len (λ b. b == 10) bs + 1) bs)
+pub cut-first : (bs : List ℕ) → 0 < length bs → cut_at_newlines bs ≡ take (position_or_len (λ b. b == 10) bs) bs ∷ cut_at_newlines (drop (position_or_len (λ b. b == 10) bs + 1) bs)
 cut-first [] some = absurd (omega arith)
 cut-first (b ∷ []) some = cut_last (b == 10) b
 cut-first (b ∷ c ∷ bs) some = cut (b == 10) b (c ∷ bs) (position_or_len (λ b. b == 10) (c ∷ bs)) (cut-first (c ∷ bs) (omega arith))
 
-lines-first : (most : ℕ) (bs : List ℕ) (n : ℕ) → 0 < length bs → n ≡ position_or_len (λ b. b == 10) bs →
+pub lines-first : (most : ℕ) (bs : List ℕ) (n : ℕ) → 0 < length bs → n ≡ position_or_len (λ b. b == 10) bs →
     lines most bs ≡ line_of most (take n bs) ∷ lines most (drop (n + 1) bs)
 lines-first most bs n some is = rw is (ap (map (line_of most)) (cut-first bs some))
 
@@ -66,10 +66,10 @@ cond_false false x y is = refl
 abbrev short_line : List ℕ → Line
 short_line bytes = record { long = false; bytes = bytes }
 
-line_of-long : (most : ℕ) (line : List ℕ) → most < length line → line_of most line ≡ record { long = true; bytes = [] }
+pub line_of-long : (most : ℕ) (line : List ℕ) → most < length line → line_of most line ≡ record { long = true; bytes = [] }
 line_of-long most line over = cond_true (nat_lt most (length line)) _ _ (grind (arith, nat_tests))
 
-line_of-short : (most : ℕ) (line : List ℕ) → length line ≤ most → line_of most line ≡ short_line (without_front (without_back (without_return line)))
+pub line_of-short : (most : ℕ) (line : List ℕ) → length line ≤ most → line_of most line ≡ short_line (without_front (without_back (without_return line)))
 line_of-short most line few = cond_false (nat_lt most (length line)) _ _ (grind (arith, nat_tests))
 
 -- the first of the lines from a place on, and those behind its newline

@@ -6,8 +6,8 @@ use crate::blanks::{back_blanks, front_blanks};
 use crate::line_cut::LineCut;
 use memchr::memchr;
 
-// Where the line that begins at `at` ends: at its newline, or at the end.
-fn line_end(bytes: &[u8], at: usize) -> usize
+/// Where the line that begins at `at` ends: at its newline, or at the end.
+pub fn line_end(bytes: &[u8], at: usize) -> usize
     requires { at ≤ length bytes.now }
     ensures value { result ≡ line_end bytes.now at }
     ensures from { at ≤ result }
@@ -19,8 +19,8 @@ fn line_end(bytes: &[u8], at: usize) -> usize
     }
 }
 
-// How many bytes are left of a line without a carriage return at its end and the blanks before that.
-fn text_len(line: &[u8]) -> usize
+/// How many bytes are left of a line without a carriage return at its end and the blanks before that.
+pub fn text_len(line: &[u8]) -> usize
     ensures value { take result line.now ≡ without_back (without_return line.now) }
     ensures bound { result ≤ length line.now }
 {

@@ -1,9 +1,11 @@
 use crate::{
-    Command, LineCut, Refusal, command, line_at, put_file, put_gone, put_interval, put_merging,
-    put_opened, put_record, put_refusal, put_saved, put_shards, put_total,
+    Command, LineCut, LineFeed, Refusal, Taken, command, line_at, put_file, put_gone, put_interval,
+    put_merging, put_opened, put_record, put_refusal, put_saved, put_shards, put_total,
 };
 use address_space::{FileId, FileRecord};
 use gcl_model::{Bytes, Interval};
+use std::alloc::Global;
+use std::process::Abort;
 use std::test::Fail;
 
 fn cut(from: usize, to: usize, after: usize) -> Option<LineCut> {
@@ -148,5 +150,84 @@ fn each_answer_is_one_line(rt: HostRuntime) -> Result<(), Fail> {
         out.as_slice(),
         b"file 0 0 7\ngone 12\n1 20\n= 0\n2 10 11 a b\nmerging\nshards 2\nsaved 118\nopened 0\n! command\n! long line\n! no file 3\n! file too long\n! no addresses\n! not empty\n! not an image\n".as_slice()
     );
+    Ok(())
+}
+
+// Appends what was taken: the line, or an exclamation mark for a long one, and a bar.
+fn put_taken(out: &mut Vec<u8>, taken: &Taken) -> Result<(), Fail> {
+    match taken {
+        Taken::Line(line) => out.extend_from_slice(line.as_slice())?,
+        Taken::Long => out.push(b'!')?,
+        Taken::More => return Ok(()),
+    }
+    out.push(b'|')?;
+    Ok(())
+}
+
+// Pushes a piece, and takes the lines that are there.
+fn feed_piece(
+    rt: &impl Abort,
+    feed: &mut LineFeed,
+    piece: &[u8],
+    out: &mut Vec<u8>,
+) -> Result<(), Fail> {
+    assert!(rt; !feed.has_line());
+    feed.push(piece)?;
+    for _ in 0..9 {
+        put_taken(out, &feed.take()?)?;
+    }
+    assert!(rt; !feed.has_line(), "{piece:?}");
+    Ok(())
+}
+
+// The lines of a text that is cut behind each byte whose digit in `cuts` is 1, the first one's digit being the last.
+fn lines_of_pieces(
+    rt: &impl Abort,
+    alloc: Global,
+    text: &[u8],
+    most: u64,
+    cuts: u64,
+) -> Result<Vec<u8>, Fail> {
+    let mut feed = LineFeed::new(alloc, most);
+    let mut out = Vec::new(alloc);
+    let mut piece = Vec::new(alloc);
+    let mut rest = cuts;
+    for b in text {
+        piece.push(*b)?;
+        if rest % 2 == 1 {
+            feed_piece(rt, &mut feed, piece.as_slice(), &mut out)?;
+            piece.clear();
+        }
+        rest /= 2;
+    }
+    feed_piece(rt, &mut feed, piece.as_slice(), &mut out)?;
+    assert!(rt; !feed.has_line());
+    put_taken(&mut out, &feed.finish()?)?;
+    Ok(out)
+}
+
+#[test]
+fn a_text_has_the_same_lines_however_it_is_cut(rt: HostRuntime) -> Result<(), Fail> {
+    let cases: [(&[u8], u64, &[u8]); 9] = [
+        (b"", 5, b""),
+        (b"\n\n", 5, b"||"),
+        (b"a\nbc", 5, b"a|bc|"),
+        (b"a\r\n \tb", 5, b"a|b|"),
+        (b"a b\r\r\n\r", 5, b"a b\r||"),
+        (b"abc\nde\nf", 2, b"!|de|f|"),
+        (b"ab\r\nabcd", 2, b"!|!|"),
+        (b"a\n\nb\n", 0, b"!||!|"),
+        (b"abcdefgh", u64::MAX, b"abcdefgh|"),
+    ];
+    for (text, most, want) in cases {
+        for cuts in 0..256u64 {
+            let got = lines_of_pieces(&rt, rt.alloc(), text, most, cuts)?;
+            assert_eq!(rt;
+                got.as_slice(),
+                want,
+                "{text:?} at most {most}, cut by {cuts}"
+            );
+        }
+    }
     Ok(())
 }
