@@ -1,0 +1,5 @@
+pub mod EngineLemmas
+pub mod SettlingLemmas
+pub mod ChangeLemmas
+pub mod CallLemmas
+mod Worked

@@ -1,0 +1,4 @@
+pub mod Engines
+pub mod Changes
+pub mod Settling
+pub mod Calls
