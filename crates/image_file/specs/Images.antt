@@ -1,0 +1,75 @@
+-- Which bytes are an image of which collection.
+use Rattle.std.specs.Prelude.{◌≡◌, ℕ, ◌^◌, ◌<◌, ◌≤◌, List, [], ◌∷◌, length, map}
+use Rattle.std.specs.List.{AllByRecursion}
+use Rattle.gcl_model.specs.Texts.{Word, places}
+use Rattle.gcl_model.specs.Collections.{Collection, IsSound, words_of}
+use Rattle.gcl_model.specs.Limits.{address_end}
+use Rattle.index_shard.specs.Tables.{TermEntry, ComesBefore, postings_of}
+use Rattle.live_version.specs.Contents.{VersionContent}
+use Rattle.live_version.specs.StandsFor.{StandsFor, entry_of}
+use Rattle.image_file.specs.declared.format.Format.{Format}
+use Rattle.image_file.specs.declared.format.Format.TheVariants.{One, Two}
+use Rattle.image_file.specs.Fields.{Fields, image_bytes}
+
+-- the terms rise in byte order: "be", "not" do
+abbrev pub TermsRise : List TermEntry → Type 0
+TermsRise [] = Unit {0}
+TermsRise (entry ∷ entries) = AllByRecursion (λ later. ComesBefore entry.term later.term) entries × TermsRise entries
+
+-- each token of the words stands as a term once, in byte order, with the addresses that hold it
+pub record AreTermsOf (words : List Word) (terms : List TermEntry) : Type 0 where
+  pub rising : TermsRise terms
+  pub some : AllByRecursion (λ entry. 0 < length entry.addresses) terms
+  pub places : (token : List ℕ) → postings_of terms token ≡ places words token
+
+-- the addresses of a collection end here at the latest
+abbrev pub end_of : Format → ℕ
+end_of One = 2 ^ 48
+end_of Two = address_end
+
+-- a term has fewer bytes than this
+abbrev pub most_term : Format → ℕ
+most_term One = 2 ^ 32
+most_term Two = 2 ^ 56
+
+-- every token is short enough
+abbrev pub AreShort : Format → List TermEntry → Type 0
+AreShort format terms = AllByRecursion (λ entry. length entry.term < most_term format) terms
+
+-- what an image of the collection says, with these terms
+abbrev pub fields_of : Collection → List TermEntry → Fields
+fields_of c terms = record { first = c.first; next = c.next; next_id = c.next_id; files = map entry_of c.files; terms = terms }
+
+-- the bytes are the image of the collection with these terms
+pub record SpellsWith (format : Format) (image : List ℕ) (c : Collection) (table : List TermEntry) : Type 0 where
+  pub terms : AreTermsOf (words_of c) table
+  pub short : AreShort format table
+  pub bytes : image ≡ image_bytes format (fields_of c table)
+
+-- a sound collection of which nothing was deleted, and whose addresses a version of the format can say
+pub record CanBeSaid (format : Format) (c : Collection) : Type 0 where
+  pub sound : IsSound c
+  pub fresh : c.dels ≡ 0
+  pub in_range : c.next ≤ end_of format
+
+-- the bytes are an image of the collection in this version of the format
+pub record Spells (format : Format) (bytes : List ℕ) (c : Collection) : Type 0 where
+  pub said : CanBeSaid format c
+  pub spelled : (terms : List TermEntry) × SpellsWith format bytes c terms
+
+-- the same, with its deletions forgotten
+abbrev pub forgotten : Collection → Collection
+forgotten c = record c { dels = 0 }
+
+-- no token of the words is too long to be written
+abbrev pub HasShortTokens : Collection → Type 0
+HasShortTokens c = AllByRecursion (λ w. length w.token < 2 ^ 56) (words_of c)
+
+-- the version stands for a sound collection without such a token
+pub record IsSavedAs (v : VersionContent) (c : Collection) : Type 0 where
+  pub stands : StandsFor v c
+  pub sound : IsSound c
+  pub short : HasShortTokens c
+
+abbrev pub CanBeSaved : VersionContent → Type 0
+CanBeSaved v = (c : Collection) × IsSavedAs v c

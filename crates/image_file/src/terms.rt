@@ -1,0 +1,66 @@
+ghost use Rattle.std.specs.Prelude.{◌≡◌, ◌^◌, ◌<◌, ◌++◌, length, IfOk, OnOk};
+ghost use Rattle.std.specs.List.{AllByRecursion};
+ghost use Rattle.posting_code.specs.Postings.{RiseWithin};
+ghost use Rattle.live_version.specs.Contents.{live_of};
+ghost use Rattle.image_file.specs.Fields.{differences, short_term};
+ghost use Rattle.image_file.specs.Written.{IsTermText};
+
+use crate::numbers::put_text;
+use live_version::Version;
+use posting_code::put_number;
+use slot_terms::SlotTerms;
+use std::alloc::{AllocError, Global};
+
+/// The spelling of some terms, and how many they are.
+#[derive(Drop)]
+pub(crate) struct TermText {
+    pub(crate) count: u64,
+    pub(crate) bytes: Vec<u8>,
+}
+
+/// The terms that have a live posting.
+pub(crate) fn terms_text(alloc: Global, version: &Version) -> Result<TermText, AllocError>
+    requires { AllByRecursion (λ w. length w.token < 2 ^ 56) (live_of version.now.slots) }
+    ensures { IfOk result (λ text. IsTermText version.now text.count text.bytes.items) }
+{
+    let mut terms = SlotTerms::new(alloc, version.slots())?;
+    let mut text = TermText {
+        count: 0,
+        bytes: Vec::new(alloc),
+    };
+    let first = version.first();
+    let mut addresses = Vec::new(alloc);
+    while let Some(term) = terms.next(&mut addresses)? {
+        if !addresses.is_empty() {
+            put_term(&mut text.bytes, first, term, &addresses)?;
+            text.count += 1;
+        }
+    }
+    Ok(text)
+}
+
+/// Puts a term and its addresses behind the bytes.
+fn put_term(out: &mut Vec<u8>, first: u64, term: &[u8], addresses: &[u64]) -> Result<(), AllocError>
+    requires short { length term.now < 2 ^ 56 }
+    requires some { 0 < length addresses.now }
+    requires rising { RiseWithin first (2 ^ 56) addresses.now }
+    ensures { OnOk result (out.new.items ≡ out.old.items ++ short_term first (record { term = term.now; addresses = addresses.now })) }
+{
+    put_text(out, term)?;
+    put_number(out, addresses.len() as u64 - 1)?;
+    put_differences(out, first, addresses)?;
+    Ok(())
+}
+
+/// Puts each address behind the bytes, as its difference from the one before.
+fn put_differences(out: &mut Vec<u8>, from: u64, addresses: &[u64]) -> Result<(), AllocError>
+    requires { RiseWithin from (2 ^ 56) addresses.now }
+    ensures { OnOk result (out.new.items ≡ out.old.items ++ differences from addresses.now) }
+{
+    let mut before = from;
+    for address in addresses {
+        put_number(out, *address - before)?;
+        before = *address;
+    }
+    Ok(())
+}
