@@ -1,11 +1,13 @@
 -- Images, computed.
-use Rattle.std.proofs.Common.{◌≡◌, ℕ, List, [], ◌∷◌, ◌++◌, codes, length, refl}
+use Rattle.std.proofs.Common.{◌≡◌, ℕ, ◌≤◌, List, [], ◌∷◌, ◌++◌, codes, true, length, refl, arith}
 use Rattle.gcl_model.specs.Collections.{Collection, file_start, file_end, words_of}
+use Rattle.gcl_model.specs.Names.{is_name}
 use Rattle.gcl_model.specs.Texts.{places}
 use Rattle.index_shard.specs.Tables.{TermEntry, postings_of}
+use Rattle.image_file.specs.declared.format.Format.{Format}
 use Rattle.image_file.specs.declared.format.Format.TheVariants.{One, Two}
 use Rattle.image_file.specs.Fields.{differences, image_bytes}
-use Rattle.image_file.specs.Images.{AreTermsOf, fields_of}
+use Rattle.image_file.specs.Images.{AreTermsOf, CanBeSaid, Spells, end_of, fields_of}
 use Rattle.image_file.proofs.TermTables.{table_is}
 
 differences-from_three : differences 3 (5 ∷ 8 ∷ []) ≡ 2 ∷ 3 ∷ []
@@ -73,3 +75,21 @@ terms_of_b-are = table_is (words_of only_b)
 
 terms_of_a-are : AreTermsOf (words_of only_a) terms_of_a
 terms_of_a-are = table_is (words_of only_a)
+
+-- the image of b with its 74 bytes, and its old image with 118, are images of the collection, as b is a name
+said-only_b : (format : Format) → is_name (98 ∷ []) ≡ true → CanBeSaid format only_b
+said-only_b format named = record {
+  sound = record { ordered = omega arith; in_range = omega arith; files = (omega arith, omega arith, (λ e. absurd (omega arith), omega arith), named, tt, (omega arith, omega arith, (λ e. refl, omega arith))) };
+  fresh = refl;
+  in_range = in_range format;
+}
+  where
+    in_range : (format : Format) → 10 ≤ end_of format
+    in_range One = omega arith
+    in_range Two = omega arith
+
+spells-two : is_name (98 ∷ []) ≡ true → Spells Two (image_bytes Two (fields_of only_b terms_of_b)) only_b
+spells-two named = record { said = said-only_b Two named; spelled = (terms_of_b, record { terms = terms_of_b-are; short = (omega arith, (omega arith, tt)); bytes = refl }) }
+
+spells-one : is_name (98 ∷ []) ≡ true → Spells One (image_bytes One (fields_of only_b terms_of_b)) only_b
+spells-one named = record { said = said-only_b One named; spelled = (terms_of_b, record { terms = terms_of_b-are; short = (omega arith, (omega arith, tt)); bytes = refl }) }
