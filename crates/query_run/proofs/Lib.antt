@@ -1,8 +1,8 @@
 -- Lemmas, and worked examples.
-pub mod AnswerLemmas
-pub mod LookUps
-pub mod RunLemmas
+pub mod Passes
+pub mod Replies
+pub mod Scripts
 pub mod ShortLemmas
-pub mod StoreLemmas
+pub mod Told
 mod Worked
 pub mod Writing

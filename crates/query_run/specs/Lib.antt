@@ -2,6 +2,6 @@ pub mod Answers
 pub mod Faults
 pub mod Progress
 pub mod Runs
+pub mod States
 pub mod Statuses
-pub mod Stored
 pub mod Words

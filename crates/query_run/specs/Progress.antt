@@ -1,13 +1,16 @@
--- For proofs alone: what the functions under `run` say of one line. No clause of `run` speaks of these.
-use Rattle.std.specs.Prelude.{◌≡◌, Bool, ℕ, ◌≤◌, List, [], ◌++◌, Option, None, Some, Result, IsErrOf}
+-- For proofs alone: what the functions under `serve` say of a line and of some lines. No clause of `serve` or `run` speaks of these.
+use Rattle.std.specs.Prelude.{◌≡◌, Bool, ℕ, ◌+◌, ◌≤◌, List, [], ◌++◌, Option, None, Some, Result, IsErrOf, ◌⊎◌, if◌then◌else◌}
 use Rattle.std.specs.List.{list_any}
 use Rattle.std.specs.Io.KnownBytes.{Appends}
 use Rattle.outside.specs.Causes.{Rose}
 use Rattle.outside.specs.Contents.{Contents}
-use Rattle.gcl_model.specs.Collections.{Collection}
+use Rattle.live_version.specs.StandsFor.{StandsFor}
+use Rattle.collection.specs.Engines.{EngineContent}
 use Rattle.script_lang.specs.Lines.{Line}
 use Rattle.script_lang.specs.Answers.{is_refusal}
-use Rattle.query_run.specs.Answers.{Reply, answer, text_of_lines}
+use Rattle.query_run.specs.States.{State, Keeps}
+use Rattle.query_run.specs.Answers.{Reply, answer, answers, after_reply, state_after, AllAnswered, text_of_lines}
+use Rattle.query_run.specs.declared.limits.Limits.{Limits}
 use Rattle.query_run.specs.declared.run_fault.RunFault.{RunFault}
 use Rattle.query_run.specs.declared.run_fault.RunFault.TheVariants.{Write, Files}
 
@@ -16,22 +19,36 @@ pub record Says (lines : List (List ℕ)) (old new : List ℕ) (refusal : Bool) 
   pub text : new ≡ old ++ text_of_lines lines
   pub refusal_is : refusal ≡ list_any is_refusal lines
 
--- the lines of a reply come after what was there, and the collection is the one that it leaves
-pub record Follows (reply : Reply) (after : Collection) (old new : List ℕ) (refusal : Bool) : Type 0 where
-  pub after_is : after ≡ reply.after
+-- the lines of a reply come after what was there, and the engine keeps the state that it leaves
+pub record Follows (reply : Reply) (engine : EngineContent) (wanted : Bool) (old new : List ℕ) (refusal : Bool) : Type 0 where
+  pub keeps : Keeps engine wanted reply.after
   pub says : Says reply.lines old new refusal
 
 -- the same, of a reply that there may be
-pub record Gives (told : Option Reply) (after : Collection) (old new : List ℕ) (refusal : Bool) : Type 0 where
+pub record Gives (told : Option Reply) (engine : EngineContent) (wanted : Bool) (old new : List ℕ) (refusal : Bool) : Type 0 where
   pub reply : Reply
   pub is : told ≡ Some reply
-  pub follows : Follows reply after old new refusal
+  pub follows : Follows reply engine wanted old new refusal
 
--- the reply to a line was written, and the collection is the one that it leaves
-pub record HasWritten (contents : Contents) (before after : Collection) (line : Line) (refusal : Bool) (old new : Option (List ℕ)) : Type 0 where
+-- the engine keeps the state, and its files are what is held
+pub record IsAt (held : Option Contents) (engine : EngineContent) (wanted : Bool) (state : State) : Type 0 where
+  pub files : held ≡ Some state.files
+  pub keeps : Keeps engine wanted state
+
+-- it ended within a line: before the change of that line, or, and then the line is completed, after it
+abbrev pub StopsWithin : State → Option Reply → ℕ → ℕ → EngineContent → Type 0
+StopsWithin state told before now engine =
+    ((now ≡ before) × StandsFor engine.version state.collection) ⊎ ((now ≡ before + 1) × StandsFor engine.version (after_reply state told).collection)
+
+-- how many merges are wanted
+abbrev pub wish : Bool → ℕ
+wish wanted = if wanted then 1 else 0
+
+-- the reply to a line was written, and the engine keeps the state that it leaves
+pub record HasWritten (limits : Limits) (state : State) (line : Line) (engine : EngineContent) (wanted refusal : Bool) (old new : Option (List ℕ)) : Type 0 where
   pub reply : Reply
-  pub is : answer contents before line ≡ Some reply
-  pub after_is : after ≡ reply.after
+  pub is : answer limits state line ≡ Some reply
+  pub keeps : Keeps engine wanted reply.after
   pub refusal_is : refusal ≡ list_any is_refusal reply.lines
   pub written : Appends old new (text_of_lines reply.lines)
 
@@ -41,8 +58,19 @@ lines_of None = []
 lines_of (Some reply) = reply.lines
 
 -- the text of the reply to a line
-abbrev pub answer_text : Contents → Collection → Line → List ℕ
-answer_text contents c line = text_of_lines (lines_of (answer contents c line))
+abbrev pub answer_text : Limits → State → Line → List ℕ
+answer_text limits state line = text_of_lines (lines_of (answer limits state line))
+
+-- some lines were answered, and the answers were written
+pub record AreAnswered (limits : Limits) (start : State) (lines : List Line) (refusal : Bool) (old new : Option (List ℕ)) : Type 0 where
+  pub answered : AllAnswered limits start lines
+  pub refusal_is : refusal ≡ list_any is_refusal (answers limits start lines)
+  pub written : Appends old new (text_of_lines (answers limits start lines))
+
+-- so far the lines are answered, and the engine keeps the state after them
+pub record HasCome (limits : Limits) (start : State) (lines : List Line) (engine : EngineContent) (wanted refusal : Bool) (old new : Option (List ℕ)) : Type 0 where
+  pub are : AreAnswered limits start lines refusal old new
+  pub keeps : Keeps engine wanted (state_after limits start lines)
 
 -- neither count has fallen, and a fault is one of the object that it names
 pub record HasCauses {T : Type 0} (sink_before sink_now files_before files_now : ℕ) (result : Result T RunFault) : Type 0 where

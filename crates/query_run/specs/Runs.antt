@@ -1,11 +1,16 @@
 -- What a run says of its source, its files and its sink.
-use Rattle.std.specs.Prelude.{◌≡◌, Bool, ℕ, ◌+◌, ◌==◌, List, [], ◌∷◌, ◌++◌, length, take, Option, IfSome, if◌then◌else◌}
+use Rattle.std.specs.Prelude.{◌≡◌, Bool, false, ℕ, ◌+◌, ◌≤◌, ◌==◌, List, [], ◌∷◌, ◌++◌, length, take, Option, IfSome, if◌then◌else◌}
+use Rattle.std.specs.List.{list_any}
 use Rattle.std.specs.Io.KnownBytes.{Appends, Consumes, IsAtEnd}
 use Rattle.outside.specs.Contents.{Contents}
-use Rattle.gcl_model.specs.Limits.{most_line}
-use Rattle.gcl_model.specs.Collections.{empty_from}
-use Rattle.script_lang.specs.Lines.{lines}
-use Rattle.query_run.specs.Answers.{output, has_refusal, AllAnswered}
+use Rattle.script_lang.specs.Answers.{is_refusal}
+use Rattle.script_lang.specs.Lines.{Line, lines}
+use Rattle.live_version.specs.Contents.{VersionContent}
+use Rattle.live_version.specs.StandsFor.{StandsFor}
+use Rattle.collection.specs.Engines.{EngineContent}
+use Rattle.query_run.specs.States.{State, opening, greatest_limits, Keeps}
+use Rattle.query_run.specs.Answers.{text_of_lines, answers, state_after, AllAnswered, output_by, has_refusal_by}
+use Rattle.query_run.specs.declared.limits.Limits.{Limits}
 
 -- where the words give an address, and it is known what the source has left and what the files hold
 abbrev pub WhereTold : Option ℕ → Option (List ℕ) → Option Contents → (ℕ → List ℕ → Contents → Type 0) → Type 0
@@ -19,15 +24,32 @@ pub record GetsPart (old new : Option (List ℕ)) (text : List ℕ) : Type 0 whe
   pub written : Appends old new part
 
 -- every line of the script has an answer, and all answers were written; they have a refusal line or none
-pub record HasAnswered (first : ℕ) (contents : Contents) (script : List ℕ) (refusal : Bool) (old new : Option (List ℕ)) : Type 0 where
-  pub all : AllAnswered contents (empty_from first) (lines most_line script)
-  pub written : Appends old new (output first contents script)
-  pub refusal_is : refusal ≡ has_refusal first contents script
+pub record HasAnswered (limits : Limits) (first : ℕ) (contents : Contents) (script : List ℕ) (refusal : Bool) (old new : Option (List ℕ)) : Type 0 where
+  pub all : AllAnswered limits (opening first contents) (lines limits.line script)
+  pub written : Appends old new (output_by limits first contents script)
+  pub refusal_is : refusal ≡ has_refusal_by limits first contents script
 
--- the same, and the script was read to its end
-pub record IsAnswered (first : ℕ) (contents : Contents) (script : List ℕ) (refusal : Bool) (left old new : Option (List ℕ)) : Type 0 where
+-- the same, the script is within its limit, and it was read to its end
+pub record IsAnsweredBy (limits : Limits) (first : ℕ) (contents : Contents) (script : List ℕ) (refusal : Bool) (left old new : Option (List ℕ)) : Type 0 where
+  pub short : length script ≤ limits.script
   pub read : IsAtEnd left
-  pub answered : HasAnswered first contents script refusal old new
+  pub answered : HasAnswered limits first contents script refusal old new
+
+-- the same by the limits of a run
+abbrev pub IsAnswered : ℕ → Contents → List ℕ → Bool → Option (List ℕ) → Option (List ℕ) → Option (List ℕ) → Type 0
+IsAnswered = IsAnsweredBy greatest_limits
+
+-- the engine keeps the state after the whole script, and each of its lines is completed
+pub record IsLeftBy (limits : Limits) (first : ℕ) (contents : Contents) (script : List ℕ) (engine : EngineContent) (completed : ℕ) : Type 0 where
+  pub keeps : Keeps engine false (state_after limits (opening first contents) (lines limits.line script))
+  pub each : completed ≡ length (lines limits.line script)
+
+-- The first so many lines are completed: the version stands for the collection after them, and the sink got the beginning of the
+-- answers to them and the line after them
+pub record IsStopped (limits : Limits) (start : State) (script : List Line) (completed : ℕ) (version : VersionContent) (old new : Option (List ℕ)) : Type 0 where
+  pub within : completed ≤ length script
+  pub stands : StandsFor version (state_after limits start (take completed script)).collection
+  pub part : GetsPart old new (text_of_lines (answers limits start (take (completed + 1) script)))
 
 -- the source handed over one byte more than so many, and no byte after that
 pub record HandsOverMore (most : ℕ) (old new : Option (List ℕ)) : Type 0 where

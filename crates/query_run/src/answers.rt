@@ -1,151 +1,177 @@
-ghost use Rattle.std.specs.Prelude.{◌≡◌, ◌≤◌, ◌++◌, true, [], map, IfOk, OnOk, IfSome, length};
-ghost use Rattle.gcl_model.specs.Limits.{most_file};
-ghost use Rattle.gcl_model.specs.Names.{is_name};
+ghost use Rattle.std.specs.Prelude.{◌≡◌, ◌+◌, ◌≤◌, ◌<◌, true, false, [], ◌∷◌, IfOk, OnOk, OnErr};
+ghost use Rattle.gcl_model.specs.Collections.{text_of};
+ghost use Rattle.gcl_model.specs.Limits.{far};
+ghost use Rattle.collection.specs.Engines.{merge_end};
 ghost use Rattle.outside.specs.Causes.{HasFileCause};
-ghost use Rattle.script_lang.specs.declared.commands.Command.TheVariants.{Add};
-ghost use Rattle.query_run.specs.Answers.{refusal_lines, add_reply, del_reply, files_lines, record_lines, text_of_lines, reply, answer};
-ghost use Rattle.query_run.specs.Progress.{Says, Follows, Gives};
+ghost use Rattle.script_lang.specs.Answers.{merging_line};
 ghost use Rattle.script_lang.specs.Commands.{IsNamed};
+ghost use Rattle.query_run.specs.States.{State, Keeps};
+ghost use Rattle.query_run.specs.Answers.{reply, answer, query_lines, names_loaded, names_of_line};
+ghost use Rattle.query_run.specs.Progress.{Says, Gives, IsAt, StopsWithin, wish};
 
+use crate::changes::{add, delete};
+use crate::limits::Limits;
+use crate::listing::{count_slots, list_files};
+use crate::merging::merge_wanted;
 use crate::queries::{Asked, answer_query};
-use crate::store::{AddFault, Store};
-use outside::{FileError, Files, Loaded};
-use script_lang::{
-    Command, Refusal, command, put_file, put_gone, put_record, put_refusal, put_total,
-};
+use crate::refusals::refuse;
+use collection::Engine;
+use gcl_model::Bytes;
+use outside::{FileError, Files, Gate};
+use script_lang::{Command, Refusal, command, put_merging};
 use std::alloc::{AllocError, Global};
+use std::sync::Wait;
 
-/// A longer file is not added.
-pub const FILE_MOST: u64 = 1 << 26;
-
-/// Appends a refusal.
-pub(crate) fn refuse(out: &mut Vec<u8>, refusal: &Refusal) -> Result<bool, AllocError>
-    ensures { IfOk result (Says (refusal_lines refusal.now) out.old.items out.new.items) }
-{
-    put_refusal(out, refusal)?;
-    Ok(true)
-}
-
-// Adds a file with this content, and appends the answer.
-fn add_content(
+// Answers a query on the last version that was published.
+fn answer_now(
     alloc: Global,
     out: &mut Vec<u8>,
-    store: &mut Store,
-    name: &[u8],
-    content: &[u8],
+    engine: &Engine,
+    asked: Asked,
+    query: &Bytes,
 ) -> Result<bool, AllocError>
-    requires named { is_name name.now ≡ true }
-    requires short { length content.now ≤ most_file }
-    ensures { IfOk result (Follows (add_reply store.old name.now content.now) store.new out.old.items out.new.items) }
+    ensures { IfOk result (λ refusal. (state : State) → Keeps engine.now false state →
+        Says (query_lines asked (text_of state.collection) query.now) out.old.items out.new.items refusal) }
 {
-    match store.add(alloc, name, content) {
-        Ok(added) => {
-            put_file(out, added.id, added.range.first, added.range.last)?;
-            Ok(false)
-        }
-        Err(AddFault::NoAddresses) => refuse(out, &Refusal::NoAddresses),
-        Err(AddFault::NoMemory) => Err(AllocError),
-    }
+    let pass = engine.pass()?;
+    let refused = answer_query(alloc, out, &pass, asked, query)?;
+    Ok(refused)
 }
 
-// Loads a file, and adds it.
-fn add<F: Files>(
-    alloc: Global,
-    out: &mut Vec<u8>,
-    files: &mut F,
-    store: &mut Store,
-    name: &[u8],
-) -> Result<bool, FileError>
-    requires named { is_name name.now ≡ true }
-    ensures reply { IfOk result (λ refusal. IfSome (F.held files.old) (λ contents.
-        Gives (reply contents store.old (Add name.now)) store.new out.old.items out.new.items refusal)) }
-    ensures same { F.held files.new ≡ F.held files.old }
-    ensures cause { HasFileCause (F.faults files.old) (F.faults files.new) result }
+// Appends the answer to `merge`, which makes a merge wanted.
+fn want_merge(out: &mut Vec<u8>, wanted: &mut bool) -> Result<bool, AllocError>
+    ensures says { IfOk result (Says (merging_line ∷ []) out.old.items out.new.items) }
+    ensures wanted { OnOk result (wanted.new ≡ true) }
 {
-    let mut content = Vec::new(alloc);
-    match files.load(name, FILE_MOST, &mut content)? {
-        Loaded::Long => Ok(refuse(out, &Refusal::TooLong)?),
-        Loaded::Whole => Ok(add_content(alloc, out, store, name, content.as_slice())?),
-    }
-}
-
-// Deletes a file, and appends the answer.
-fn delete(out: &mut Vec<u8>, store: &mut Store, id: u64) -> Result<bool, AllocError>
-    ensures { IfOk result (Follows (del_reply store.old id) store.new out.old.items out.new.items) }
-{
-    if !store.delete(id) {
-        return refuse(out, &Refusal::NoFile(id));
-    }
-    put_gone(out, id)?;
+    put_merging(out)?;
+    *wanted = true;
     Ok(false)
 }
 
-// Appends a line for each surviving file.
-fn put_records(out: &mut Vec<u8>, store: &Store) -> Result<(), AllocError>
-    ensures { OnOk result (out.new.items ≡ out.old.items ++ text_of_lines (record_lines store.now.files)) }
-{
-    for file in store.files() {
-        put_record(out, file.record())?;
-    }
-    Ok(())
-}
-
-// Appends the list of the surviving files.
-fn list_files(out: &mut Vec<u8>, store: &Store) -> Result<bool, AllocError>
-    ensures { IfOk result (Says (files_lines store.now) out.old.items out.new.items) }
-{
-    put_records(out, store)?;
-    put_total(out, store.files().len() as u64)?;
-    Ok(false)
-}
-
-// Answers a command.
-fn answer_command<F: Files>(
+// Answers a command, once the merge that was wanted before is made.
+fn answer_command<R: Wait, F: Files>(
+    rt: &R,
     alloc: Global,
     out: &mut Vec<u8>,
     files: &mut F,
-    store: &mut Store,
+    engine: &mut Engine,
+    lines: &mut u64,
+    wanted: &mut bool,
+    limits: &Limits,
     command: Command,
 ) -> Result<bool, FileError>
-    requires { IsNamed command }
-    ensures reply { IfOk result (λ refusal. IfSome (F.held files.old) (λ contents.
-        Gives (reply contents store.old command) store.new out.old.items out.new.items refusal)) }
+    requires named { IsNamed command }
+    requires made { wanted.old ≡ false }
+    requires room { lines.old < far }
+    ensures reply { IfOk result (λ refusal. (state : State) → IsAt (F.held files.old) engine.old false state →
+        Gives (reply limits.now state command) engine.new wanted.new out.old.items out.new.items refusal) }
+    ensures stop { OnErr result ((state : State) → IsAt (F.held files.old) engine.old false state →
+        StopsWithin state (reply limits.now state command) lines.old lines.new engine.new) }
+    ensures number { OnOk result (engine.new.version.number + wish wanted.new ≤ engine.old.version.number + 1) }
+    ensures quiet { names_loaded command ≡ [] → files.new ≡ files.old }
     ensures same { F.held files.new ≡ F.held files.old }
     ensures cause { HasFileCause (F.faults files.old) (F.faults files.new) result }
 {
     match command {
         Command::Blank => Ok(false),
-        Command::Add(name) => add(alloc, out, files, store, name.as_slice()),
-        Command::Del(id) => Ok(delete(out, store, id)?),
-        Command::Find(query) => Ok(answer_query(alloc, out, store, Asked::All, &query)?),
-        Command::Count(query) => Ok(answer_query(alloc, out, store, Asked::Number, &query)?),
-        Command::Top(most, query) => {
-            Ok(answer_query(alloc, out, store, Asked::First(most), &query)?)
+        Command::Add(name) => {
+            let refused = add(
+                rt,
+                alloc,
+                out,
+                files,
+                engine,
+                lines,
+                limits,
+                name.as_slice(),
+            )?;
+            Ok(refused)
         }
-        Command::Files => Ok(list_files(out, store)?),
-        Command::Merge | Command::Shards | Command::Save(_) | Command::Load(_) | Command::Wrong =>
-            Ok(refuse(out, &Refusal::Command)?),
+        Command::Del(id) => Ok(delete(rt, out, engine, lines, id)?),
+        Command::Find(query) => Ok(answer_now(alloc, out, engine, Asked::All, &query)?),
+        Command::Count(query) => Ok(answer_now(alloc, out, engine, Asked::Number, &query)?),
+        Command::Top(most, query) => {
+            Ok(answer_now(alloc, out, engine, Asked::First(most), &query)?)
+        }
+        Command::Files => Ok(list_files(out, engine.version())?),
+        Command::Merge => Ok(want_merge(out, wanted)?),
+        Command::Shards => Ok(count_slots(out, engine.version())?),
+        Command::Save(_) | Command::Load(_) | Command::Wrong => Ok(refuse(out, &Refusal::Command)?),
     }
 }
 
-/// Puts the answer to a line into `out`, and says whether it is a refusal. Of a long line only that is read.
-pub fn answer_line<F: Files>(
+// Answers a line. An empty one leaves a wanted merge for later; before every other one it is made.
+fn answer_any<R: Wait, F: Files, G: Gate>(
+    rt: &R,
     alloc: Global,
+    gate: &G,
     out: &mut Vec<u8>,
     files: &mut F,
-    store: &mut Store,
+    engine: &mut Engine,
+    lines: &mut u64,
+    wanted: &mut bool,
+    limits: &Limits,
     long: bool,
     line: &[u8],
 ) -> Result<bool, FileError>
-    ensures answer { IfOk result (λ refusal. IfSome (F.held files.old) (λ contents.
-        Gives (answer contents store.old (record { long = long; bytes = line.now })) store.new [] out.new.items refusal)) }
+    requires number { engine.old.version.number < merge_end }
+    requires room { lines.old < far }
+    ensures reply { IfOk result (λ refusal. (state : State) → IsAt (F.held files.old) engine.old wanted.old state →
+        Gives (answer limits.now state (record { long = long; bytes = line.now })) engine.new wanted.new out.old.items out.new.items refusal) }
+    ensures stop { OnErr result ((state : State) → IsAt (F.held files.old) engine.old wanted.old state →
+        StopsWithin state (answer limits.now state (record { long = long; bytes = line.now })) lines.old lines.new engine.new) }
+    ensures number { OnOk result (engine.new.version.number + wish wanted.new ≤ engine.old.version.number + wish wanted.old + 1) }
+    ensures quiet { names_of_line (record { long = long; bytes = line.now }) ≡ [] → files.new ≡ files.old }
+    ensures same { F.held files.new ≡ F.held files.old }
+    ensures cause { HasFileCause (F.faults files.old) (F.faults files.new) result }
+{
+    if !long && line.is_empty() {
+        return Ok(false);
+    }
+    merge_wanted(rt, gate, engine, wanted)?;
+    if long {
+        let refused = refuse(out, &Refusal::LongLine)?;
+        return Ok(refused);
+    }
+    let command = command(alloc, line)?;
+    let refused = answer_command(
+        rt, alloc, out, files, engine, lines, wanted, limits, command,
+    )?;
+    Ok(refused)
+}
+
+/// Puts the answer to a line into `out`, and says whether it is a refusal. Of a long line only that is read. The line is completed once
+/// its answer is made, and a line that changes the collection once that is done.
+pub fn answer_line<R: Wait, F: Files, G: Gate>(
+    rt: &R,
+    alloc: Global,
+    gate: &G,
+    out: &mut Vec<u8>,
+    files: &mut F,
+    engine: &mut Engine,
+    lines: &mut u64,
+    wanted: &mut bool,
+    limits: &Limits,
+    long: bool,
+    line: &[u8],
+) -> Result<bool, FileError>
+    requires number { engine.old.version.number < merge_end }
+    requires room { lines.old < far }
+    ensures reply { IfOk result (λ refusal. (state : State) → IsAt (F.held files.old) engine.old wanted.old state →
+        Gives (answer limits.now state (record { long = long; bytes = line.now })) engine.new wanted.new [] out.new.items refusal) }
+    ensures stop { OnErr result ((state : State) → IsAt (F.held files.old) engine.old wanted.old state →
+        StopsWithin state (answer limits.now state (record { long = long; bytes = line.now })) lines.old lines.new engine.new) }
+    ensures lines { OnOk result (lines.new ≡ lines.old + 1) }
+    ensures number { OnOk result (engine.new.version.number + wish wanted.new ≤ engine.old.version.number + wish wanted.old + 1) }
+    ensures quiet { names_of_line (record { long = long; bytes = line.now }) ≡ [] → files.new ≡ files.old }
     ensures same { F.held files.new ≡ F.held files.old }
     ensures cause { HasFileCause (F.faults files.old) (F.faults files.new) result }
 {
     out.clear();
-    if long {
-        return Ok(refuse(out, &Refusal::LongLine)?);
-    }
-    let refused = answer_command(alloc, out, files, store, command(alloc, line)?)?;
+    let completed = *lines + 1;
+    let refused = answer_any(
+        rt, alloc, gate, out, files, engine, lines, wanted, limits, long, line,
+    )?;
+    *lines = completed;
     Ok(refused)
 }

@@ -1,30 +1,37 @@
-//! The top call: `run` reads a script, keeps the collection that it builds, and writes the answer to each line.
+//! The top calls: `serve` answers the lines of a script on an engine, and `run` opens an engine, serves, and ends it.
 //!
 //! Contracts see the words, the files, the source and the sink that are lent to `run`. Where these tell what they
 //! hold, the bytes written are the output of the script, which `specs/Answers.antt` defines: the answers to its lines,
-//! each in the collection that the lines before it leave, and to a query the concordance list of its expression over
-//! the words of the surviving files, or its first members, or their number. Every other status has its cause in a clause.
+//! each in the state that the lines before it leave, and to a query the concordance list of its expression over the
+//! words of the surviving files, or its first members, or their number. Wherever a run ends, the engine's version stands
+//! for the collection after the lines that are completed. Every other status has its cause in a clause.
 //!
 //! Over the file `a`, `to be or not to be`, the script `add a`, `find "to"` is answered `file 0 0 7`, `1 1`, `5 5`,
 //! `= 2`.
 #![tactic(auto)]
 
 mod answers;
-mod leaves;
-#[cfg(test)]
-mod member_tests;
+mod changes;
+mod limits;
+mod listing;
 mod members;
+mod merging;
 mod queries;
 mod read;
+mod refusals;
 mod run_fault;
 mod script_run;
+mod serving;
 mod status;
-mod store;
-#[cfg(test)]
-mod tests;
 mod words;
 mod write;
 
-pub use read::SCRIPT_MOST;
+pub use limits::{Limits, SCRIPT_MOST};
 pub use script_run::run;
+pub use serving::serve;
 pub use status::Status;
+
+#[cfg(test)]
+mod plain_tests;
+#[cfg(test)]
+mod tests;

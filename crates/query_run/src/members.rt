@@ -1,90 +1,101 @@
-ghost use Rattle.std.specs.Prelude.{◌≡◌, length, take, IfOk};
+ghost use Rattle.std.specs.Prelude.{◌≡◌, length, IfOk};
 ghost use Rattle.gcl_model.specs.FormOf.{form_of};
 ghost use Rattle.gcl_model.specs.Meaning.{concordance};
 ghost use Rattle.gcl_model.specs.WellFormed.{IsWellFormed};
+ghost use Rattle.live_version.specs.Contents.{VersionContent, version_text};
+ghost use Rattle.manifest_publish.specs.Histories.{IsLatest};
+ghost use Rattle.reader_pass.specs.Members.{first_members};
 
-use gcl_eval::{count, list};
-use gcl_model::{Expr, IntervalList, Leaves, Ledger, Question, Steps, uncounted};
+use gcl_model::{Expr, IntervalList, Ledger, Question, Steps, uncounted};
+use manifest_publish::Pass;
+use reader_pass::{pass_count, pass_list};
 use std::alloc::{AllocError, Global};
 
-// What are the first members of a concordance list?
+// What are the first members of a concordance list over a pass?
 #[derive(Clone, Copy)]
-struct FirstMembers<'a, L> {
+struct FirstMembers<'a> {
     alloc: Global,
+    pass: &'a Pass,
     expr: &'a Expr,
-    leaves: &'a L,
     limit: u64,
 }
 
-impl<L: Leaves> Question for FirstMembers<'_, L> {
-    ghost use Rattle.std.specs.Prelude.{◌≡◌, ◌+◌, ◌*◌, length, take, IfOk};
+impl Question for FirstMembers<'_> {
+    ghost use Rattle.std.specs.Prelude.{◌≡◌, length, IfOk};
     ghost use Rattle.gcl_model.specs.FormOf.{form_of};
-    ghost use Rattle.gcl_model.specs.Meaning.{concordance};
-    ghost use Rattle.gcl_model.specs.Cost.{cost};
     ghost use Rattle.gcl_model.specs.WellFormed.{IsWellFormed};
+    ghost use Rattle.live_version.specs.Contents.{VersionContent, version_text};
+    ghost use Rattle.manifest_publish.specs.Histories.{IsLatest};
+    ghost use Rattle.reader_pass.specs.Members.{first_members, look_ups, access_most};
+    ghost use Rattle.collection.specs.Engines.{last_of};
 
     type Answer = Result<IntervalList, AllocError>;
 
     ghost can_ask = { λ q. IsWellFormed (form_of q.expr.now) };
 
-    ghost answers = { λ q answer. IfOk answer (λ members. members ≡ take q.limit (concordance (L.text q.leaves.now) (form_of q.expr.now))) };
+    ghost answers = { λ q answer. (v : VersionContent) → IsLatest q.pass.now.history v → IfOk answer (λ members. members ≡ first_members (version_text v) (form_of q.expr.now) q.limit) };
 
-    ghost most = { λ q _. (length (take q.limit (concordance (L.text q.leaves.now) (form_of q.expr.now))) + 1) * cost (L.text q.leaves.now) (L.most q.leaves.now) (form_of q.expr.now) };
+    ghost most = { λ q _. look_ups (version_text (last_of q.pass.now.history)) (access_most (last_of q.pass.now.history)) (form_of q.expr.now) (length (first_members (version_text (last_of q.pass.now.history)) (form_of q.expr.now) q.limit)) };
 
     fn ask<S: Ledger>(&self, steps: &mut Steps<S>) -> Result<IntervalList, AllocError> {
-        list(self.alloc, self.expr, self.leaves, self.limit, steps)
+        let _version = self.pass.version();
+        pass_list(self.alloc, self.pass, self.expr, self.limit, steps)
     }
 }
 
-// How many members has a concordance list?
+// How many members has a concordance list over a pass?
 #[derive(Clone, Copy)]
-struct MemberCount<'a, L> {
+struct MemberCount<'a> {
+    pass: &'a Pass,
     expr: &'a Expr,
-    leaves: &'a L,
 }
 
-impl<L: Leaves> Question for MemberCount<'_, L> {
-    ghost use Rattle.std.specs.Prelude.{◌≡◌, ◌+◌, ◌*◌, length};
+impl Question for MemberCount<'_> {
+    ghost use Rattle.std.specs.Prelude.{◌≡◌, length};
     ghost use Rattle.gcl_model.specs.FormOf.{form_of};
     ghost use Rattle.gcl_model.specs.Meaning.{concordance};
-    ghost use Rattle.gcl_model.specs.Cost.{cost};
     ghost use Rattle.gcl_model.specs.WellFormed.{IsWellFormed};
+    ghost use Rattle.live_version.specs.Contents.{VersionContent, version_text};
+    ghost use Rattle.manifest_publish.specs.Histories.{IsLatest};
+    ghost use Rattle.reader_pass.specs.Members.{look_ups, access_most};
+    ghost use Rattle.collection.specs.Engines.{last_of};
 
     type Answer = u64;
 
     ghost can_ask = { λ q. IsWellFormed (form_of q.expr.now) };
 
-    ghost answers = { λ q answer. answer ≡ length (concordance (L.text q.leaves.now) (form_of q.expr.now)) };
+    ghost answers = { λ q answer. (v : VersionContent) → IsLatest q.pass.now.history v → answer ≡ length (concordance (version_text v) (form_of q.expr.now)) };
 
-    ghost most = { λ q answer. (answer + 1) * cost (L.text q.leaves.now) (L.most q.leaves.now) (form_of q.expr.now) };
+    ghost most = { λ q answer. look_ups (version_text (last_of q.pass.now.history)) (access_most (last_of q.pass.now.history)) (form_of q.expr.now) answer };
 
     fn ask<S: Ledger>(&self, steps: &mut Steps<S>) -> u64 {
-        count(self.expr, self.leaves, steps)
+        let _version = self.pass.version();
+        pass_count(self.pass, self.expr, steps)
     }
 }
 
-/// The first members of the concordance list of an expression. Its look-ups are not counted.
-pub fn first_members<L: Leaves>(
+/// The first members of the concordance list of an expression over a pass. Its look-ups are not counted.
+pub fn first_members(
     alloc: Global,
+    pass: &Pass,
     expr: &Expr,
-    leaves: &L,
     most: u64,
 ) -> Result<IntervalList, AllocError>
     requires { IsWellFormed (form_of expr.now) }
-    ensures { IfOk result (λ members. members ≡ take most (concordance (L.text leaves.now) (form_of expr.now))) }
+    ensures { (v : VersionContent) → IsLatest pass.now.history v → IfOk result (λ members. members ≡ first_members (version_text v) (form_of expr.now) most) }
 {
     uncounted(&FirstMembers {
         alloc,
+        pass,
         expr,
-        leaves,
         limit: most,
     })
 }
 
 /// How many members the list has. No list is made, and its look-ups are not counted.
-pub fn member_count<L: Leaves>(expr: &Expr, leaves: &L) -> u64
+pub fn member_count(pass: &Pass, expr: &Expr) -> u64
     requires { IsWellFormed (form_of expr.now) }
-    ensures { result ≡ length (concordance (L.text leaves.now) (form_of expr.now)) }
+    ensures { (v : VersionContent) → IsLatest pass.now.history v → result ≡ length (concordance (version_text v) (form_of expr.now)) }
 {
-    uncounted(&MemberCount { expr, leaves })
+    uncounted(&MemberCount { pass, expr })
 }

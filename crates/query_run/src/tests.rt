@@ -1,6 +1,10 @@
-use crate::{Status, run};
+ghost use Rattle.query_run.specs.States.{AreLimits};
+
+use crate::{Limits, Status, run, serve};
+use collection::{Engine, Opened};
 use gcl_model::Bytes;
 use outside::{FreeGate, MemFiles, MemSink, MemSource, SureFiles, SureSink, SureSource};
+use script_lang::{put_file, put_gone};
 use std::alloc::{AllocError, Global};
 use std::sync::Wait;
 use std::test::Fail;
@@ -57,6 +61,40 @@ fn answered<R: Threads + Wait + Sync + AllocGlobal>(
         &FreeGate,
     );
     Ok((status, sink.written().to_vec(alloc)?))
+}
+
+// The status of `serve` by these limits, the number of lines that it completed, and what was written.
+fn served<R: Threads + Wait + Sync + AllocGlobal>(
+    rt: &R,
+    limits: &Limits,
+    script: &[u8],
+) -> Result<(Status, u64, Vec<u8>), AllocError>
+    requires { AreLimits limits.now }
+{
+    let alloc = rt.alloc();
+    let mut files = SureFiles::new(alloc, held(alloc)?);
+    let mut source = SureSource::new(alloc, Bytes::copy_of(alloc, script)?);
+    let mut sink = SureSink::new(alloc);
+    let Ok(mut opened) = Engine::open(rt, alloc, 0, 0) else {
+        return Err(AllocError);
+    };
+    let status = serve(
+        rt,
+        alloc,
+        &mut opened,
+        limits,
+        &mut files,
+        &mut source,
+        &mut sink,
+        &FreeGate,
+    );
+    let Opened {
+        engine,
+        readers: _readers,
+        lines,
+    } = opened;
+    engine.end(rt);
+    Ok((status, lines, sink.written().to_vec(alloc)?))
 }
 
 // The calls that are to fail, of each object.
@@ -151,7 +189,7 @@ fn lines_are_refused_and_the_run_goes_on(rt: HostRuntime) -> Result<(), Fail> {
             b"file 0 0 7\ngone 0\n= 0\n! no file 0\n",
         ),
         (
-            b"frob\ndel x\nadd\nmerge now\ntop \"to\"\nmerge\nsave a\n",
+            b"frob\ndel x\nadd\nmerge now\ntop \"to\"\nshards 1\nsave a\n",
             b"! command\n! command\n! command\n! command\n! command\n! command\n! command\n",
         ),
         (
@@ -358,5 +396,158 @@ fn a_run_ends_at_the_first_fault_of_each_object(rt: HostRuntime) -> Result<(), F
     }
     let (status, _) = failing(&rt, b"add missing", &failing_at(&[], &[], &[]))?;
     assert_eq!(rt; status, Status::FileFault);
+    Ok(())
+}
+
+#[test]
+fn a_merge_between_two_commands_changes_no_answer(rt: HostRuntime) -> Result<(), Fail> {
+    let commands: [(&[u8], &[u8]); 6] = [
+        (b"add a\n", b"file 0 0 7\n"),
+        (b"add b\n", b"file 1 8 9\n"),
+        (b"del 0\n", b"gone 0\n"),
+        (b"add a\n", b"file 2 10 17\n"),
+        (b"find \"to\"\n", b"11 11\n15 15\n= 2\n"),
+        (b"files\n", b"1 8 9 b\n2 10 17 a\n= 2\n"),
+    ];
+    let mut script = Vec::new(rt.alloc());
+    let mut want = Vec::new(rt.alloc());
+    for (command, answer) in commands {
+        script.extend_from_slice(command)?;
+        script.extend_from_slice(b"merge\n")?;
+        want.extend_from_slice(answer)?;
+        want.extend_from_slice(b"merging\n")?;
+    }
+    let (status, written) = answered(&rt, &[], script.as_slice())?;
+    assert_eq!(rt; written.as_slice(), want.as_slice());
+    assert_eq!(rt; status, Status::Done);
+    Ok(())
+}
+
+#[test]
+fn slots_are_counted_after_the_merges_that_were_asked_for(rt: HostRuntime) -> Result<(), Fail> {
+    let cases: [(&[u8], &[u8]); 5] = [
+        (b"shards\nmerge\nshards\n", b"shards 0\nmerging\nshards 0\n"),
+        (
+            b"add a\nadd b\nshards\nmerge\nshards\n",
+            b"file 0 0 7\nfile 1 8 9\nshards 1\nmerging\nshards 1\n",
+        ),
+        (
+            b"add p\nadd b\nshards\nmerge\n\n \nshards\n",
+            b"file 0 0 14\nfile 1 15 16\nshards 2\nmerging\nshards 1\n",
+        ),
+        (
+            b"add p\nadd b\nmerge\nmerge\nadd b\nshards\n",
+            b"file 0 0 14\nfile 1 15 16\nmerging\nmerging\nfile 2 17 18\nshards 2\n",
+        ),
+        (
+            b"add a\ndel 0\nshards\nmerge\nadd b\nshards\n",
+            b"file 0 0 7\ngone 0\nshards 1\nmerging\nfile 1 8 9\nshards 1\n",
+        ),
+    ];
+    for (script, output) in cases {
+        let (status, written) = answered(&rt, &[], script)?;
+        assert_eq!(rt; written.as_slice(), output, "{script:?}");
+        assert_eq!(rt; status, Status::Done, "{script:?}");
+    }
+    Ok(())
+}
+
+#[test]
+fn thirty_three_files_share_two_slots_and_a_merge_leaves_one(rt: HostRuntime) -> Result<(), Fail> {
+    let mut script = Vec::new(rt.alloc());
+    let mut want = Vec::new(rt.alloc());
+    for i in 0..33u64 {
+        script.extend_from_slice(b"add b\n")?;
+        put_file(&mut want, i, 2 * i, 2 * i + 1)?;
+    }
+    script.extend_from_slice(b"shards\nmerge\nshards\n")?;
+    want.extend_from_slice(b"shards 2\nmerging\nshards 1\n")?;
+    for i in 0..33u64 {
+        // the command is the answer but for its word
+        script.extend_from_slice(b"del ")?;
+        put_gone(&mut want, i)?;
+        let answer = want.len();
+        let from = want.as_slice()[..answer]
+            .iter()
+            .rposition(|b| *b == b' ')
+            .unwrap_or(0);
+        script.extend_from_slice(&want.as_slice()[from + 1..answer])?;
+    }
+    script.extend_from_slice(b"merge\nshards\n")?;
+    want.extend_from_slice(b"merging\nshards 0\n")?;
+    let (status, written) = answered(&rt, &[], script.as_slice())?;
+    assert_eq!(rt; written.as_slice(), want.as_slice());
+    assert_eq!(rt; status, Status::Done);
+    Ok(())
+}
+
+#[test]
+fn a_query_sees_each_edit_before_it(rt: HostRuntime) -> Result<(), Fail> {
+    let script =
+        b"count \"to\"\nadd a\ncount \"to\"\nadd a\ncount \"to\"\ndel 0\nfind \"to\"\ndel 1\ncount \"to\"\n";
+    let output = b"= 0\nfile 0 0 7\n= 2\nfile 1 8 15\n= 4\ngone 0\n9 9\n13 13\n= 2\ngone 1\n= 0\n";
+    let (_, written) = answered(&rt, &[], script)?;
+    assert_eq!(rt; written.as_slice(), output.as_slice());
+    Ok(())
+}
+
+#[test]
+fn each_limit_is_exact(rt: HostRuntime) -> Result<(), Fail> {
+    let cases: [(u64, u64, u64, &[u8], (Status, u64, &[u8])); 8] = [
+        (
+            8,
+            5,
+            100,
+            b"add a\nfind \"to\"\n",
+            (
+                Status::DoneWithRefusals,
+                2,
+                b"! file too long\n! long line\n",
+            ),
+        ),
+        (
+            9,
+            18,
+            100,
+            b"add a\nfind \"to\"\n",
+            (Status::Done, 2, b"file 0 0 7\n1 1\n5 5\n= 2\n"),
+        ),
+        (
+            5,
+            17,
+            100,
+            b"add a\nadd b\n",
+            (
+                Status::DoneWithRefusals,
+                2,
+                b"! file too long\nfile 0 0 1\n",
+            ),
+        ),
+        (
+            100,
+            100,
+            6,
+            b"add a\nfiles",
+            (Status::ScriptTooLong, 0, b""),
+        ),
+        (
+            100,
+            100,
+            11,
+            b"add a\nfiles",
+            (Status::Done, 2, b"file 0 0 7\n0 0 7 a\n= 1\n"),
+        ),
+        (1, 1, 1, b"\n", (Status::Done, 1, b"")),
+        (1, 1, 1, b"x", (Status::DoneWithRefusals, 1, b"! command\n")),
+        (1, 1, 1, b"", (Status::Done, 0, b"")),
+    ];
+    for (line, file, script, text, (want, lines, output)) in cases {
+        let limits = Limits { line, file, script };
+        assert!(rt; limits.are_allowed(), "{text:?}");
+        let (status, completed, written) = served(&rt, &limits, text)?;
+        assert_eq!(rt; written.as_slice(), output, "{text:?}");
+        assert_eq!(rt; status, want, "{text:?}");
+        assert_eq!(rt; completed, lines, "{text:?}");
+    }
     Ok(())
 }

@@ -1,4 +1,5 @@
-ghost use Rattle.std.specs.Prelude.{◌≡◌};
+ghost use Rattle.std.specs.Prelude.{◌≡◌, ◌≤◌, IfSome};
+ghost use Rattle.gcl_model.specs.Limits.{address_end};
 ghost use Rattle.query_run.specs.Words.{address_of, joined_first, spaced_first, first_of};
 
 use gcl_model::{ADDRESS_END, Bytes};
@@ -6,7 +7,8 @@ use script_lang::number_of;
 
 // 1 to 18 digits that write an address, or the end of the addresses.
 fn address_of(text: &[u8]) -> Option<u64>
-    ensures { result ≡ address_of text.now }
+    ensures value { result ≡ address_of text.now }
+    ensures in_range { IfSome result (λ first. first ≤ address_end) }
 {
     match number_of(text) {
         Some(n) if n <= ADDRESS_END => Some(n),
@@ -16,7 +18,8 @@ fn address_of(text: &[u8]) -> Option<u64>
 
 // `--first=A`
 fn joined_first(word: &[u8]) -> Option<u64>
-    ensures { result ≡ joined_first word.now }
+    ensures value { result ≡ joined_first word.now }
+    ensures in_range { IfSome result (λ first. first ≤ address_end) }
 {
     if word.starts_with(b"--first=") {
         address_of(&word[8..])
@@ -27,7 +30,8 @@ fn joined_first(word: &[u8]) -> Option<u64>
 
 // `--first A`
 fn spaced_first(word: &[u8], value: &[u8]) -> Option<u64>
-    ensures { result ≡ spaced_first word.now value.now }
+    ensures value { result ≡ spaced_first word.now value.now }
+    ensures in_range { IfSome result (λ first. first ≤ address_end) }
 {
     if word == b"--first".as_slice() {
         address_of(value)
@@ -38,7 +42,8 @@ fn spaced_first(word: &[u8], value: &[u8]) -> Option<u64>
 
 /// The address that the collection begins at: 0 without an option, None where the words are outside the grammar.
 pub fn first_of(words: &[Bytes]) -> Option<u64>
-    ensures { result ≡ first_of words.now }
+    ensures value { result ≡ first_of words.now }
+    ensures in_range { IfSome result (λ first. first ≤ address_end) }
 {
     match words {
         [] => Some(0),

@@ -1,8 +1,9 @@
-use Rattle.gcl_model.specs.Limits.{most_script}
-use Rattle.query_run.specs.Answers.{output}
-use Rattle.query_run.specs.Runs.{within}
-use Rattle.query_run.proofs.RunLemmas.{nothing_of}
+use Rattle.std.proofs.Common.{◌<◌, ◌≤◌, refl, arith}
+use Rattle.gcl_model.specs.Limits.{address_end}
 use Rattle.query_run.proofs.script_run.run.Goals as goal
 
-pub returns-in-Err-TooLong-clause-part_within : goal.returns-in-Err-TooLong-clause-part_within
-returns-in-Err-TooLong-clause-part_within g c is = nothing_of _ _ _ _ (λ first script contents. output first contents (within most_script script))
+pub unreachable-requires : goal.unreachable-requires
+unreachable-requires g c =
+    let over : address_end < c.in-Some.first = ((c.in-Err-BadFirst.ensures.bad_first c.in-Err-BadFirst.field-0-0).0 (rw c.in-Err-BadFirst.field-0-is refl)).1 in
+    let within : c.in-Some.first ≤ address_end = c.in-Some.ensures.in_range in
+    omega (arith, over, within)

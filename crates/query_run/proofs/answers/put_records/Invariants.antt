@@ -1,7 +1,0 @@
-use Rattle.std.proofs.Common.{◌≡◌, ◌++◌, drop}
-use Rattle.query_run.specs.Answers.{text_of_lines, record_lines}
-use Rattle.query_run.proofs.answers.put_records.Given as goal
-
--- with those of the files that are left, the lines so far are all
-abbrev pub invariant-loop-file : goal.invariant-loop-file
-invariant-loop-file l = l.out.items ++ text_of_lines (record_lines (drop l.file-index l.file-items)) ≡ l.initial.out.items ++ text_of_lines (record_lines l.file-items)

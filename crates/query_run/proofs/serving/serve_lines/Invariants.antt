@@ -1,0 +1,27 @@
+use Rattle.std.proofs.Common.{◌≡◌, ℕ, ◌+◌, ◌-◌, ◌≤◌, List, [], length, take, drop, Some}
+use Rattle.outside.specs.Contents.{Contents}
+use Rattle.script_lang.specs.Lines.{lines}
+use Rattle.query_run.specs.States.{opening}
+use Rattle.query_run.specs.Answers.{names_of}
+use Rattle.query_run.specs.Progress.{HasCome, wish}
+use Rattle.query_run.proofs.serving.serve_lines.Given as goal
+
+-- so many lines are completed, and what is left of the script has the others
+abbrev pub invariant-loop-cut : goal.invariant-loop-cut
+invariant-loop-cut g l = record {
+  within : l.at ≤ length l.script;
+  ahead : drop l.completed (lines l.limits.line l.script) ≡ lines l.limits.line (drop l.at l.script);
+  few : l.completed ≤ length (lines l.limits.line l.script);
+  counted : l.completed ≤ l.at;
+  numbers : l.engine.version.number + wish l.wanted ≤ l.completed;
+  same : g.F.Files.held l.files ≡ g.F.Files.held l.initial.files;
+  sink_later : g.K.Sink.faults l.initial.sink ≤ g.K.Sink.faults l.sink;
+  files_later : g.F.Files.faults l.initial.files ≤ g.F.Files.faults l.files;
+  quiet : names_of (take l.completed (lines l.limits.line l.script)) ≡ [] → l.files ≡ l.initial.files;
+  come : (contents : Contents) → g.F.Files.held l.initial.files ≡ Some contents →
+      HasCome l.limits (opening l.initial.engine.version.first contents) (take l.completed (lines l.limits.line l.script)) l.engine l.wanted l.refused
+      (g.K.Sink.written l.initial.sink) (g.K.Sink.written l.sink);
+}
+
+abbrev pub decreases-loop-cut : goal.decreases-loop-cut
+decreases-loop-cut g l = length l.script - l.at

@@ -1,0 +1,42 @@
+ghost use Rattle.std.specs.Prelude.{◌≡◌, ◌↔◌, true};
+ghost use Rattle.query_run.specs.States.{greatest_limits, AreLimits};
+
+/// The most bytes that the script of a run may have.
+pub const SCRIPT_MOST: u64 = 1 << 32;
+
+/// How many bytes the parts of a run may have: each limit is at least 1, and at most that of `Limits::greatest`.
+#[derive(Clone, Copy, Debug, PartialEq, Eq)]
+pub struct Limits {
+    /// The most bytes of a line, its newline not counted: a longer line is refused.
+    pub line: u64,
+    /// The most bytes of a file: a longer file is not added.
+    pub file: u64,
+    /// The most bytes of a script: a longer one ends the run.
+    pub script: u64,
+}
+
+impl Limits {
+    /// The limits of `run`.
+    pub fn greatest() -> Limits
+        ensures { result ≡ greatest_limits }
+    {
+        Limits {
+            line: 65_536,
+            file: 1 << 26,
+            script: SCRIPT_MOST,
+        }
+    }
+
+    /// Whether each limit is at least 1, and at most that of `run`.
+    pub fn are_allowed(&self) -> bool
+        ensures { (result ≡ true) ↔ AreLimits self.now }
+    {
+        let most = Limits::greatest();
+        1 <= self.line
+            && self.line <= most.line
+            && 1 <= self.file
+            && self.file <= most.file
+            && 1 <= self.script
+            && self.script <= most.script
+    }
+}
