@@ -1,7 +1,7 @@
 #!/usr/bin/env bash
-# Queries over texts of 1, 2, 4 and 5 MB with a common word, a rare one and small elements: the intervals, the look-ups and the seconds of
-# each beside those of adding the text, so that the growth can be read; and over 5 MB the memory of a run that counts beside that of
-# one that only adds (target 1.05). It makes its texts.
+# Queries over texts of 5 and 50 MB with a common word, a rare one and small elements: the intervals, the look-ups and the milliseconds of
+# each beside those of adding the text (target: a hundredth), and how much faster than the number of look-ups its time grows from the one
+# to the other (target 1.5); and the memory of a run that counts beside that of one that only adds (target 1.05). It makes its texts.
 set -eu
 here=$(cd "$(dirname "$0")/.." && pwd)
 work=$(mktemp -d)
@@ -14,7 +14,7 @@ python3 - "$work" <<'P'
 import random, sys
 random.seed(11)
 words = ["the", "of", "and", "to", "be"] * 400 + ["w%d" % n for n in range(5000)]
-for size in (1, 2, 4, 5):
+for size in (5, 50):
     with open(f"{sys.argv[1]}/t{size}", "w") as out:
         written = 0
         while written < size * 1_000_000:
@@ -35,15 +35,19 @@ for _ in range(3):
     subprocess.run(sys.argv[1:2], stdin=open(sys.argv[2]), check=True, stdout=subprocess.DEVNULL)
     best = min(best, time.time() - begin)
 print(best, resource.getrusage(resource.RUSAGE_CHILDREN).ru_maxrss)' "$program" "$1"; }
-run() { printf 'add t%s\n%s\n' "$1" "$2" > script; measure script; }
-for size in 1 2 4 5; do
+run() { { printf 'add t%s\n' "$1"; for _ in $(seq 20); do printf '%s\n' "$2"; done; } > script; measure script; }
+: > rows
+for size in 5 50; do
   read -r added kept <<< "$(run "$size" "")"
   printf '%s MB, added in %.3f s\n' "$size" "$added"
   for query in '"the" ^ "rare"' '("<l>".."</l>") > "of the"' '"the"' '("the" ^ "rare") < [5]'; do
     counted=$("$counter" count "t$size" "$query")
     read -r listed _ <<< "$(run "$size" "find $query")"
     read -r number memory <<< "$(run "$size" "count $query")"
-    awk -v a="$added" -v f="$listed" -v n="$number" -v q="$query" -v c="$counted" 'BEGIN { printf "    %-28s %-40s find %.3f s, count %.3f s\n", q, c, f - a, n - a }'
+    awk -v a="$added" -v f="$listed" -v n="$number" -v q="$query" -v c="$counted" 'BEGIN { printf "    %-28s %-40s find %.2f ms, count %.2f ms: %.4f of adding (target 0.01)\n", q, c, (f - a) * 50, (n - a) * 50, (n - a) / 20 / a }'
+    look_ups=$(grep -o '[0-9]*' <<< "$counted" | tail -1)
+    printf '%s|%s|%s\n' "$query" "$look_ups" "$(awk -v n="$number" -v a="$added" 'BEGIN { print n - a }')" >> rows
   done
 done
-awk -v m="$memory" -v k="$kept" 'BEGIN { printf "memory of the last count to that of adding 5 MB: %.2f (target 1.05)\n", m / k }'
+awk -F'|' '$1 in look { printf "    %-28s time grew %.1f times, look-ups %.1f times: ratio %.2f (target 1.5)\n", $1, $3 / time[$1], $2 / look[$1], $3 / time[$1] / ($2 / look[$1]) } { look[$1] = $2; time[$1] = $3 }' rows
+awk -v m="$memory" -v k="$kept" 'BEGIN { printf "memory of the last count to that of adding 50 MB: %.2f (target 1.05)\n", m / k }'
