@@ -1,0 +1,5 @@
+-- What a made corpus is.
+pub mod Draws
+pub mod MadeFiles
+pub mod MadeLines
+pub mod Summary

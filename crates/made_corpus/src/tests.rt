@@ -1,0 +1,120 @@
+use crate::draws::Draws;
+use crate::{MadeFiles, made_script};
+use outside::{Files, Loaded};
+use std::test::Fail;
+
+#[test]
+fn the_first_number_below_a_hundred_drawn_from_0_is_7(rt: HostRuntime) {
+    let mut draws = Draws { state: 0 };
+    assert_eq!(rt; draws.draw(100), 7);
+    assert_eq!(rt; draws.state, 1_442_695_040_888_963_407);
+}
+
+const FIRST: &[u8] =
+    b"w592 w164 w266 <s> w160 w110 w93 w133 w39 w11 w272 w306 w456 w64 w119 w224 w144 w205 w525 w448 w792 w30 w228 w748 w308 </s> w0";
+
+// What a load through the bound gives.
+fn loaded<F: Files>(
+    rt: HostRuntime,
+    files: &mut F,
+    name: &[u8],
+    most: u64,
+) -> Result<(bool, Vec<u8>), Fail> {
+    let mut out = Vec::from_slice(rt.alloc(), b"before")?;
+    let whole = files.load(name, most, &mut out)? == Loaded::Whole;
+    Ok((whole, out))
+}
+
+#[test]
+fn a_made_file_has_its_content_and_every_other_name_none(rt: HostRuntime) -> Result<(), Fail> {
+    let cases: [(u64, u64, &[u8], u64, bool, &[u8]); 16] = [
+        (0, 1, b"m0", 1000, true, FIRST),
+        (0, 1, b"m0", 126, true, FIRST),
+        (0, 1, b"m0", 125, false, FIRST),
+        (0, 1, b"m0", 3, false, b"w592"),
+        (0, 1, b"m0", 0, false, b"w"),
+        // The numbers go round.
+        (u64::MAX, 2, b"m1", 1000, true, FIRST),
+        (u64::MAX - 8, 10, b"m9", 1000, true, FIRST),
+        (u64::MAX - 9, 11, b"m10", 1000, true, FIRST),
+        (u64::MAX, 1, b"m1", 1000, true, b""),
+        (0, 0, b"m0", 1000, true, b""),
+        (u64::MAX - 8, 10, b"m09", 1000, true, b""),
+        (0, 10, b"m00", 1000, true, b""),
+        (0, 10, b"m+0", 1000, true, b""),
+        (0, 10, b"m", 1000, true, b""),
+        (0, 10, b"", 1000, true, b""),
+        (0, 10, b"n0", 0, true, b""),
+    ];
+    for (start, count, name, most, whole, content) in cases {
+        assert!(rt; count <= 10_000);
+        let mut files = MadeFiles::new(rt.alloc(), start, count);
+        let got = loaded(rt, &mut files, name, most)?;
+        assert_eq!(rt; got.0, whole, "{start} {count} {name:?} {most}");
+        assert_eq!(rt;
+            got.1.as_slice(),
+            content,
+            "{start} {count} {name:?} {most}"
+        );
+    }
+    Ok(())
+}
+
+#[test]
+fn a_kept_name_has_its_bytes_and_every_other_name_what_it_had(rt: HostRuntime) -> Result<(), Fail> {
+    let mut files = MadeFiles::new(rt.alloc(), 0, 1);
+    // what is kept, and what `m0` and `image` hold then
+    let steps: [(&[u8], &[u8], &[u8], &[u8]); 4] = [
+        (b"image", b"to be", FIRST, b"to be"),
+        (b"m1", b"or", FIRST, b"to be"),
+        (b"m0", b"", b"", b"to be"),
+        (b"image", b"or not", b"", b"or not"),
+    ];
+    for (name, bytes, made, image) in steps {
+        files.keep(name, bytes)?;
+        let got = loaded(rt, &mut files, b"m0", 1000)?;
+        assert_eq!(rt; got.1.as_slice(), made, "m0 after {name:?}");
+        let got = loaded(rt, &mut files, b"image", 1000)?;
+        assert_eq!(rt; got.1.as_slice(), image, "image after {name:?}");
+    }
+    let (whole, out) = loaded(rt, &mut files, b"image", 3)?;
+    assert!(rt; !whole);
+    assert_eq!(rt; out.as_slice(), b"or n".as_slice());
+    Ok(())
+}
+
+#[test]
+fn a_script_has_a_turn_for_each_file(rt: HostRuntime) -> Result<(), Fail> {
+    let cases: [(u64, u64, &[u8]); 5] = [
+        (7, 0, b""),
+        (
+            u64::MAX,
+            1,
+            b"add m0\nfind \"w27\"..\"w3\"\ncount (\"<s>\"..\"</s>\") > \"w10\"\ntop 5 (\"w40\"^\"w31\") < [20]\n",
+        ),
+        (
+            2,
+            2,
+            b"add m0\ndel 0\nfind \"w32\"..\"w12\"\ncount (\"<s>\"..\"</s>\") > \"w19\"\ntop 5 (\"w43\"^\"w42\") < [20]\nadd m1\nmerge\nfind \"w27\"..\"w16\"\ncount (\"<s>\"..\"</s>\") > \"w35\"\ntop 5 (\"w42\"^\"w44\") < [20]\n",
+        ),
+        (
+            12,
+            1,
+            b"add m0\nshards\nfind \"w14\"..\"w28\"\ncount (\"<s>\"..\"</s>\") > \"w0\"\ntop 5 (\"w19\"^\"w33\") < [20]\n",
+        ),
+        (
+            7,
+            2,
+            b"add m0\nfind \"w15\"..\"w31\"\ncount (\"<s>\"..\"</s>\") > \"w31\"\ntop 5 (\"w19\"^\"w13\") < [20]\nadd m1\ndel 0\nfind \"w1\"..\"w48\"\ncount (\"<s>\"..\"</s>\") > \"w37\"\ntop 5 (\"w43\"^\"w2\") < [20]\n",
+        ),
+    ];
+    for (start, count, script) in cases {
+        assert!(rt; count <= 10_000);
+        assert_eq!(rt;
+            made_script(rt.alloc(), start, count)?.as_slice(),
+            script,
+            "{start} {count}"
+        );
+    }
+    Ok(())
+}
