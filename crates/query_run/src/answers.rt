@@ -71,6 +71,7 @@ fn answer_command<R: Wait, F: Files>(
     ensures quiet { names_loaded command ≡ [] → files.new ≡ files.old }
     ensures same { F.held files.new ≡ F.held files.old }
     ensures cause { HasFileCause (F.faults files.old) (F.faults files.new) result }
+    ensures calm { OnOk result (F.faults files.new ≡ F.faults files.old) }
 {
     match command {
         Command::Blank => Ok(false),
@@ -124,6 +125,7 @@ fn answer_any<R: Wait, F: Files, G: Gate>(
     ensures quiet { names_of_line (record { long = long; bytes = line.now }) ≡ [] → files.new ≡ files.old }
     ensures same { F.held files.new ≡ F.held files.old }
     ensures cause { HasFileCause (F.faults files.old) (F.faults files.new) result }
+    ensures calm { OnOk result (F.faults files.new ≡ F.faults files.old) }
 {
     if !long && line.is_empty() {
         return Ok(false);
@@ -166,6 +168,7 @@ pub fn answer_line<R: Wait, F: Files, G: Gate>(
     ensures quiet { names_of_line (record { long = long; bytes = line.now }) ≡ [] → files.new ≡ files.old }
     ensures same { F.held files.new ≡ F.held files.old }
     ensures cause { HasFileCause (F.faults files.old) (F.faults files.new) result }
+    ensures calm { OnOk result (F.faults files.new ≡ F.faults files.old) }
 {
     out.clear();
     let completed = *lines + 1;

@@ -3,7 +3,7 @@ ghost use Rattle.outside.specs.Causes.{Rose};
 ghost use Rattle.gcl_model.specs.Limits.{most_line, most_script};
 ghost use Rattle.script_lang.specs.Lines.{lines};
 ghost use Rattle.query_run.specs.Words.{first_of};
-ghost use Rattle.query_run.specs.Statuses.{IsFinished};
+ghost use Rattle.query_run.specs.Statuses.{IsFinished, IsAllAnswered};
 ghost use Rattle.query_run.specs.Answers.{output, names_of};
 ghost use Rattle.query_run.specs.Runs.{WhereTold, GetsPart, IsAnswered, HandsOverMore, within};
 
@@ -58,6 +58,11 @@ pub fn run<R: Threads + Wait + Sync, F: Files, S: Source, K: Sink, G: Gate + Syn
     ensures complete { IsSome (first_of words.now) → ¬ Rose (S.faults source.old) (S.faults source.new) → ¬ Rose (K.faults sink.old) (K.faults sink.new) →
         ¬ Rose (F.faults files.old) (F.faults files.new) → IsSomeAnd (S.left source.old) (λ script. length script ≤ most_script) →
         IsFinished result }
+
+    // Where all is answered no object failed.
+    ensures source_calm { IsAllAnswered result → S.faults source.new ≡ S.faults source.old }
+    ensures sink_calm { IsAllAnswered result → K.faults sink.new ≡ K.faults sink.old }
+    ensures files_calm { IsAllAnswered result → F.faults files.new ≡ F.faults files.old }
 
     // No file is asked for that no line names.
     ensures unasked { IfSome (S.left source.old) (λ script. names_of (lines most_line script) ≡ [] → files.new ≡ files.old) }

@@ -52,6 +52,8 @@ fn serve_line<R: Wait, F: Files, K: Sink, G: Gate>(
     ensures quiet { names_of_line (record { long = long; bytes = line.now }) ≡ [] → files.new ≡ files.old }
     ensures same { F.held files.new ≡ F.held files.old }
     ensures causes { HasCauses (K.faults sink.old) (K.faults sink.new) (F.faults files.old) (F.faults files.new) result }
+    ensures sink_calm { OnOk result (K.faults sink.new ≡ K.faults sink.old) }
+    ensures files_calm { OnOk result (F.faults files.new ≡ F.faults files.old) }
 {
     let refused = answer_line(
         rt, alloc, gate, out, files, engine, completed, wanted, limits, long, line,
@@ -83,6 +85,8 @@ fn serve_lines<R: Wait, F: Files, K: Sink, G: Gate>(
     ensures quiet { names_of (lines limits.now.line script.now) ≡ [] → files.new ≡ files.old }
     ensures same { F.held files.new ≡ F.held files.old }
     ensures causes { HasCauses (K.faults sink.old) (K.faults sink.new) (F.faults files.old) (F.faults files.new) result }
+    ensures sink_calm { OnOk result (K.faults sink.new ≡ K.faults sink.old) }
+    ensures files_calm { OnOk result (F.faults files.new ≡ F.faults files.old) }
 {
     let mut out = Vec::new(alloc);
     let mut wanted = false;
@@ -152,6 +156,11 @@ pub fn serve<R: Threads + Wait + Sync, F: Files, S: Source, K: Sink, G: Gate + S
     ensures complete { ¬ Rose (S.faults source.old) (S.faults source.new) → ¬ Rose (K.faults sink.old) (K.faults sink.new) →
         ¬ Rose (F.faults files.old) (F.faults files.new) → IsSomeAnd (S.left source.old) (λ script. length script ≤ limits.now.script) →
         IsFinished result }
+
+    // Where all is answered no object failed.
+    ensures source_calm { IsAllAnswered result → S.faults source.new ≡ S.faults source.old }
+    ensures sink_calm { IsAllAnswered result → K.faults sink.new ≡ K.faults sink.old }
+    ensures files_calm { IsAllAnswered result → F.faults files.new ≡ F.faults files.old }
 
     // No file is asked for that no line names.
     ensures unasked { IfSome (S.left source.old) (λ script. names_of (lines limits.now.line script) ≡ [] → files.new ≡ files.old) }

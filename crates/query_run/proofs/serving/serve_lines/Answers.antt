@@ -25,6 +25,8 @@ loop-cut-init g c =
       same = refl;
       sink_later = omega arith;
       files_later = omega arith;
+      sink_calm = refl;
+      files_calm = refl;
       quiet = λ nothing. refl;
       come = λ contents held. fresh_come c.args.limits.now c.args.engine.now c.args.completed.now contents all _ c.requires.opened;
     }
@@ -63,6 +65,8 @@ loop-cut-preserved g c =
       same = search rules;
       sink_later = search rules;
       files_later = search rules;
+      sink_calm = c.in_ok-refused.ensures.sink_calm ∙ c.loop-cut.invariant.sink_calm;
+      files_calm = c.in_ok-refused.ensures.files_calm ∙ c.loop-cut.invariant.files_calm;
       quiet = λ none.
           let both = names_of_next (take n all) _ (subst (λ (l : List Line). names_of l ≡ []) (ap (λ (m : ℕ). take m all) more ∙ upto) none) in
           c.in_ok-refused.ensures.quiet both.1 ∙ c.loop-cut.invariant.quiet both.0;

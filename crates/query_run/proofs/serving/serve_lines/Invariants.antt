@@ -17,6 +17,8 @@ invariant-loop-cut g l = record {
   same : g.F.Files.held l.files ≡ g.F.Files.held l.initial.files;
   sink_later : g.K.Sink.faults l.initial.sink ≤ g.K.Sink.faults l.sink;
   files_later : g.F.Files.faults l.initial.files ≤ g.F.Files.faults l.files;
+  sink_calm : g.K.Sink.faults l.sink ≡ g.K.Sink.faults l.initial.sink;
+  files_calm : g.F.Files.faults l.files ≡ g.F.Files.faults l.initial.files;
   quiet : names_of (take l.completed (lines l.limits.line l.script)) ≡ [] → l.files ≡ l.initial.files;
   come : (contents : Contents) → g.F.Files.held l.initial.files ≡ Some contents →
       HasCome l.limits (opening l.initial.engine.version.first contents) (take l.completed (lines l.limits.line l.script)) l.engine l.wanted l.refused
