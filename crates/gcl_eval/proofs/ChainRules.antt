@@ -12,8 +12,8 @@ use Rattle.gcl_combine.proofs.OneOf.{first_start-one, last_end-one}
 use Rattle.gcl_order.specs.Walks.{last_before, walk_backward}
 use Rattle.gcl_order.proofs.SeqAccess.{seq_forward, seq_backward}
 use Rattle.gcl_eval.specs.Directions.{near_access, opposite, beside, farther, farthest, IsAsFar, between, better, best, beyond, walk, join}
-use Rattle.gcl_eval.specs.declared.direction.Direction.{Direction}
-use Rattle.gcl_eval.specs.declared.direction.Direction.TheVariants.{Forward, Backward}
+use Rattle.gcl_model.specs.declared.direction.Direction.{Direction}
+use Rattle.gcl_model.specs.declared.direction.Direction.TheVariants.{Forward, Backward}
 
 -- both of
 pub farthest-cons : (direction : Direction) (list : List Extent) (lists : List (List Extent)) (k side : ℕ) →

@@ -11,8 +11,8 @@ use Rattle.gcl_model.specs.Forms.{Form, both, one, seq}
 use Rattle.gcl_model.specs.Meaning.{concordance}
 use Rattle.gcl_eval.specs.Operands.{operand_forms, operand_lists, AreOperands}
 use Rattle.gcl_eval.specs.Directions.{near_access, far_access, opposite, beside, farther, farthest, between, better, best, beyond, walk, join, CanJoin, passed, resume}
-use Rattle.gcl_eval.specs.declared.direction.Direction.{Direction}
-use Rattle.gcl_eval.specs.declared.direction.Direction.TheVariants.{Forward, Backward}
+use Rattle.gcl_model.specs.declared.direction.Direction.{Direction}
+use Rattle.gcl_model.specs.declared.direction.Direction.TheVariants.{Forward, Backward}
 use Rattle.gcl_eval.specs.declared.direction.Access.TheVariants.{FirstStart, LastEnd}
 use Rattle.gcl_eval.proofs.Found.{access_within, access_proper}
 use Rattle.gcl_eval.proofs.FarAccess.{far_access-by_near}

@@ -16,12 +16,12 @@ use Rattle.gcl_contain.proofs.Advance.{containing_goes, contained_in_goes, not_c
 use Rattle.gcl_contain.proofs.Counts.{turns_forward, turns_backward, turns_forward_le, turns_backward_le, IsUsed, IsUsedBack, turns_forward_rise, turns_backward_rise, containing_uses, contained_in_uses, not_containing_uses, not_contained_in_uses, containing_back_uses, contained_in_back_uses, not_containing_back_uses, not_contained_in_back_uses}
 use Rattle.gcl_eval.specs.Directions.{access_of, direction_of}
 use Rattle.gcl_eval.specs.Containments.{loop_of, goes_by}
-use Rattle.gcl_eval.specs.declared.containment.Containment.{Containment}
-use Rattle.gcl_eval.specs.declared.containment.Containment.TheVariants.{Containing, ContainedIn, NotContaining, NotContainedIn}
+use Rattle.gcl_model.specs.declared.containment.Containment.{Containment}
+use Rattle.gcl_model.specs.declared.containment.Containment.TheVariants.{Containing, ContainedIn, NotContaining, NotContainedIn}
 use Rattle.gcl_eval.specs.declared.direction.Access.{Access}
 use Rattle.gcl_eval.specs.declared.direction.Access.TheVariants.{FirstStart, FirstEnd, LastEnd, LastStart}
-use Rattle.gcl_eval.specs.declared.direction.Direction.{Direction}
-use Rattle.gcl_eval.specs.declared.direction.Direction.TheVariants.{Forward, Backward}
+use Rattle.gcl_model.specs.declared.direction.Direction.{Direction}
+use Rattle.gcl_model.specs.declared.direction.Direction.TheVariants.{Forward, Backward}
 
 -- what is known of each loop
 forward_rises : (containment : Containment) → IsPlace (loop_of Forward containment).place

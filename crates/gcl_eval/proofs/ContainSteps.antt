@@ -2,20 +2,21 @@
 use Rattle.std.proofs.Common.{◌≡◌, ℕ, ◌+◌, ◌-◌, ◌*◌, ◌<◌, ◌≤◌, min, List, length, Option, Some, None, sym, ◌∙◌, subst, arith}
 use Rattle.gcl_model.specs.Extents.{Extent}
 use Rattle.gcl_model.specs.Texts.{Text}
+use Rattle.gcl_model.specs.FormOf.{containment_form}
 use Rattle.gcl_model.specs.Forms.{Form}
 use Rattle.gcl_model.specs.Meaning.{concordance}
 use Rattle.gcl_model.specs.Cost.{cost}
 use Rattle.gcl_contain.specs.Moves.{accept, go_to, finish}
 use Rattle.gcl_model.proofs.Meanings.{concordance_rises}
-use Rattle.gcl_eval.specs.Containments.{contain_form, loop_of, goes_by}
+use Rattle.gcl_eval.specs.Containments.{loop_of, goes_by}
 use Rattle.gcl_eval.specs.Directions.{access_of, direction_of}
-use Rattle.gcl_eval.specs.declared.containment.Containment.{Containment}
+use Rattle.gcl_model.specs.declared.containment.Containment.{Containment}
 use Rattle.gcl_eval.specs.declared.direction.Access.{Access}
-use Rattle.gcl_eval.specs.declared.direction.Direction.{Direction}
+use Rattle.gcl_model.specs.declared.direction.Direction.{Direction}
 use Rattle.gcl_eval.proofs.ContainLoops.{IsAt, turns, turns_le, enters, enters_none, accepts, finishes, ends, goes_on, more_turns, first_alone, and_more, no_more_turns, turns_end, one_turn_more}
 use Rattle.gcl_eval.proofs.ContainForms.{contain_kept, contain_cost}
 
-module _ (containment : Containment) (text : Text) (e a b : Form) (is : e ≡ contain_form containment a b) where
+module _ (containment : Containment) (text : Text) (e a b : Form) (is : e ≡ containment_form containment a b) where
   pub node_enters : (wanted : Access) (direction : Direction) → direction ≡ direction_of wanted → (k : ℕ) (x : Extent) → Some x ≡ access_of wanted (concordance text a) k →
       IsAt direction containment (concordance text a) (concordance text e) (access_of wanted (concordance text e) k) x
   node_enters wanted direction way k x found =

@@ -14,8 +14,8 @@ use Rattle.gcl_model.proofs.Meanings.{concordance_rises}
 use Rattle.gcl_model.proofs.Other.{first_end_after, first_end_first}
 use Rattle.gcl_order.specs.Walks.{address_before}
 use Rattle.gcl_eval.specs.Directions.{near_access, far_access, passed, resume}
-use Rattle.gcl_eval.specs.declared.direction.Direction.{Direction}
-use Rattle.gcl_eval.specs.declared.direction.Direction.TheVariants.{Forward, Backward}
+use Rattle.gcl_model.specs.declared.direction.Direction.{Direction}
+use Rattle.gcl_model.specs.declared.direction.Direction.TheVariants.{Forward, Backward}
 use Rattle.gcl_eval.proofs.Found.{member_of_text}
 
 -- forward

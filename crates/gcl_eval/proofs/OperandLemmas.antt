@@ -12,8 +12,8 @@ use Rattle.gcl_model.specs.Cost.{cost}
 use Rattle.gcl_model.proofs.FormLemmas.{form_of-Both, form_of-One, form_of-Seq}
 use Rattle.gcl_eval.specs.Operands.{operand_forms, operand_lists, operand_costs}
 use Rattle.gcl_eval.specs.Directions.{near_access, beside}
-use Rattle.gcl_eval.specs.declared.direction.Direction.{Direction}
-use Rattle.gcl_eval.specs.declared.direction.Direction.TheVariants.{Forward, Backward}
+use Rattle.gcl_model.specs.declared.direction.Direction.{Direction}
+use Rattle.gcl_model.specs.declared.direction.Direction.TheVariants.{Forward, Backward}
 
 lists_at_end : (text : Text) (x : Expr) (others : List Expr) → operand_lists text (others ++ x ∷ []) ≡ operand_lists text others ++ concordance text (form_of x) ∷ []
 lists_at_end text x [] = refl

@@ -9,7 +9,7 @@ use Rattle.gcl_eval.specs.Costs.{cost_in, near_cost}
 use Rattle.gcl_eval.specs.Members.{members_from}
 use Rattle.gcl_eval.specs.Directions.{access_of, beside, farthest, between, best, walk, join, outside, passed, resume}
 use Rattle.gcl_eval.specs.declared.direction.Access.TheVariants.{FirstEnd, LastStart}
-use Rattle.gcl_eval.specs.declared.direction.Direction.TheVariants.{Forward, Backward}
+use Rattle.gcl_model.specs.declared.direction.Direction.TheVariants.{Forward, Backward}
 
 -- ("to" ^ "not") + "be" in `to be or not to be` at 1 to 6 of the addresses 0 to 7
 abbrev members : List Extent

@@ -4,17 +4,10 @@ use Rattle.gcl_model.specs.Extents.{Extent}
 use Rattle.gcl_model.specs.Forms.{Form, containing, contained_in, not_containing, not_contained_in}
 use Rattle.gcl_contain.specs.Kinds.{Kind, first_from, last_upto}
 use Rattle.gcl_contain.specs.Kinds as Kinds
-use Rattle.gcl_eval.specs.declared.containment.Containment.{Containment}
-use Rattle.gcl_eval.specs.declared.containment.Containment.TheVariants.{Containing, ContainedIn, NotContaining, NotContainedIn}
-use Rattle.gcl_eval.specs.declared.direction.Direction.{Direction}
-use Rattle.gcl_eval.specs.declared.direction.Direction.TheVariants.{Forward, Backward}
-
--- the form of a containment of this kind
-abbrev pub contain_form : Containment → Form → Form → Form
-contain_form Containing = containing
-contain_form ContainedIn = contained_in
-contain_form NotContaining = not_containing
-contain_form NotContainedIn = not_contained_in
+use Rattle.gcl_model.specs.declared.containment.Containment.{Containment}
+use Rattle.gcl_model.specs.declared.containment.Containment.TheVariants.{Containing, ContainedIn, NotContaining, NotContainedIn}
+use Rattle.gcl_model.specs.declared.direction.Direction.{Direction}
+use Rattle.gcl_model.specs.declared.direction.Direction.TheVariants.{Forward, Backward}
 
 -- the form is a containment: "to" > "be" is one, and "to" is none
 abbrev pub IsContainment : Form → Type 0

@@ -8,8 +8,8 @@ use Rattle.gcl_model.specs.Access.{first_start, first_end, last_end, last_start}
 use Rattle.gcl_combine.specs.Farthest.{end_so_far, start_so_far}
 use Rattle.gcl_combine.specs.Better.{nearer, nearer_back, best_forward, best_backward}
 use Rattle.gcl_order.specs.Walks.{address_before, joined, walk_forward, walk_backward}
-use Rattle.gcl_eval.specs.declared.direction.Direction.{Direction}
-use Rattle.gcl_eval.specs.declared.direction.Direction.TheVariants.{Forward, Backward}
+use Rattle.gcl_model.specs.declared.direction.Direction.{Direction}
+use Rattle.gcl_model.specs.declared.direction.Direction.TheVariants.{Forward, Backward}
 use Rattle.gcl_eval.specs.declared.direction.Access.{Access}
 use Rattle.gcl_eval.specs.declared.direction.Access.TheVariants.{FirstStart, FirstEnd, LastEnd, LastStart}
 

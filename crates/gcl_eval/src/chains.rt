@@ -10,8 +10,8 @@ ghost use Rattle.gcl_eval.specs.Operands.{operand_forms, operand_lists, operand_
 ghost use Rattle.gcl_eval.specs.Directions.{access_of, near_access, far_access, farthest, walk, passed};
 
 use crate::access::access;
-use crate::direction::{Access, Direction};
-use gcl_model::{CountedLeaves, Expr, Interval};
+use crate::direction::{Access, access_by_near_sides, better, between, beyond, farther, join, next_operand, opposite, outside, resume};
+use gcl_model::{CountedLeaves, Direction, Expr, Interval};
 
 /// An access of a chain: by two rounds of its operands' near accesses at most, or by four.
 #[cycle(access)]
@@ -55,7 +55,7 @@ fn far_access<C: CountedLeaves>(
 {
     let span = source.span();
     let passed = passed_member(expr, direction, source, k, counter);
-    let from = direction.resume(span, passed)?;
+    let from = resume(direction, span, passed)?;
     near_access(expr, direction, source, from, counter)
 }
 
@@ -76,8 +76,8 @@ fn passed_member<C: CountedLeaves>(
     ensures counted { C.count counter.old ≤ C.count counter.new }
     ensures cost { C.count counter.new ≤ C.count counter.old + near_cost (C.text source.now) (C.most source.now) (form_of expr.now) }
 {
-    let outside = direction.outside(source.span(), k)?;
-    near_access(expr, direction.opposite(), source, outside, counter)
+    let outside = outside(direction, source.span(), k)?;
+    near_access(expr, opposite(direction), source, outside, counter)
 }
 
 /// The access by the near sides.
@@ -120,8 +120,8 @@ fn both_of<C: CountedLeaves>(
     ensures cost { C.count counter.new ≤ C.count counter.old + 2 * operand_costs (C.text source.now) (C.most source.now) operands.now }
 {
     let far = farthest(operands, direction, source, k, counter)?;
-    let near = farthest(operands, direction.opposite(), source, far, counter)?;
-    Some(direction.between(near, far))
+    let near = farthest(operands, opposite(direction), source, far, counter)?;
+    Some(between(direction, near, far))
 }
 
 /// The farthest side of the operands' answers at `k`, or `k` where that is farther.
@@ -142,8 +142,8 @@ fn farthest<C: CountedLeaves>(
 {
     let mut side = k;
     for operand in operands {
-        let answer = access(operand, direction.near_access(), source, k, counter)?;
-        side = direction.farther(side, answer);
+        let answer = access(operand, access_by_near_sides(direction), source, k, counter)?;
+        side = farther(direction, side, answer);
     }
     Some(side)
 }
@@ -165,8 +165,8 @@ fn one_of<C: CountedLeaves>(
 {
     let mut best = None;
     for operand in operands {
-        let answer = access(operand, direction.near_access(), source, k, counter);
-        best = direction.better(best, answer);
+        let answer = access(operand, access_by_near_sides(direction), source, k, counter);
+        best = better(direction, best, answer);
     }
     best
 }
@@ -186,12 +186,12 @@ fn followed_by<C: CountedLeaves>(
     ensures counted { C.count counter.old ≤ C.count counter.new }
     ensures cost { C.count counter.new ≤ C.count counter.old + 2 * operand_costs (C.text source.now) (C.most source.now) operands.now }
 {
-    let (nearest, after_nearest) = direction.next_operand(operands)?;
-    let (_, before_farthest) = direction.opposite().next_operand(operands)?;
-    let found = access(nearest, direction.near_access(), source, k, counter)?;
+    let (nearest, after_nearest) = next_operand(direction, operands)?;
+    let (_, before_farthest) = next_operand(opposite(direction), operands)?;
+    let found = access(nearest, access_by_near_sides(direction), source, k, counter)?;
     let far = walk(after_nearest, direction, source, found, counter)?;
-    let near = walk(before_farthest, direction.opposite(), source, far, counter)?;
-    Some(direction.join(near, far))
+    let near = walk(before_farthest, opposite(direction), source, far, counter)?;
+    Some(join(direction, near, far))
 }
 
 /// On from an answer: each operand's answer beyond that of the one before it, up to the last one's.
@@ -212,9 +212,9 @@ fn walk<C: CountedLeaves>(
 {
     let mut answer = start;
     let mut rest = operands;
-    while let Some((operand, others)) = direction.next_operand(rest) {
-        let from = direction.beyond(answer)?;
-        answer = access(operand, direction.near_access(), source, from, counter)?;
+    while let Some((operand, others)) = next_operand(direction, rest) {
+        let from = beyond(direction, answer)?;
+        answer = access(operand, access_by_near_sides(direction), source, from, counter)?;
         rest = others;
     }
     Some(answer)

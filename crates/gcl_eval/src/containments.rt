@@ -8,7 +8,7 @@ ghost use Rattle.gcl_eval.specs.Containments.{IsContainment};
 ghost use Rattle.gcl_eval.specs.Directions.{access_of};
 
 use crate::access::access;
-use crate::containment::operands;
+use crate::containment::{goes_by, operands, question, turn};
 use crate::direction::Access;
 use gcl_contain::Turn;
 use gcl_model::{CountedLeaves, Expr, Interval};
@@ -32,12 +32,12 @@ pub(crate) fn containment_access<C: CountedLeaves>(
 {
     let (containment, first, second) = operands(expr);
     let direction = wanted.direction();
-    let onward = containment.goes_by(direction);
+    let onward = goes_by(containment, direction);
     let mut member = access(first, wanted, source, k, counter)?;
     loop {
-        let (asked, at) = containment.question(direction, member);
+        let (asked, at) = question(containment, direction, member);
         let answer = access(second, asked, source, at, counter);
-        match containment.turn(direction, member, answer) {
+        match turn(containment, direction, member, answer) {
             Turn::Accept => return Some(member),
             Turn::Finish => return None,
             Turn::GoTo(next) => {

@@ -12,7 +12,9 @@
 #![tactic(auto)]
 
 mod bytes;
+mod containment;
 mod counted_leaves;
+mod direction;
 mod expr;
 mod interval;
 mod interval_list;
@@ -26,7 +28,9 @@ mod tests;
 mod token_list;
 
 pub use bytes::Bytes;
+pub use containment::Containment;
 pub use counted_leaves::{CountedLeaves, LentLeaves};
+pub use direction::Direction;
 pub use expr::Expr;
 pub use interval::Interval;
 pub use interval_list::IntervalList;

@@ -7,7 +7,7 @@ use Rattle.gcl_model.specs.Tokens.{starts_with_byte}
 use Rattle.gcl_parser.specs.declared.token.PlacedToken.{PlacedToken}
 use Rattle.gcl_parser.specs.declared.fault.QueryKind.TheVariants.{Character}
 use Rattle.gcl_parser.specs.declared.token.Joint.TheVariants.{FollowedBy, BothOf, OneOf}
-use Rattle.gcl_parser.specs.declared.token.Containment.TheVariants.{Containing, ContainedIn, NotContaining, NotContainedIn}
+use Rattle.gcl_model.specs.declared.containment.Containment.TheVariants.{Containing, ContainedIn, NotContaining, NotContainedIn}
 use Rattle.gcl_parser.specs.QueryTokens.{QueryToken, joint, containment, open_bracket, close_bracket, broken, Piece, placed, first_piece, quoted_piece, width_piece, sign_piece, is_no_quote, one_token, tokens_of_pieces, tokens_behind}
 use Rattle.gcl_parser.specs.Scanned.{shown, IsPiece, IsNext, tokens_from}
 

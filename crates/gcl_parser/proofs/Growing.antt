@@ -6,7 +6,7 @@ use Rattle.gcl_model.specs.Forms.{Form, no_forms, more_forms}
 use Rattle.gcl_model.specs.FormOf.{form_of, forms_from}
 use Rattle.gcl_parser.specs.declared.token.Joint.{Joint}
 use Rattle.gcl_parser.specs.declared.token.Joint.TheVariants.{OneOf}
-use Rattle.gcl_parser.specs.declared.token.Containment.{Containment}
+use Rattle.gcl_model.specs.declared.containment.Containment.{Containment}
 use Rattle.gcl_parser.specs.declared.token.Token.TheVariants as T
 use Rattle.gcl_parser.specs.declared.token.PlacedToken.{PlacedToken}
 use Rattle.gcl_parser.specs.declared.parsed.Parsed.{Parsed}
@@ -16,7 +16,8 @@ use Rattle.gcl_parser.specs.Scanned.{shown, IsNext, tokens_from, bare_from}
 use Rattle.gcl_parser.specs.Reading.{IsFaultless, Ends, EndsQuery, CanRead, CanReadInside, IsNotNext}
 use Rattle.gcl_parser.specs.QueryForm.{forms_and}
 use Rattle.gcl_parser.specs.Parsed.{IsParsed, IsQueryParsed, IsBracketParsed}
-use Rattle.gcl_parser.specs.Grammar.{single, joined, below, Part, simple, bracketed, only, join, Query, query, Containments, no_more, and_then, spelling, query_spelling, more_spelling, form_of_part, form_of_query, members, grouped, chain_form, containment_form, operands, query_operands, query_nesting, IsQueryWithin}
+use Rattle.gcl_model.specs.FormOf.{containment_form}
+use Rattle.gcl_parser.specs.Grammar.{single, joined, below, Part, simple, bracketed, only, join, Query, query, Containments, no_more, and_then, spelling, query_spelling, more_spelling, form_of_part, form_of_query, members, grouped, chain_form, operands, query_operands, query_nesting, IsQueryWithin}
 use Rattle.gcl_parser.proofs.Faults.{end_is_open, refused_is, none_faultless}
 use Rattle.gcl_parser.proofs.Trees.{part_behind, query_behind, ends_single}
 use Rattle.gcl_parser.proofs.Derives.{After, goes, stops, after}

@@ -2,10 +2,11 @@
 use Rattle.std.proofs.Common.{◌≡◌, ℕ, List, [], ◌∷◌, refl, sym, ap, ◌∙◌}
 use Rattle.gcl_model.specs.Forms.{Form, more_forms, no_forms}
 use Rattle.gcl_parser.specs.declared.token.Joint.{Joint}
-use Rattle.gcl_parser.specs.declared.token.Containment.{Containment}
+use Rattle.gcl_model.specs.declared.containment.Containment.{Containment}
 use Rattle.gcl_parser.specs.QueryTokens.{QueryToken, operand, joint, containment, open_bracket, close_bracket, broken}
 use Rattle.gcl_parser.specs.Reading.{Ends, EndsQuery}
-use Rattle.gcl_parser.specs.Grammar.{Level, joined, Part, simple, bracketed, only, join, Query, query, Containments, no_more, and_then, spelling, query_spelling, more_spelling, form_of_part, form_of_query, members, grouped, chain_form, containment_form, IsQuery}
+use Rattle.gcl_model.specs.FormOf.{containment_form}
+use Rattle.gcl_parser.specs.Grammar.{Level, joined, Part, simple, bracketed, only, join, Query, query, Containments, no_more, and_then, spelling, query_spelling, more_spelling, form_of_part, form_of_query, members, grouped, chain_form, IsQuery}
 use Rattle.gcl_parser.proofs.Trees.{ends_below, ends_joint, joint_goes_on, ends_containments}
 
 pub record AreSame {l : Level} (p q : Part l) (rest tail : List QueryToken) : Type 0 where

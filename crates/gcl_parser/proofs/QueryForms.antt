@@ -4,10 +4,11 @@ use Rattle.gcl_model.specs.Forms.{Form, Forms, no_forms, more_forms}
 use Rattle.gcl_parser.specs.declared.fault.QueryFault.{QueryFault}
 use Rattle.gcl_parser.specs.declared.token.Joint.{Joint}
 use Rattle.gcl_parser.specs.declared.token.Joint.TheVariants.{FollowedBy, BothOf, OneOf}
-use Rattle.gcl_parser.specs.declared.token.Containment.{Containment}
+use Rattle.gcl_model.specs.declared.containment.Containment.{Containment}
 use Rattle.gcl_parser.specs.QueryTokens.{QueryToken, joint, close_bracket, token_of, query_tokens}
 use Rattle.gcl_parser.specs.Refusal.{refused}
-use Rattle.gcl_parser.specs.Grammar.{Level, single, joined, Part, simple, bracketed, only, join, Query, query, Containments, no_more, and_then, spelling, query_spelling, more_spelling, form_of_part, form_of_query, members, grouped, containment_form, IsQuery, IsQueryWithin}
+use Rattle.gcl_model.specs.FormOf.{containment_form}
+use Rattle.gcl_parser.specs.Grammar.{Level, single, joined, Part, simple, bracketed, only, join, Query, query, Containments, no_more, and_then, spelling, query_spelling, more_spelling, form_of_part, form_of_query, members, grouped, IsQuery, IsQueryWithin}
 use Rattle.gcl_parser.specs.QueryForm.{forms_append, forms_and, chain_of, Unfinished, begun, seq_of, both_of, one_of, behind_left, whole_of, with_operand, with_joint, with_containment, form_from, unless, query_form}
 use Rattle.gcl_parser.specs.Laws.{QueryFormsAreOfQueries}
 use Rattle.gcl_parser.proofs.Derives.{not_refused, is_not_refused}

@@ -11,10 +11,11 @@ use Rattle.gcl_model.specs.Tokens.{is_blank, starts_with_byte}
 use Rattle.gcl_parser.specs.declared.fault.QueryKind.TheVariants.{BadWidth, OpenQuote, Character}
 use Rattle.gcl_parser.specs.declared.token.Joint.{Joint}
 use Rattle.gcl_parser.specs.declared.token.Joint.TheVariants.{FollowedBy, BothOf, OneOf}
-use Rattle.gcl_parser.specs.declared.token.Containment.{Containment}
-use Rattle.gcl_parser.specs.declared.token.Containment.TheVariants.{Containing, ContainedIn, NotContaining, NotContainedIn}
+use Rattle.gcl_model.specs.declared.containment.Containment.{Containment}
+use Rattle.gcl_model.specs.declared.containment.Containment.TheVariants.{Containing, ContainedIn, NotContaining, NotContainedIn}
 use Rattle.gcl_parser.specs.QueryTokens.{QueryToken, operand, joint, containment, open_bracket, close_bracket, broken, Piece, Placed, placed, token_of, one_token, broken_piece, quoted_token, quoted_piece, terms_of, is_no_quote, width_token, width_piece, sign_piece, first_piece, tokens_of_pieces}
-use Rattle.gcl_parser.specs.Grammar.{Level, Part, simple, bracketed, only, join, Query, query, Containments, no_more, and_then, spelling, query_spelling, more_spelling, form_of_part, form_of_query, members, grouped, chain_form, containment_form, IsQuery}
+use Rattle.gcl_model.specs.FormOf.{containment_form}
+use Rattle.gcl_parser.specs.Grammar.{Level, Part, simple, bracketed, only, join, Query, query, Containments, no_more, and_then, spelling, query_spelling, more_spelling, form_of_part, form_of_query, members, grouped, chain_form, IsQuery}
 
 -- each operand among the tokens is well formed
 abbrev AreSound : List QueryToken → Type 0

@@ -3,7 +3,7 @@ use Rattle.std.specs.Prelude.{◌≡◌, refl, [], ◌∷◌, codes, Some, None,
 use Rattle.gcl_model.specs.Forms.{term, phrase, width, seq, both, one, containing, more_forms, no_forms}
 use Rattle.gcl_parser.specs.declared.fault.QueryKind.TheVariants.{OperandExpected, OperatorOrCloseExpected, EmptyTerm, BadWidth, OpenQuote, Character, TooDeep, TooLarge}
 use Rattle.gcl_parser.specs.declared.token.Joint.TheVariants.{FollowedBy, BothOf, OneOf}
-use Rattle.gcl_parser.specs.declared.token.Containment.TheVariants.{Containing, NotContainedIn}
+use Rattle.gcl_model.specs.declared.containment.Containment.TheVariants.{Containing, NotContainedIn}
 use Rattle.gcl_parser.specs.QueryTokens.{operand, joint, containment, query_tokens, open_bracket}
 use Rattle.gcl_parser.specs.Refusal.{refused, fault_in}
 use Rattle.gcl_parser.specs.QueryForm.{query_form}

@@ -1,11 +1,11 @@
 -- The grammar of queries: its trees, what each spells, and the form that it stands for.
 use Rattle.std.specs.Prelude.{◌≡◌, ℕ, ◌+◌, ◌≤◌, max, List, [], ◌∷◌, map}
 use Rattle.gcl_model.specs.Limits.{most_operands, most_brackets}
-use Rattle.gcl_model.specs.Forms.{Form, Forms, both, one, seq, containing, contained_in, not_containing, not_contained_in, no_forms, more_forms}
+use Rattle.gcl_model.specs.Forms.{Form, Forms, both, one, seq, no_forms, more_forms}
+use Rattle.gcl_model.specs.FormOf.{containment_form}
 use Rattle.gcl_parser.specs.declared.token.Joint.{Joint}
 use Rattle.gcl_parser.specs.declared.token.Joint.TheVariants.{FollowedBy, BothOf, OneOf}
-use Rattle.gcl_parser.specs.declared.token.Containment.{Containment}
-use Rattle.gcl_parser.specs.declared.token.Containment.TheVariants.{Containing, ContainedIn, NotContaining, NotContainedIn}
+use Rattle.gcl_model.specs.declared.containment.Containment.{Containment}
 use Rattle.gcl_parser.specs.QueryTokens.{QueryToken, operand, joint, containment, open_bracket, close_bracket, token_of, query_tokens}
 
 -- a single operand, or what a joint joins
@@ -59,13 +59,6 @@ abbrev pub chain_form : Joint → Forms → Form
 chain_form FollowedBy members = seq members
 chain_form BothOf members = both members
 chain_form OneOf members = one members
-
--- the form of a containment of two operands: `>` makes it `containing`
-abbrev pub containment_form : Containment → Form → Form → Form
-containment_form Containing a b = containing a b
-containment_form ContainedIn a b = contained_in a b
-containment_form NotContaining a b = not_containing a b
-containment_form NotContainedIn a b = not_contained_in a b
 
 abbrev mutual
   -- a chain of one member is that member, of several one node of all of them

@@ -4,9 +4,10 @@ use Rattle.gcl_model.specs.Forms.{Form, Forms, no_forms, more_forms}
 use Rattle.gcl_parser.specs.declared.fault.QueryFault.{QueryFault}
 use Rattle.gcl_parser.specs.declared.token.Joint.{Joint}
 use Rattle.gcl_parser.specs.declared.token.Joint.TheVariants.{FollowedBy, BothOf, OneOf}
-use Rattle.gcl_parser.specs.declared.token.Containment.{Containment}
+use Rattle.gcl_model.specs.declared.containment.Containment.{Containment}
 use Rattle.gcl_parser.specs.QueryTokens.{QueryToken, operand, joint, containment, open_bracket, close_bracket, broken, token_of, query_tokens}
-use Rattle.gcl_parser.specs.Grammar.{chain_form, containment_form}
+use Rattle.gcl_model.specs.FormOf.{containment_form}
+use Rattle.gcl_parser.specs.Grammar.{chain_form}
 use Rattle.gcl_parser.specs.Refusal.{refused}
 
 -- the forms of two lists, one after the other

@@ -10,8 +10,8 @@ use Rattle.gcl_parser.specs.declared.fault.QueryKind.{QueryKind}
 use Rattle.gcl_parser.specs.declared.fault.QueryKind.TheVariants.{EmptyTerm, BadWidth, OpenQuote, Character}
 use Rattle.gcl_parser.specs.declared.token.Joint.{Joint}
 use Rattle.gcl_parser.specs.declared.token.Joint.TheVariants.{FollowedBy, BothOf, OneOf}
-use Rattle.gcl_parser.specs.declared.token.Containment.{Containment}
-use Rattle.gcl_parser.specs.declared.token.Containment.TheVariants.{Containing, ContainedIn, NotContaining, NotContainedIn}
+use Rattle.gcl_model.specs.declared.containment.Containment.{Containment}
+use Rattle.gcl_model.specs.declared.containment.Containment.TheVariants.{Containing, ContainedIn, NotContaining, NotContainedIn}
 
 -- a quoted text or a width, with what it means; `..`, `^` or `+`; `>`, `<`, `/>` or `/<`; a bracket; or what is
 -- wrong at a place where no query token begins

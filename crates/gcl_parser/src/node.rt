@@ -1,11 +1,11 @@
 ghost use Rattle.std.specs.Prelude.{◌≡◌, map, IfOk};
 ghost use Rattle.gcl_model.specs.Forms.{width as width_form};
-ghost use Rattle.gcl_model.specs.FormOf.{form_of, forms_from};
-ghost use Rattle.gcl_parser.specs.Grammar.{chain_form, containment_form};
+ghost use Rattle.gcl_model.specs.FormOf.{form_of, forms_from, containment_form};
+ghost use Rattle.gcl_parser.specs.Grammar.{chain_form};
 ghost use Rattle.gcl_parser.specs.QueryTokens.{quoted_form, terms_of};
 
 use crate::scan::is_boundary;
-use crate::token::{Containment, Joint};
+use crate::token::Joint;
 use gcl_model::{Bytes, Expr};
 use std::alloc::{AllocError, Global};
 use word_tokens::tokens;

@@ -9,7 +9,7 @@ ghost use Rattle.gcl_parser.specs.Parsed.{IsParsed, IsQueryParsed, IsBracketPars
 use crate::node::{chain_node, containment_node, quoted_node, width_node};
 use crate::parsed::Parsed;
 use crate::scan::next_placed;
-use crate::token::{Containment, Joint, Token};
+use crate::token::{Joint, Token};
 use std::alloc::{AllocError, Global};
 
 /// The query at a place of a text that is not refused.

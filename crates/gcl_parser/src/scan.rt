@@ -5,7 +5,7 @@ ghost use Rattle.gcl_parser.specs.QueryTokens.{terms_of, quoted_token, quoted_pi
 ghost use Rattle.gcl_parser.specs.Scanned.{shown, HasRange, IsPiece, IsNext, tokens_from};
 
 use crate::fault::QueryKind;
-use crate::token::{Containment, Joint, PlacedToken, Token};
+use crate::token::{Joint, PlacedToken, Token};
 use crate::width::{digit_count, width_of};
 use memchr::memchr;
 use word_tokens::token_count;

@@ -26,7 +26,7 @@ impl State {
     ghost use Rattle.gcl_parser.specs.QueryTokens.{operand, joint, containment, open_bracket, close_bracket};
     ghost use Rattle.gcl_model.specs.Forms.{Form};
     ghost use Rattle.gcl_parser.specs.declared.token.Joint.{Joint};
-    ghost use Rattle.gcl_parser.specs.declared.token.Containment.{Containment};
+    ghost use Rattle.gcl_model.specs.declared.containment.Containment.{Containment};
 
     /// Before the first token.
     pub fn start() -> Self

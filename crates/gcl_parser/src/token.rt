@@ -1,4 +1,5 @@
 use crate::fault::QueryKind;
+use gcl_model::Containment;
 
 /// An operator that joins a chain of parts.
 #[derive(Clone, Copy, Debug, PartialEq, Eq)]
@@ -9,19 +10,6 @@ pub enum Joint {
     BothOf,
     /// `+`
     OneOf,
-}
-
-/// An operator between two parts, grouped from the left.
-#[derive(Clone, Copy, Debug, PartialEq, Eq)]
-pub enum Containment {
-    /// `>`
-    Containing,
-    /// `<`
-    ContainedIn,
-    /// `/>`
-    NotContaining,
-    /// `/<`
-    NotContainedIn,
 }
 
 /// A query token as it stands in the text, or what is wrong where none begins.

@@ -1,8 +1,8 @@
 -- What a look-up in a shard finds.
 use Rattle.std.specs.Prelude.{ℕ, List, Option}
 use Rattle.posting_access.specs.Search.{least_from, greatest_to}
-use Rattle.index_shard.specs.declared.direction.Direction.{Direction}
-use Rattle.index_shard.specs.declared.direction.Direction.TheVariants.{Forward, Backward}
+use Rattle.gcl_model.specs.declared.direction.Direction.{Direction}
+use Rattle.gcl_model.specs.declared.direction.Direction.TheVariants.{Forward, Backward}
 use Rattle.index_shard.specs.Tables.{TermEntry, postings_of}
 
 -- forward the least posting of the term at or after k, backward the greatest at or before k

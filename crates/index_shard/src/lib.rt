@@ -8,7 +8,6 @@
 //! the addresses from 1 on, `to` looked up forward at 2 gives 5.
 #![tactic(auto)]
 
-mod direction;
 mod entry;
 mod find;
 mod laws;
@@ -19,7 +18,7 @@ mod table;
 mod tests;
 mod walk;
 
-pub use direction::Direction;
+pub use gcl_model::Direction;
 pub use laws::{postings_are_places, words_rise};
 pub use maker::ShardMaker;
 pub use shard::Shard;

@@ -55,3 +55,16 @@ halved_front whole low high before now later h is lt = halved_once whole (high -
 
 pub passed_before : (passes : ℕ → Bool) (middle : ℕ) → passes middle ≡ true → passes (middle + 1 - 1) ≡ true
 passed_before passes middle e = let same : middle + 1 - 1 ≡ middle = omega arith in ap passes same ∙ e
+
+-- a number is below the power of 2 by itself
+power_above : (c : ℕ) → c + 1 ≤ 2 ^ c
+power_above zero = omega arith
+power_above (suc c) = let more = power_above c in let double : 2 ^ suc c ≡ 2 ^ c * 2 = pow-suc 2 c in omega (arith, more, double)
+
+-- a number has no more digits than it has ones: of a list of n, a search probes 2 n + 1 members at most
+pub few_digits : (n before after : ℕ) → RisesByDigits n before after → after ≤ before + (2 * n + 1)
+few_digits n before after r =
+    let few = r.few in
+    let most = r.most in
+    let above = power_above r.digits in
+    omega (arith, few, most, above)

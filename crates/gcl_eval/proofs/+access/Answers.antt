@@ -4,7 +4,7 @@ use Rattle.gcl_model.specs.FormOf.{form_of}
 use Rattle.gcl_model.specs.Meaning.{concordance}
 use Rattle.gcl_eval.specs.Operands.{operand_forms, operand_lists}
 use Rattle.gcl_eval.specs.Directions.{access_of, farthest, best, walk}
-use Rattle.gcl_eval.specs.declared.direction.Direction.TheVariants.{Forward}
+use Rattle.gcl_model.specs.declared.direction.Direction.TheVariants.{Forward}
 use Rattle.gcl_eval.proofs.Found.{access_within}
 use Rattle.gcl_eval.proofs.ChainRules.{back_is_as_far}
 use Rattle.gcl_eval.proofs.OperandLemmas.{costs_beside, parts_beside, depth_beside, form-Both, form-One, form-Seq, by_form-near}

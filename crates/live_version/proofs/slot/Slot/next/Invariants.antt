@@ -1,7 +1,7 @@
 use Rattle.std.proofs.Common.{◌≡◌, ◌+◌, ◌≤◌, length, filter}
 use Rattle.index_shard.specs.Searched.{nearest}
 use Rattle.index_shard.specs.Tables.{postings_of}
-use Rattle.index_shard.specs.declared.direction.Direction.TheVariants.{Forward}
+use Rattle.gcl_model.specs.declared.direction.Direction.TheVariants.{Forward}
 use Rattle.live_version.specs.LookUps.{is_alive}
 use Rattle.live_version.proofs.LeapLemmas.{ahead}
 use Rattle.live_version.proofs.slot.Slot.next.Given as goal

@@ -1,7 +1,7 @@
 use Rattle.std.proofs.Common.{◌≡◌, ◌+◌, ◌≤◌, length, filter}
 use Rattle.index_shard.specs.Searched.{nearest}
 use Rattle.index_shard.specs.Tables.{postings_of}
-use Rattle.index_shard.specs.declared.direction.Direction.TheVariants.{Backward}
+use Rattle.gcl_model.specs.declared.direction.Direction.TheVariants.{Backward}
 use Rattle.live_version.specs.LookUps.{is_alive}
 use Rattle.live_version.proofs.LeapLemmas.{behind}
 use Rattle.live_version.proofs.slot.Slot.prev.Given as goal
