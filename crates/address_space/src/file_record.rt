@@ -1,9 +1,8 @@
-ghost use Rattle.std.specs.Prelude.{◌≡◌, IfOk};
+ghost use Rattle.std.specs.Prelude.{◌≡◌};
 
 use crate::file_id::FileId;
 use crate::range::Range;
 use gcl_model::Bytes;
-use std::alloc::AllocError;
 use std::marker::Model;
 
 /// What is kept of a file: its `len` addresses begin at `base`, those of its two boundary tokens included.
@@ -27,19 +26,6 @@ impl Model for FileRecord {
 
 impl FileRecord {
     ghost use Rattle.address_space.specs.Runs.{IsPlaced, range_of};
-
-    /// An equal record. Err comes for want of memory alone.
-    pub fn copy(&self) -> Result<Self, AllocError>
-        ensures { IfOk result (λ copy. copy ≡ self.now) }
-    {
-        let name = self.name.copy()?;
-        Ok(FileRecord {
-            id: self.id,
-            base: self.base,
-            len: self.len,
-            name,
-        })
-    }
 
     /// Its addresses, from the first to the last: of `len` 3 from 7 on they are 7 to 9.
     pub fn range(&self) -> Range

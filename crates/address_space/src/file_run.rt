@@ -2,13 +2,14 @@ ghost use Rattle.std.specs.Prelude.{◌≡◌, ◌<◌, [], ◌∷◌, ◌++◌,
 ghost use Rattle.address_space.specs.Runs.{IsFileRun, Precedes, last_file};
 
 use crate::file_record::FileRecord;
+use crate::shared_record::SharedRecord;
 use std::alloc::{AllocError, Global};
 use std::marker::Model;
 
 /// Files in rising ids, at rising addresses that none of them shares.
 #[derive(Drop)]
 pub struct FileRun {
-    files: Vec<FileRecord>,
+    files: Vec<SharedRecord>,
 }
 
 impl Model for FileRun {
@@ -46,11 +47,11 @@ impl FileRun {
         ensures value { result.now ≡ slice_index_or self.now i result.now }
         ensures run { IsFileRun self.now }
     {
-        &self.files[i]
+        self.files[i].record()
     }
 
     /// The files, in order.
-    pub fn as_slice(&self) -> &[FileRecord]
+    pub fn as_slice(&self) -> &[SharedRecord]
         ensures value { result.now ≡ self.now }
         ensures run { IsFileRun self.now }
     {
@@ -63,7 +64,17 @@ impl FileRun {
         ensures ok { OnOk result (self.new ≡ self.old ++ file ∷ []) }
         ensures err { OnErr result (self.new ≡ self.old) }
     {
-        let _ = &file.base;
+        let file = SharedRecord::new(*self.files.allocator(), file)?;
+        self.push_shared(file)
+    }
+
+    /// Puts a file behind the others. Whoever has the record shares it.
+    pub fn push_shared(&mut self, file: SharedRecord) -> Result<(), AllocError>
+        requires { IfSome (last_file self.old) (λ last. Precedes last file) }
+        ensures ok { OnOk result (self.new ≡ self.old ++ file ∷ []) }
+        ensures err { OnErr result (self.new ≡ self.old) }
+    {
+        let _ = file.record();
         self.files.push(file)?;
         Ok(())
     }

@@ -1,6 +1,6 @@
 //! Files at addresses: their ids, their ranges of addresses and their names.
 //!
-//! Contracts see a `Range` as its first and last address, a `FileRecord` as a plain record of its four parts, and a
+//! Contracts see a `Range` as its first and last address, a `FileRecord`, shared or not, as a plain record of its four parts, and a
 //! `FileRun` as a list of these, by rising id and address. Addresses are below 2^56.
 //!
 //! The layers above use `place`, which gives a file the next addresses or says that they are spent, `is_name`, which
@@ -16,6 +16,7 @@ mod laws;
 mod names;
 mod places;
 mod range;
+mod shared_record;
 mod slot_laws;
 #[cfg(test)]
 mod tests;
@@ -30,6 +31,7 @@ pub use laws::{
 pub use names::{NAME_MOST, is_name};
 pub use places::{AddressesSpent, place};
 pub use range::Range;
+pub use shared_record::SharedRecord;
 pub use slot_laws::{
     adding_keeps_tiers, merging_keeps_tiers, opening_makes_tiers, tails_are_joined, tiers_are_few,
 };

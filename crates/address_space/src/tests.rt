@@ -1,4 +1,6 @@
-use crate::{AddressesSpent, FileId, FileRecord, FileRun, NAME_MOST, Range, is_name, place};
+use crate::{
+    AddressesSpent, FileId, FileRecord, FileRun, NAME_MOST, Range, SharedRecord, is_name, place,
+};
 use gcl_model::{ADDRESS_END, Bytes};
 use std::test::Fail;
 
@@ -82,23 +84,24 @@ fn a_run_keeps_its_files_in_order(rt: HostRuntime) -> Result<(), Fail> {
 }
 
 #[test]
-fn a_copied_record_is_equal_and_has_the_same_range(rt: HostRuntime) -> Result<(), Fail> {
+fn a_shared_record_is_the_same_and_has_its_range(rt: HostRuntime) -> Result<(), Fail> {
     let file = FileRecord {
         id: FileId(3),
         base: ADDRESS_END - 3,
         len: 3,
         name: Bytes::copy_of(rt.alloc(), b"a")?,
     };
-    let copy = file.copy()?;
+    let shared = SharedRecord::new(rt.alloc(), file)?.share()?;
+    let record = shared.record();
     assert_eq!(rt;
-        (copy.id, copy.base, copy.len),
+        (record.id, record.base, record.len),
         (FileId(3), ADDRESS_END - 3, 3)
     );
-    assert_eq!(rt; copy.name.as_slice(), b"a".as_slice());
+    assert_eq!(rt; record.name.as_slice(), b"a".as_slice());
     let range = Range {
         first: ADDRESS_END - 3,
         last: ADDRESS_END - 1,
     };
-    assert_eq!(rt; file.range(), range);
+    assert_eq!(rt; record.range(), range);
     Ok(())
 }

@@ -20,14 +20,14 @@ pub(crate) fn slot_without(alloc: Global, slot: &Slot, id: FileId) -> Result<Slo
     slot.changed(alloc, mask, files)
 }
 
-/// Copies of the records but for those with this id.
+/// The records but for those with this id, which are shared.
 fn run_without(alloc: Global, files: &FileRun, id: FileId) -> Result<FileRun, AllocError>
     ensures { IfOk result (λ left. left ≡ filter (λ file. not (file.id == id.0)) files.now) }
 {
     let mut left = FileRun::new(alloc);
     for file in files.as_slice() {
-        if file.id != id {
-            left.push(file.copy()?)?;
+        if file.record().id != id {
+            left.push_shared(file.share()?)?;
         }
     }
     Ok(left)

@@ -4,7 +4,7 @@ ghost use Rattle.live_version.specs.Contents.{IsVersion, files_of};
 ghost use Rattle.live_version.specs.Changes.{file_with_id};
 
 use crate::version::Version;
-use address_space::{FileId, FileRecord};
+use address_space::{FileId, FileRecord, SharedRecord};
 
 impl Version {
     /// The number of surviving files.
@@ -57,18 +57,18 @@ impl Version {
 }
 
 /// The file with this id, found by halving.
-pub(crate) fn find_in(files: &[FileRecord], id: FileId) -> Option<&FileRecord>
+pub(crate) fn find_in(files: &[SharedRecord], id: FileId) -> Option<&FileRecord>
     requires { IsFileRun files.now }
     ensures { MatchOption result (file_with_id id.0 files.now ≡ None) (λ file. file_with_id id.0 files.now ≡ Some file.now) }
 {
     let place = files.binary_search_by_key(
         &id.0,
-        |file: &FileRecord| -> u64
+        |file: &SharedRecord| -> u64
             ensures { result ≡ file.now.id }
-        { file.id.0 },
+        { file.record().id.0 },
     );
     match place {
-        Ok(i) => Some(&files[i]),
+        Ok(i) => Some(files[i].record()),
         Err(_) => None,
     }
 }

@@ -5,17 +5,17 @@ ghost use Rattle.script_lang.specs.Answers.{total_line, shards_line};
 ghost use Rattle.query_run.specs.Answers.{record_lines, text_of_lines};
 ghost use Rattle.query_run.specs.Progress.{Says};
 
-use address_space::FileRecord;
+use address_space::SharedRecord;
 use live_version::{Slot, Version};
 use script_lang::{put_record, put_shards, put_total};
 use std::alloc::AllocError;
 
 // Appends a line for each of some files.
-fn put_files(out: &mut Vec<u8>, files: &[FileRecord]) -> Result<(), AllocError>
+fn put_files(out: &mut Vec<u8>, files: &[SharedRecord]) -> Result<(), AllocError>
     ensures { OnOk result (out.new.items ≡ out.old.items ++ text_of_lines (record_lines files.now)) }
 {
     for file in files {
-        put_record(out, file)?;
+        put_record(out, file.record())?;
     }
     Ok(())
 }

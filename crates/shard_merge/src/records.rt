@@ -2,7 +2,7 @@ ghost use Rattle.std.specs.Prelude.{◌≡◌, ◌++◌, OnOk, IfOk};
 ghost use Rattle.address_space.specs.Runs.{IsFileRun};
 ghost use Rattle.live_version.specs.Contents.{files_of};
 
-use address_space::{FileRecord, FileRun};
+use address_space::{FileRun, SharedRecord};
 use live_version::Slot;
 use std::alloc::{AllocError, Global};
 
@@ -13,18 +13,18 @@ pub(crate) fn records_of(alloc: Global, slots: &[Slot]) -> Result<FileRun, Alloc
 {
     let mut files = FileRun::new(alloc);
     for slot in slots {
-        put_copies(&mut files, slot.records().as_slice())?;
+        put_shared(&mut files, slot.records().as_slice())?;
     }
     Ok(files)
 }
 
-/// Puts copies of the records behind the files.
-fn put_copies(files: &mut FileRun, records: &[FileRecord]) -> Result<(), AllocError>
+/// Puts the records behind the files. They are shared.
+fn put_shared(files: &mut FileRun, records: &[SharedRecord]) -> Result<(), AllocError>
     requires { IsFileRun (files.old ++ records.now) }
     ensures { OnOk result (files.new ≡ files.old ++ records.now) }
 {
     for record in records {
-        files.push(record.copy()?)?;
+        files.push_shared(record.share()?)?;
     }
     Ok(())
 }

@@ -4,7 +4,7 @@ use Rattle.std.proofs.Common.{IfSome, List}
 use Rattle.live_version.proofs.ChangeFiles.{next_survivor}
 use Rattle.live_version.proofs.deletion.run_without.Goals as goal
 
-pub push-requires : goal.push-requires
-push-requires c =
-    subst (λ (left : List FileEntry). IfSome (last_file left) (λ last. Precedes last c.in_ok-copy.field-0)) (sym c.loop-file.invariant.so_far)
-    (next_survivor c.args.id.0 c.as_slice-file-items.result.now c.loop-file.file-index c.in_ok-copy.field-0 c.file-item.result c.loop-file.invariant.run c.loop-file-test.true (c.in_ok-copy.ensures ∙ c.file-item.is))
+pub push_shared-requires : goal.push_shared-requires
+push_shared-requires c =
+    subst (λ (left : List FileEntry). IfSome (last_file left) (λ last. Precedes last c.in_ok-share.field-0)) (sym c.loop-file.invariant.so_far)
+    (next_survivor c.args.id.0 c.as_slice-file-items.result.now c.loop-file.file-index c.in_ok-share.field-0 c.file-item.result c.loop-file.invariant.run c.loop-file-test.true (c.in_ok-share.ensures ∙ c.file-item.is))
