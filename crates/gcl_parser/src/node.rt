@@ -6,7 +6,7 @@ ghost use Rattle.gcl_parser.specs.QueryTokens.{quoted_form, terms_of};
 
 use crate::scan::is_boundary;
 use crate::token::Joint;
-use gcl_model::{Bytes, Expr};
+use gcl_model::{Bytes, Containment, Expr};
 use std::alloc::{AllocError, Global};
 use word_tokens::tokens;
 

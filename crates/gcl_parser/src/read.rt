@@ -10,6 +10,7 @@ use crate::node::{chain_node, containment_node, quoted_node, width_node};
 use crate::parsed::Parsed;
 use crate::scan::next_placed;
 use crate::token::{Joint, Token};
+use gcl_model::Containment;
 use std::alloc::{AllocError, Global};
 
 /// The query at a place of a text that is not refused.

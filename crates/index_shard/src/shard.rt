@@ -3,11 +3,10 @@ ghost use Rattle.index_shard.specs.Tables.{IsShard, TermEntry, postings_of, addr
 ghost use Rattle.index_shard.specs.Searched.{look_up};
 ghost use Rattle.posting_access.specs.Search.{RisesByDigits};
 
-use crate::direction::Direction;
 use crate::table::TermTable;
 use crate::walk::Walk;
 use address_space::Range;
-use gcl_model::{Ledger, NoLedger, Steps};
+use gcl_model::{Direction, Ledger, NoLedger, Steps};
 use posting_access::{at_or_after, at_or_before};
 use posting_code::PostingList;
 use std::marker::{Brand, Model};

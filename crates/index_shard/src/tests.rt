@@ -1,10 +1,9 @@
 ghost use Rattle.std.specs.Prelude.{◌<◌};
 
-use crate::direction::Direction;
 use crate::maker::ShardMaker;
 use crate::shard::Shard;
 use address_space::Range;
-use gcl_model::{Ledger, Question, Steps, counted};
+use gcl_model::{Direction, Ledger, Question, Steps, counted};
 use posting_code::encode;
 use std::alloc::{AllocError, Global};
 
