@@ -8,7 +8,7 @@ pub returns-in-Ok : goal.returns-in-Ok
 returns-in-Ok c =
     let at = c.in-Ok.ensures.position (λ (file : FileEntry). file.id) (always_returns_same _ _ _ (λ a r g called. (search rules, search rules))) in
     let e = c.index-files-i.result in
-    file_met c.args.files.now c.args.id.0 c.in-Ok.i e c.requires c.in-Ok.ensures.bound (at e) ∙ ap Some (sym c.index-files-i.is)
+    file_met c.args.files.now c.args.id.0 c.in-Ok.i e c.requires c.in-Ok.ensures.bound (at e) ∙ ap Some (sym c.index-files-i.is) ∙ ap Some (sym c.record.ensures.value)
 
 pub returns-in-Err : goal.returns-in-Err
 returns-in-Err c =
