@@ -94,7 +94,7 @@ chains::farthest-returns-in_err-answer-clause-answer g t c =
     let rest = drop c.loop-operand.operand-index c.args.operands.now in
     let others = drop (c.loop-operand.operand-index + 1) c.args.operands.now in
     let item = next_item c.args.operands.now c.loop-operand.operand-index c.operand-item.result c.loop-operand-test.true c.operand-item.is in
-    let at = rw c.near_access.ensures at c.in_err-answer.ensures.answer in
+    let at = rw c.access_by_near_sides.ensures at c.in_err-answer.ensures.answer in
     let r = farthest_next c.args.direction (g.C.CountedLeaves.text c.args.source.now) rest others c.operand-item.result item c.args.k c.loop-operand.side (farthest c.args.direction (operand_lists (g.C.CountedLeaves.text c.args.source.now) c.args.operands.now) c.args.k c.args.k) c.loop-operand.invariant.answer None at in
     search rules
 
@@ -103,7 +103,7 @@ chains::farthest-loop-operand-preserved g t c =
     let rest = drop c.loop-operand.operand-index c.args.operands.now in
     let others = drop (c.loop-operand.operand-index + 1) c.args.operands.now in
     let item = next_item c.args.operands.now c.loop-operand.operand-index c.operand-item.result c.loop-operand-test.true c.operand-item.is in
-    let at = rw c.near_access.ensures at c.in_ok-answer.ensures.answer in
+    let at = rw c.access_by_near_sides.ensures at c.in_ok-answer.ensures.answer in
     let costs = costs_beside Forward (g.C.CountedLeaves.text c.args.source.now) (g.C.CountedLeaves.most c.args.source.now) rest c.operand-item.result others item in
     record {
       operands = (parts_beside Forward rest c.operand-item.result others item c.loop-operand.invariant.operands).rest;
@@ -119,7 +119,7 @@ chains::one_of-loop-operand-preserved g t c =
     let rest = drop c.loop-operand.operand-index c.args.operands.now in
     let others = drop (c.loop-operand.operand-index + 1) c.args.operands.now in
     let item = next_item c.args.operands.now c.loop-operand.operand-index c.operand-item.result c.loop-operand-test.true c.operand-item.is in
-    let at = rw c.near_access.ensures at c.access-answer.ensures.answer in
+    let at = rw c.access_by_near_sides.ensures at c.access-answer.ensures.answer in
     let costs = costs_beside Forward (g.C.CountedLeaves.text c.args.source.now) (g.C.CountedLeaves.most c.args.source.now) rest c.operand-item.result others item in
     record {
       operands = (parts_beside Forward rest c.operand-item.result others item c.loop-operand.invariant.operands).rest;
@@ -157,7 +157,7 @@ pub chains::followed_by-returns-in_err-found-clause-answer : goal.chains::follow
 chains::followed_by-returns-in_err-found-clause-answer g t c =
     let near_is = c.in_ok-nearest.ensures in
     let far_is = rw c.opposite.ensures at c.in_ok-before_farthest.ensures in
-    let found = rw c.near_access.ensures at c.in_err-found.ensures.answer in
+    let found = rw c.access_by_near_sides.ensures at c.in_err-found.ensures.answer in
     let r = seq_found c.args.direction (g.C.CountedLeaves.text c.args.source.now) c.args.operands.now c.in_ok-nearest.after_nearest.now c.in_ok-before_farthest.before_farthest.now c.in_ok-nearest.nearest.now c.in_ok-before_farthest.field-0-0.now near_is far_is c.args.k None found in
     search rules
 
@@ -170,7 +170,7 @@ pub chains::followed_by-returns-in_err-far-clause-answer : goal.chains::followed
 chains::followed_by-returns-in_err-far-clause-answer g t c =
     let near_is = c.in_ok-nearest.ensures in
     let far_is = rw c.opposite.ensures at c.in_ok-before_farthest.ensures in
-    let found = rw c.near_access.ensures at c.in_ok-found.ensures.answer in
+    let found = rw c.access_by_near_sides.ensures at c.in_ok-found.ensures.answer in
     let r = seq_far c.args.direction (g.C.CountedLeaves.text c.args.source.now) c.args.operands.now c.in_ok-nearest.after_nearest.now c.in_ok-before_farthest.before_farthest.now c.in_ok-nearest.nearest.now c.in_ok-before_farthest.field-0-0.now near_is far_is c.args.k c.in_ok-found.found found None c.in_err-far.ensures.answer in
     search rules
 
@@ -183,7 +183,7 @@ pub chains::followed_by-returns-in_err-near-clause-answer : goal.chains::followe
 chains::followed_by-returns-in_err-near-clause-answer g t c =
     let near_is = c.in_ok-nearest.ensures in
     let far_is = rw c.opposite.ensures at c.in_ok-before_farthest.ensures in
-    let found = rw c.near_access.ensures at c.in_ok-found.ensures.answer in
+    let found = rw c.access_by_near_sides.ensures at c.in_ok-found.ensures.answer in
     let back = rw c.opposite-2.ensures at c.in_err-near.ensures.answer in
     let r = seq_near c.args.direction (g.C.CountedLeaves.text c.args.source.now) c.args.operands.now c.in_ok-nearest.after_nearest.now c.in_ok-before_farthest.before_farthest.now c.in_ok-nearest.nearest.now c.in_ok-before_farthest.field-0-0.now near_is far_is c.args.k c.in_ok-found.found c.in_ok-far.far found c.in_ok-far.ensures.answer None back in
     search rules
@@ -204,7 +204,7 @@ pub chains::followed_by-join-requires : goal.chains::followed_by-join-requires
 chains::followed_by-join-requires g t c =
     let near_is = c.in_ok-nearest.ensures in
     let far_is = rw c.opposite.ensures at c.in_ok-before_farthest.ensures in
-    let found = rw c.near_access.ensures at c.in_ok-found.ensures.answer in
+    let found = rw c.access_by_near_sides.ensures at c.in_ok-found.ensures.answer in
     let back = rw c.opposite-2.ensures at c.in_ok-near.ensures.answer in
     joins c.args.direction (g.C.CountedLeaves.text c.args.source.now) (seq (operand_forms c.args.operands.now)) c.args.k c.in_ok-near.near c.in_ok-far.far
     (seq_near c.args.direction (g.C.CountedLeaves.text c.args.source.now) c.args.operands.now c.in_ok-nearest.after_nearest.now c.in_ok-before_farthest.before_farthest.now c.in_ok-nearest.nearest.now c.in_ok-before_farthest.field-0-0.now near_is far_is c.args.k c.in_ok-found.found c.in_ok-far.far found c.in_ok-far.ensures.answer (Some c.in_ok-near.near) back)
@@ -213,7 +213,7 @@ pub chains::followed_by-returns-clause-answer : goal.chains::followed_by-returns
 chains::followed_by-returns-clause-answer g t c =
     let near_is = c.in_ok-nearest.ensures in
     let far_is = rw c.opposite.ensures at c.in_ok-before_farthest.ensures in
-    let found = rw c.near_access.ensures at c.in_ok-found.ensures.answer in
+    let found = rw c.access_by_near_sides.ensures at c.in_ok-found.ensures.answer in
     let back = rw c.opposite-2.ensures at c.in_ok-near.ensures.answer in
     ap Some c.join.ensures ∙ seq_near c.args.direction (g.C.CountedLeaves.text c.args.source.now) c.args.operands.now c.in_ok-nearest.after_nearest.now c.in_ok-before_farthest.before_farthest.now c.in_ok-nearest.nearest.now c.in_ok-before_farthest.field-0-0.now near_is far_is c.args.k c.in_ok-found.found c.in_ok-far.far found c.in_ok-far.ensures.answer (Some c.in_ok-near.near) back
 
@@ -231,7 +231,7 @@ chains::walk-returns-in_err-from-clause-answer g t c =
 
 pub chains::walk-returns-in_err-answer-clause-answer : goal.chains::walk-returns-in_err-answer-clause-answer
 chains::walk-returns-in_err-answer-clause-answer g t c =
-    let at = rw c.near_access.ensures at c.in_err-answer.ensures.answer in
+    let at = rw c.access_by_near_sides.ensures at c.in_err-answer.ensures.answer in
     let r = walk_next c.args.direction (g.C.CountedLeaves.text c.args.source.now) c.loop-operand.rest.now c.in-Some.others.now c.in-Some.operand.now c.in-Some.ensures c.loop-operand.answer (walk c.args.direction (operand_lists (g.C.CountedLeaves.text c.args.source.now) c.args.operands.now) c.args.start) c.loop-operand.invariant.answer c.in_ok-from.from c.in_ok-from.ensures.value None at in
     search rules
 
@@ -242,7 +242,7 @@ chains::walk-returns-in_err-answer-clause-cost g t c =
 
 pub chains::walk-loop-operand-preserved : goal.chains::walk-loop-operand-preserved
 chains::walk-loop-operand-preserved g t c =
-    let at = rw c.near_access.ensures at c.in_ok-answer.ensures.answer in
+    let at = rw c.access_by_near_sides.ensures at c.in_ok-answer.ensures.answer in
     let depth = depth_beside c.args.direction c.loop-operand.rest.now c.in-Some.operand.now c.in-Some.others.now c.in-Some.ensures in
     let costs = costs_beside c.args.direction (g.C.CountedLeaves.text c.args.source.now) (g.C.CountedLeaves.most c.args.source.now) c.loop-operand.rest.now c.in-Some.operand.now c.in-Some.others.now c.in-Some.ensures in
     record {
