@@ -10,7 +10,10 @@ ghost use Rattle.gcl_eval.specs.Operands.{operand_forms, operand_lists, operand_
 ghost use Rattle.gcl_eval.specs.Directions.{access_of, near_access, far_access, farthest, walk, passed};
 
 use crate::access::access;
-use crate::direction::{Access, access_by_near_sides, better, between, beyond, farther, join, next_operand, opposite, outside, resume};
+use crate::direction::{
+    Access, access_by_near_sides, better, between, beyond, farther, join, next_operand, opposite,
+    outside, resume,
+};
 use gcl_model::{CountedLeaves, Direction, Expr, Interval};
 
 /// An access of a chain: by two rounds of its operands' near accesses at most, or by four.
@@ -214,7 +217,13 @@ fn walk<C: CountedLeaves>(
     let mut rest = operands;
     while let Some((operand, others)) = next_operand(direction, rest) {
         let from = beyond(direction, answer)?;
-        answer = access(operand, access_by_near_sides(direction), source, from, counter)?;
+        answer = access(
+            operand,
+            access_by_near_sides(direction),
+            source,
+            from,
+            counter,
+        )?;
         rest = others;
     }
     Some(answer)

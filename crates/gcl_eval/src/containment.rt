@@ -47,7 +47,11 @@ pub(crate) fn goes_by(containment: Containment, direction: Direction) -> Access
 }
 
 /// What the loop asks of the second operand at a member of the first: an access and its position.
-pub(crate) fn question(containment: Containment, direction: Direction, member: Interval) -> (Access, u64)
+pub(crate) fn question(
+    containment: Containment,
+    direction: Direction,
+    member: Interval,
+) -> (Access, u64)
     requires { member.end < address_end }
     ensures asks { (list : List Extent) → access_of result.0 list result.1 ≡ (loop_of direction containment).ask list member }
     ensures below { result.1 < far }

@@ -77,7 +77,11 @@ pub(crate) fn between(direction: Direction, near: u64, far: u64) -> Interval
 }
 
 /// The better of two answers of "one of".
-pub(crate) fn better(direction: Direction, best: Option<Interval>, answer: Option<Interval>) -> Option<Interval>
+pub(crate) fn better(
+    direction: Direction,
+    best: Option<Interval>,
+    answer: Option<Interval>,
+) -> Option<Interval>
     ensures { result ≡ better direction best answer }
 {
     match direction {

@@ -7,7 +7,8 @@ ghost use Rattle.gcl_model.specs.WellFormed.{IsWellFormed, AreWellFormed};
 use crate::direction::Access;
 use crate::{count, first_end, first_start, last_end, last_start, list, list_from};
 use gcl_model::{
-    Bytes, Containment, Expr, Interval, IntervalList, Ledger, Question, Steps, TokenList, counted, uncounted,
+    Bytes, Containment, Expr, Interval, IntervalList, Ledger, Question, Steps, TokenList, counted,
+    uncounted,
 };
 use plain_text::{PlainText, of_tokens, slow_list};
 use std::alloc::{AllocError, Global};

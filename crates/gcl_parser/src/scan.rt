@@ -6,8 +6,8 @@ ghost use Rattle.gcl_parser.specs.Scanned.{shown, HasRange, IsPiece, IsNext, tok
 
 use crate::fault::QueryKind;
 use crate::token::{Joint, PlacedToken, Token};
-use gcl_model::Containment;
 use crate::width::{digit_count, width_of};
+use gcl_model::Containment;
 use memchr::memchr;
 use word_tokens::token_count;
 
