@@ -1,10 +1,10 @@
 -- The script, turn by turn.
-use Rattle.std.proofs.Common.{◌≡◌, ℕ, suc, ◌+◌, List, [], ◌∷◌, ◌++◌, sym, ap, ◌∙◌, append_assoc, codes}
+use Rattle.std.proofs.Common.{◌≡◌, ℕ, suc, ◌+◌, ◌*◌, ◌-◌, ◌≤◌, List, [], ◌∷◌, ◌++◌, length, length-append, refl, sym, ap, ◌∙◌, append_assoc, codes, arith}
 use Rattle.std.specs.Prelude.{decimal}
 use Rattle.std.proofs.lemmas.List.{append-nil}
 use Rattle.std.proofs.lemmas.Grind.{flat_map-append}
 use Rattle.made_corpus.specs.Draws.{next_state, draw}
-use Rattle.made_corpus.specs.MadeLines.{DrawnLines, followed, text_of_lines, count_from, top_from, turn_from, turns_from, HasDrawnLines}
+use Rattle.made_corpus.specs.MadeLines.{DrawnLines, followed, text_of_lines, count_from, top_from, add_from, change_from, find_from, turn_from, turns_from, HasDrawnLines}
 
 -- the text of lines that come in two parts
 text_of_both : (front later : List (List ℕ)) → text_of_lines (front ++ later) ≡ text_of_lines front ++ text_of_lines later
@@ -63,3 +63,35 @@ script-step n m i j state after out out_1 whole is next put was =
 -- no turn is left
 pub script-done : (n i state : ℕ) (out whole : List ℕ) → n ≡ 0 → out ++ text_of_lines (turns_from n i state) ≡ whole → out ≡ whole
 script-done n i state out whole is was = sym (append-nil out) ∙ ap (λ k. out ++ text_of_lines (turns_from k i state)) (sym is) ∙ was
+
+-- a turn has a line to add its file, three queries, and those of its change
+pub turn_length : (i state n : ℕ) → n ≡ length (change_from i state).lines → 4 + n ≡ length (turn_from i state).lines
+turn_length i state n is =
+    let added : DrawnLines = followed (add_from i state) (change_from i) in
+    let found : DrawnLines = followed added find_from in
+    let counted : DrawnLines = followed found count_from in
+    let adds : length added.lines ≡ 1 + length (change_from i state).lines = length-append (add_from i state).lines (change_from i state).lines in
+    let finds : length found.lines ≡ length added.lines + 1 = length-append added.lines (find_from added.state).lines in
+    let counts : length counted.lines ≡ length found.lines + 1 = length-append found.lines (count_from found.state).lines in
+    let tops : length (turn_from i state).lines ≡ length counted.lines + 1 = length-append counted.lines (top_from counted.state).lines in
+    let sum : 4 + n ≡ (((1 + n) + 1) + 1) + 1 = omega arith in
+    sum ∙ sym (tops ∙ ap (λ m. m + 1) (counts ∙ ap (λ m. m + 1) (finds ∙ ap (λ m. m + 1) (adds ∙ ap (λ m. 1 + m) (sym is)))))
+
+-- one turn more is counted
+pub script-count : (n m i j state after lines more : ℕ) (whole : List (List ℕ)) → n ≡ suc m → j ≡ i + 1 → after ≡ (turn_from i state).state → more ≡ length (turn_from i state).lines →
+    lines + length (turns_from n i state) ≡ length whole → (lines + more) + length (turns_from m j after) ≡ length whole
+script-count n m i j state after lines more whole is next put turn was =
+    let drawn : DrawnLines = turn_from i state in
+    let left : turns_from n i state ≡ drawn.lines ++ turns_from m (i + 1) drawn.state = ap (λ k. turns_from k i state) is in
+    let rest : turns_from m j after ≡ turns_from m (i + 1) drawn.state = ap (λ k. turns_from m k after) next ∙ ap (λ s. turns_from m (i + 1) s) put in
+    let all : length (turns_from n i state) ≡ length drawn.lines + length (turns_from m (i + 1) drawn.state) = ap length left ∙ length-append drawn.lines (turns_from m (i + 1) drawn.state) in
+    let same : length (turns_from m j after) ≡ length (turns_from m (i + 1) drawn.state) = ap length rest in
+    let sums : (a b c d : ℕ) → (a + b) + c ≡ a + (b + c) = λ a b c d. omega arith in
+    ap (λ k. (lines + more) + k) same ∙ ap (λ k. (lines + k) + length (turns_from m (i + 1) drawn.state)) turn
+    ∙ sums lines (length drawn.lines) (length (turns_from m (i + 1) drawn.state)) 0 ∙ ap (λ k. lines + k) (sym all) ∙ was
+
+-- no turn is left to count
+pub script-counted : (n i state lines : ℕ) (whole : List (List ℕ)) → n ≡ 0 → lines + length (turns_from n i state) ≡ length whole → lines ≡ length whole
+script-counted n i state lines whole is was =
+    let none : lines ≡ lines + 0 = omega arith in
+    none ∙ ap (λ k. lines + length (turns_from k i state)) (sym is) ∙ was

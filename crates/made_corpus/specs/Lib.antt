@@ -3,3 +3,5 @@ pub mod Draws
 pub mod MadeFiles
 pub mod MadeLines
 pub mod Summary
+pub mod Counted
+pub mod Taken

@@ -9,6 +9,7 @@
 //! Example: from 0 the first number below 100 is 7.
 #![tactic(auto)]
 
+mod counts;
 mod draws;
 mod files;
 mod items;
@@ -16,9 +17,12 @@ mod lines;
 mod names;
 mod put;
 mod script;
+mod summary;
+mod taken;
 
 pub use files::MadeFiles;
-pub use script::made_script;
+pub use script::{MadeScript, made_script};
+pub use summary::SummarySink;
 
 #[cfg(test)]
 mod tests;

@@ -1,4 +1,4 @@
-ghost use Rattle.std.specs.Prelude.{◌≡◌, ◌<◌, ◌+◌, ◌^◌, ◌-◌, ◌++◌, OnOk, codes, decimal};
+ghost use Rattle.std.specs.Prelude.{◌≡◌, ◌<◌, ◌≤◌, ◌+◌, ◌^◌, ◌-◌, ◌++◌, OnOk, IfOk, length, codes, decimal};
 ghost use Rattle.made_corpus.specs.MadeLines.{quoted, add_from, change_from, find_from, count_from, top_from, turn_from, HasDrawnLines};
 
 use crate::draws::Draws;
@@ -20,16 +20,20 @@ fn put_add(out: &mut Vec<u8>, draws: &Draws, i: u64) -> Result<(), AllocError>
     put_between(out, b"add m", i, b"\n")
 }
 
-fn put_change(out: &mut Vec<u8>, draws: &mut Draws, i: u64) -> Result<(), AllocError>
+// There is a line or none.
+fn put_change(out: &mut Vec<u8>, draws: &mut Draws, i: u64) -> Result<u64, AllocError>
     requires { i < 2 ^ 64 - 1 }
-    ensures { OnOk result (HasDrawnLines (change_from i draws.old.state) out.old.items out.new.items draws.new.state) }
+    ensures lines { OnOk result (HasDrawnLines (change_from i draws.old.state) out.old.items out.new.items draws.new.state) }
+    ensures number { IfOk result (λ n. n ≡ length (change_from i draws.old.state).lines) }
+    ensures few { IfOk result (λ n. n ≤ 1) }
 {
     match draws.draw(10) {
-        0 | 1 => put_between(out, b"del ", draws.draw(i + 1), b"\n"),
-        2 => put_text(out, b"merge\n"),
-        3 => put_text(out, b"shards\n"),
-        _ => Ok(()),
+        0 | 1 => put_between(out, b"del ", draws.draw(i + 1), b"\n")?,
+        2 => put_text(out, b"merge\n")?,
+        3 => put_text(out, b"shards\n")?,
+        _ => return Ok(0),
     }
+    Ok(1)
 }
 
 fn put_find(out: &mut Vec<u8>, draws: &mut Draws) -> Result<(), AllocError>
@@ -57,15 +61,17 @@ fn put_top(out: &mut Vec<u8>, draws: &mut Draws) -> Result<(), AllocError>
     put_between(out, b"\"w", draws.draw(50), b"\") < [20]\n")
 }
 
-/// Appends the lines of the turn of file `i`.
-pub fn put_turn(out: &mut Vec<u8>, draws: &mut Draws, i: u64) -> Result<(), AllocError>
+/// Appends the lines of the turn of file `i`, and says how many these are.
+pub fn put_turn(out: &mut Vec<u8>, draws: &mut Draws, i: u64) -> Result<u64, AllocError>
     requires { i < 2 ^ 64 - 1 }
-    ensures { OnOk result (HasDrawnLines (turn_from i draws.old.state) out.old.items out.new.items draws.new.state) }
+    ensures number { IfOk result (λ n. n ≡ length (turn_from i draws.old.state).lines) }
+    ensures few { IfOk result (λ n. n ≤ 5) }
+    ensures lines { OnOk result (HasDrawnLines (turn_from i draws.old.state) out.old.items out.new.items draws.new.state) }
 {
     put_add(out, draws, i)?;
-    put_change(out, draws, i)?;
+    let changes = put_change(out, draws, i)?;
     put_find(out, draws)?;
     put_count(out, draws)?;
     put_top(out, draws)?;
-    Ok(())
+    Ok(4 + changes)
 }

@@ -1,6 +1,6 @@
 use crate::draws::Draws;
-use crate::{MadeFiles, made_script};
-use outside::{Files, Loaded};
+use crate::{MadeFiles, SummarySink, made_script};
+use outside::{Files, Loaded, Sink};
 use std::test::Fail;
 
 #[test]
@@ -111,10 +111,35 @@ fn a_script_has_a_turn_for_each_file(rt: HostRuntime) -> Result<(), Fail> {
     for (start, count, script) in cases {
         assert!(rt; count <= 10_000);
         assert_eq!(rt;
-            made_script(rt.alloc(), start, count)?.as_slice(),
+            made_script(rt.alloc(), start, count)?.text.as_slice(),
             script,
             "{start} {count}"
         );
+    }
+    Ok(())
+}
+
+#[test]
+fn a_summary_tells_refusals_bytes_and_their_sum(rt: HostRuntime) -> Result<(), Fail> {
+    // the pieces of a text, and the last three lines
+    let cases: [(&[&[u8]], &[u8]); 5] = [
+        (&[], b"refused 0\nbytes 0\nsum 0\n"),
+        (&[b"= 2\n"], b"refused 0\nbytes 4\nsum 153\n"),
+        (&[b"! no", b" file 7\n= 1\n!"], b"refused 2\nbytes 17\nsum 1016\n"),
+        (&[b"a!\n", b"!", b"!"], b"refused 1\nbytes 5\nsum 206\n"),
+        (&[b"\n", b"\n!"], b"refused 1\nbytes 3\nsum 53\n"),
+    ];
+    for (pieces, told) in cases {
+        let mut sink = SummarySink::new();
+        for piece in pieces {
+            assert_eq!(rt; sink.write(piece)?, piece.len());
+        }
+        let script = made_script(rt.alloc(), 7, 2)?;
+        let mut out = Vec::new(rt.alloc());
+        sink.put_summary(&mut out, 7, 2, script.lines)?;
+        let mut want = Vec::from_slice(rt.alloc(), b"made 7 2\nlines 9\n")?;
+        want.extend_from_slice(told)?;
+        assert_eq!(rt; out.as_slice(), want.as_slice());
     }
     Ok(())
 }

@@ -1,0 +1,90 @@
+ghost use Rattle.std.specs.Prelude.{◌≡◌, ◌++◌, ◌∷◌, [], Some, IfSome, OnOk, length, decimal};
+ghost use Rattle.made_corpus.specs.Counted.{AreCountsOf};
+ghost use Rattle.made_corpus.specs.MadeLines.{made_lines};
+ghost use Rattle.made_corpus.specs.Summary.{summary};
+
+use crate::counts::Counts;
+use crate::put::{put_number, put_text};
+use crate::taken::Taken;
+use outside::{Sink, WriteError};
+use std::alloc::AllocError;
+
+/// Takes a text and keeps of it only what a summary tells. It never fails; NoMemory comes where a number would not fit into 64 bits.
+#[derive(Drop)]
+pub struct SummarySink {
+    counts: Counts,
+    taken: Taken,
+    ghost counted: { AreCountsOf counts taken },
+}
+
+impl SummarySink {
+    /// Nothing was taken yet. It takes no memory.
+    pub fn new() -> Self
+        ensures { ⟦<SummarySink as Sink>⟧.written result ≡ Some [] }
+    {
+        SummarySink {
+            counts: Counts::none(),
+            taken: Taken::none(),
+        }
+    }
+
+    // One that took a byte more, None where a number has no room for it.
+    fn with(&self, byte: u8) -> Option<SummarySink>
+        ensures { IfSome result (λ sink. sink.taken ≡ self.now.taken ++ byte ∷ []) }
+    {
+        let counts = self.counts.with(byte)?;
+        let taken = self.taken.with(byte);
+        Some(SummarySink { counts, taken })
+    }
+
+    /// Appends what is told of a run over so many files from this number, whose script has so many lines: five lines, of which the
+    /// last three are those of the text that was taken.
+    pub fn put_summary(
+        &self,
+        out: &mut Vec<u8>,
+        start: u64,
+        count: u64,
+        lines: u64,
+    ) -> Result<(), AllocError>
+        requires { lines ≡ length (made_lines start count) }
+        ensures { IfSome (⟦<SummarySink as Sink>⟧.written self.now) (λ text. OnOk result (out.new.items ≡ out.old.items ++ summary start count text)) }
+    {
+        put_text(out, b"made ")?;
+        put_number(out, start)?;
+        put_text(out, b" ")?;
+        put_line(out, b"", count)?;
+        put_line(out, b"lines ", lines)?;
+        put_line(out, b"refused ", self.counts.refused)?;
+        put_line(out, b"bytes ", self.counts.bytes)?;
+        put_line(out, b"sum ", self.counts.sum)?;
+        Ok(())
+    }
+}
+
+impl Sink for SummarySink {
+    ghost written = { λ s. Some s.taken };
+
+    ghost faults = { λ _. 0 };
+
+    fn write(&mut self, piece: &[u8]) -> Result<usize, WriteError> {
+        let mut count = 0;
+        for byte in piece {
+            match self.with(*byte) {
+                Some(sink) => *self = sink,
+                None if count > 0 => return Ok(count),
+                None => return Err(WriteError::NoMemory),
+            }
+            count += 1;
+        }
+        Ok(count)
+    }
+}
+
+// A number behind its name, on a line of its own.
+fn put_line(out: &mut Vec<u8>, name: &[u8], n: u64) -> Result<(), AllocError>
+    ensures { OnOk result (out.new.items ≡ out.old.items ++ name.now ++ decimal n ++ 10 ∷ []) }
+{
+    put_text(out, name)?;
+    put_number(out, n)?;
+    put_text(out, b"\n")
+}
