@@ -1,7 +1,7 @@
 -- How often a length can be halved.
-use Rattle.std.proofs.Common.{◌≡◌, ℕ, zero, suc, ◌+◌, ◌-◌, ◌*◌, ◌/◌, ◌^◌, ◌<◌, ◌≤◌, Bool, true, ap, ◌∙◌, sym, arith}
-use Rattle.std.proofs.Math.Nat.{pow-suc, mul-le-mul_left, one-le-pow, mul_assoc}
-use Rattle.posting_access.specs.Search.{HasDigits, RisesByDigits}
+use Rattle.std.proofs.Common.{◌≡◌, ℕ, zero, suc, ◌+◌, ◌-◌, ◌*◌, ◌/◌, ◌^◌, ◌<◌, ◌≤◌, Bool, true, ap, ◌∙◌, arith}
+use Rattle.std.proofs.Math.Nat.{pow-suc, mul-le-mul_left, mul_assoc}
+use Rattle.posting_access.specs.Search.{RisesByDigits}
 
 -- after some turns, each of which halved what was left
 pub record IsHalved (whole left before now : ℕ) : Type 0 where

@@ -1,3 +1,4 @@
 pub mod Searches
 pub mod Digits
+pub mod Ranks
 mod Worked

@@ -194,7 +194,7 @@ one_above k above p is small =
       | inr within ↦ lt-ltb p above (omega (arith, within, is, small)) ∙ sym (le-leb p k within)
     ]
 
-block_rises : (xs : List ℕ) (b : ℕ) → ArePostings xs → RiseWithin 0 (2 ^ 56) (block_of xs b)
+pub block_rises : (xs : List ℕ) (b : ℕ) → ArePostings xs → RiseWithin 0 (2 ^ 56) (block_of xs b)
 block_rises xs b r = take_rises 0 (2 ^ 56) (drop (64 * b) xs) 64 (rise_drop 0 (2 ^ 56) xs (64 * b) r)
 
 pub greatest_found : (xs : List ℕ) (k last near above : ℕ) (r : Option ℕ) → IsNear xs k near → near ≡ last + 1 → above ≡ min (k + 1) (2 ^ 64 - 1) →

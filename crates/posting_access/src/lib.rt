@@ -1,9 +1,9 @@
-//! Look-ups in one posting list: the least address from `k` on, and the greatest up to `k`.
+//! Look-ups in one posting list: the least address from `k` on, the greatest up to `k`, and how many are below `k`.
 //!
 //! Contracts see a plain list of addresses, and a counter of probes, which each reading of a block's first address
 //! raises by one. A look-up halves over the first addresses, so it probes no more often than the list's length has
 //! binary digits; then it goes through at most one block, no further than the answer, and takes no memory. In the list
-//! `2, 5, 9` the least address from 3 on is 5, and there is no greatest up to 1.
+//! `2, 5, 9` the least address from 3 on is 5, there is no greatest up to 1, and 2 are below 6.
 //!
 //! The one search is `border`: between two places it finds one that fails a test behind one that passes it. The layer
 //! above may narrow the places first, where it knows about where the border lies.
@@ -15,4 +15,4 @@ mod search;
 mod tests;
 
 pub use halving::{Test, border};
-pub use search::{BlocksUpTo, at_or_after, at_or_before};
+pub use search::{BlocksUpTo, at_or_after, at_or_before, rank};

@@ -1,11 +1,12 @@
-ghost use Rattle.std.specs.Prelude.{◌≡◌, ◌+◌, ◌*◌, ◌-◌, ◌<◌, ◌≤◌, length, slice_index, slice_get};
+ghost use Rattle.std.specs.Prelude.{◌≡◌, ◌+◌, ◌*◌, ◌-◌, ◌<◌, ◌≤◌, nat_lt, length, slice_index, slice_get};
+ghost use Rattle.std.specs.List.{prefix_len};
 ghost use Rattle.std.specs.Option.{option_to_list};
 ghost use Rattle.posting_code.specs.Postings.{blocks_of, block_of, ArePostings};
-ghost use Rattle.posting_access.specs.Search.{least_from, greatest_to, RisesByDigits};
+ghost use Rattle.posting_access.specs.Search.{least_from, greatest_to, count_below, RisesByDigits};
 
 use crate::halving::{Test, border};
 use gcl_model::{Ledger, Steps};
-use posting_code::PostingList;
+use posting_code::{BLOCK, PostingList};
 
 /// The blocks of a list that begin at `k` or before.
 #[derive(Drop)]
@@ -52,6 +53,19 @@ pub fn at_or_before<L: Ledger>(list: &PostingList, k: u64, probes: &mut Steps<L>
     list.around(last, k.saturating_add(1)).0
 }
 
+/// How many addresses are below `k`. Of `2, 5, 9` below 6 they are 2.
+pub fn rank<L: Ledger>(list: &PostingList, k: u64, probes: &mut Steps<L>) -> usize
+    ensures value { result ≡ count_below list.now k }
+    ensures probes { RisesByDigits (length list.now) probes.old probes.new }
+{
+    let near = blocks_up_to(list, k, probes);
+    if near == 0 {
+        return 0;
+    }
+    let last = near - 1;
+    BLOCK * last + rank_in_block(list, last, k)
+}
+
 /// How many blocks begin at or before `k`: they are the first ones.
 fn blocks_up_to<L: Ledger>(list: &PostingList, k: u64, probes: &mut Steps<L>) -> usize
     ensures within { result ≤ blocks_of list.now }
@@ -82,4 +96,21 @@ fn first_of_block<L: Ledger>(list: &PostingList, block: usize, probes: &mut Step
     }
     probes.tick();
     Some(list.block_first(block))
+}
+
+/// How many addresses of a block are below `k`.
+fn rank_in_block(list: &PostingList, block: usize, k: u64) -> usize
+    requires { block < blocks_of list.now }
+    ensures { result ≡ count_below (block_of list.now block) k }
+{
+    let mut members = [0; BLOCK];
+    let count = list.read_block(block, &mut members);
+    begin_below(&members[..count], k)
+}
+
+/// How many addresses stand before the first one that is not below `k`.
+fn begin_below(addresses: &[u64], k: u64) -> usize
+    ensures { result ≡ prefix_len (λ p. nat_lt p k) addresses.now }
+{
+    addresses.iter().take_while(|address| **address < k).count()
 }

@@ -1,7 +1,7 @@
 ghost use Rattle.std.specs.Prelude.{IfOk};
 ghost use Rattle.posting_code.specs.Postings.{ArePostings};
 
-use crate::search::{at_or_after, at_or_before};
+use crate::search::{at_or_after, at_or_before, rank};
 use gcl_model::{Ledger, Question, Steps, counted};
 use posting_code::{ADDRESS_END, PostingList, encode};
 use std::alloc::{AllocError, Global};
@@ -37,6 +37,29 @@ impl Question for Nearest<'_> {
             Side::AtOrAfter => at_or_after(self.list, self.k, probes),
             Side::AtOrBefore => at_or_before(self.list, self.k, probes),
         }
+    }
+}
+
+/// How many addresses are below `k`.
+#[derive(Drop)]
+struct Rank<'a> {
+    list: &'a PostingList,
+    k: u64,
+}
+
+impl Question for Rank<'_> {
+    ghost use Rattle.std.specs.Prelude.{◌+◌, ◌*◌, ⊤, length};
+
+    type Answer = usize;
+
+    ghost can_ask = { λ _. ⊤ };
+
+    ghost answers = { λ _ _. ⊤ };
+
+    ghost most = { λ asked _. 2 * length asked.list.now + 1 };
+
+    fn ask<L: Ledger>(&self, probes: &mut Steps<L>) -> usize {
+        rank(self.list, self.k, probes)
     }
 }
 
@@ -102,6 +125,40 @@ fn look_ups_are_those_of_a_look_at_each_address_within_the_digits_of_the_length(
                         "at {k}, {count} by {gap}"
                     );
                 }
+            }
+        }
+    }
+    Ok(())
+}
+
+#[test]
+fn a_rank_is_the_number_of_addresses_below_within_the_digits_of_the_length(
+    rt: HostRuntime,
+) -> Result<(), AllocError> {
+    // counts, and how many binary digits their blocks have
+    for (count, digits) in [
+        (0, 0),
+        (1, 1),
+        (63, 1),
+        (64, 1),
+        (65, 2),
+        (129, 2),
+        (1000, 5),
+    ] {
+        for gap in [1, 1 << 14, 1 << 46] {
+            let addresses = addresses(rt.alloc(), count, gap)?;
+            let list = encode(rt.alloc(), &addresses)?;
+            for member in &addresses {
+                for k in [member.wrapping_sub(1), *member, member.wrapping_add(1)] {
+                    let (below, probes) = counted(&Rank { list: &list, k });
+                    let want = addresses.iter().filter(|p| **p < k).count();
+                    assert_eq!(rt; below, want, "at {k}, {count} by {gap}");
+                    assert!(rt; probes <= digits, "at {k}, {count} by {gap}");
+                }
+            }
+            for (k, want) in [(0, 0), (u64::MAX, addresses.len())] {
+                let (below, _) = counted(&Rank { list: &list, k });
+                assert_eq!(rt; below, want, "at {k}, {count} by {gap}");
             }
         }
     }
