@@ -43,6 +43,14 @@ impl Mask {
         self.ranges.len()
     }
 
+    /// The dead ranges, in rising address.
+    pub fn ranges(&self) -> &[Range]
+        ensures value { result.now ≡ self.now }
+        ensures apart { AreRangesWithin 0 address_end self.now }
+    {
+        self.ranges.as_slice()
+    }
+
     /// The dead range that has the address. It takes no memory.
     pub fn dead(&self, p: u64) -> Option<Range>
         ensures value { result ≡ dead_range self.now p }

@@ -45,6 +45,9 @@ fn a_mask_has_the_ranges_that_it_was_given_joined_where_they_touch(
             assert!(rt; !mask.is_apart(added), "{first} to {last} of {given:?}");
         }
         assert_eq!(rt; mask.range_count(), want.len(), "{given:?}");
+        for (dead, (first, last)) in mask.ranges().iter().zip(want) {
+            assert_eq!(rt; (dead.first, dead.last), (*first, *last), "{given:?}");
+        }
         for p in 0..15u64 {
             assert_eq!(rt; mask.dead(p), among(want, p), "{p} in {given:?}");
         }

@@ -15,3 +15,5 @@ pub mod ChangeLaw
 pub mod PartLaws
 mod ChangeWorked
 pub mod TermLemmas
+pub mod CountLemmas
+pub mod MemberLemmas

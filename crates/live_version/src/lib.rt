@@ -16,6 +16,7 @@
 
 mod alive;
 mod changes;
+mod counts;
 mod deletion;
 mod files;
 mod laws;

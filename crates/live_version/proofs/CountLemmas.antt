@@ -1,0 +1,115 @@
+-- How many postings are alive, and how many words have a token.
+use Rattle.std.proofs.Common.{◌≡◌, ℕ, zero, suc, ◌+◌, ◌-◌, ◌<◌, ◌≤◌, Bool, true, false, not, cond, ◌||◌, leb, ltb, List, [], ◌∷◌, ◌++◌, length, length-append, filter, take, drop, get_or, refl, sym, ap, ◌∙◌, subst, arith, inl, inr}
+use Rattle.std.proofs.lemmas.Bool.{true≢false, cases_lt, le-leb, lt-leb, lt-ltb, le-ltb}
+use Rattle.gcl_model.specs.Limits.{address_end}
+use Rattle.gcl_model.specs.Slots.{SlotRange, AreRangesWithin}
+use Rattle.gcl_model.specs.Texts.{places}
+use Rattle.gcl_model.proofs.WordLists.{places-append}
+use Rattle.delete_mask.specs.Masks.{is_within, is_dead}
+use Rattle.delete_mask.proofs.MaskLemmas.{is_within-inside, is_within-before, is_within-behind, is_within-bounds}
+use Rattle.posting_code.proofs.Rising.{rise_length}
+use Rattle.posting_access.specs.Search.{count_below}
+use Rattle.live_version.specs.Contents.{SlotContent, VersionContent, IsVersion, live_of, live_words}
+use Rattle.live_version.specs.LookUps.{is_alive}
+use Rattle.live_version.proofs.WordLemmas.{places_rise, version_is_text}
+
+-- what a range has is what is below its end, less what is below its begin
+pub count_to_end : (range : SlotRange) (xs : List ℕ) → range.first ≤ range.last → count_below xs range.first + length (filter (is_within range) xs) ≡ count_below xs (range.last + 1)
+count_to_end range [] le = refl
+count_to_end range (x ∷ xs) le =
+    let rest = count_to_end range xs le in
+    elim (cases_lt x range.first) [
+      | inl before ↦
+          let below : ltb x range.first ≡ true = lt-ltb x range.first before in
+          let within : is_within range x ≡ false = is_within-before range x before in
+          let end : ltb x (range.last + 1) ≡ true = lt-ltb x (range.last + 1) (omega (arith, before, le)) in
+          rw (below, within, end) (omega (arith, rest))
+      | inr from ↦
+          let below : ltb x range.first ≡ false = le-ltb x range.first from in
+          elim (cases_lt range.last x) [
+            | inl behind ↦
+                let within : is_within range x ≡ false = is_within-behind range x behind in
+                let end : ltb x (range.last + 1) ≡ false = le-ltb x (range.last + 1) (omega (arith, behind)) in
+                rw (below, within, end) rest
+            | inr upto ↦
+                let within : is_within range x ≡ true = is_within-inside range x from upto in
+                let end : ltb x (range.last + 1) ≡ true = lt-ltb x (range.last + 1) (omega (arith, upto)) in
+                rw (below, within, end) (omega (arith, rest))
+          ]
+    ]
+
+-- what a range has is past every range before it
+pub range_above : (low end : ℕ) (mask : List SlotRange) (i : ℕ) (d : SlotRange) (p : ℕ) → AreRangesWithin low end mask → i < length mask → is_within (get_or mask i d) p ≡ true → low ≤ p
+range_above low end [] i d p r lt within = absurd (omega (arith, lt))
+range_above low end (range ∷ mask) zero d p r lt within = let from = (is_within-bounds range p within).0 in let first = r.0 in omega (arith, from, first)
+range_above low end (range ∷ mask) (suc i) d p r lt within =
+    let first = r.0 in
+    let some = r.1 in
+    let above = range_above (range.last + 1) end mask i d p r.3 (omega (arith, lt)) within in
+    omega (arith, first, some, above)
+
+-- and so no address of it is dead by those
+pub apart_before : (low end : ℕ) (mask : List SlotRange) (i : ℕ) (d : SlotRange) (p : ℕ) → AreRangesWithin low end mask → i < length mask → is_within (get_or mask i d) p ≡ true → is_dead (take i mask) p ≡ false
+apart_before low end [] i d p r lt within = absurd (omega (arith, lt))
+apart_before low end (range ∷ mask) zero d p r lt within = refl
+apart_before low end (range ∷ mask) (suc i) d p r lt within =
+    let above = range_above (range.last + 1) end mask i d p r.3 (omega (arith, lt)) within in
+    let outside : is_within range p ≡ false = is_within-behind range p (omega (arith, above)) in
+    rw outside (apart_before (range.last + 1) end mask i d p r.3 (omega (arith, lt)) within)
+
+-- an address is dead by the first ranges and one more
+pub dead_more : (mask : List SlotRange) (i : ℕ) (d : SlotRange) (p : ℕ) → i < length mask → is_dead (take (i + 1) mask) p ≡ (is_dead (take i mask) p || is_within (get_or mask i d) p)
+dead_more [] i d p lt = absurd (omega (arith, lt))
+dead_more (range ∷ mask) zero d p lt = here (is_within range p)
+  where
+    here : (b : Bool) → (b || false) ≡ (false || b)
+    here true = refl
+    here false = refl
+dead_more (range ∷ mask) (suc i) d p lt =
+    let next : suc i + 1 ≡ suc (i + 1) = omega arith in
+    rw next (here (is_within range p) (dead_more mask i d p (omega (arith, lt))))
+  where
+    here : (b : Bool) → is_dead (take (i + 1) mask) p ≡ (is_dead (take i mask) p || is_within (get_or mask i d) p) →
+        (b || is_dead (take (i + 1) mask) p) ≡ ((b || is_dead (take i mask) p) || is_within (get_or mask i d) p)
+    here true rest = refl
+    here false rest = rest
+
+-- where a second test passes none that a first one passes, those that fail the first are those that fail both and those that pass the second
+parted : (dead within both : ℕ → Bool) → ((x : ℕ) → both x ≡ (dead x || within x)) → ((x : ℕ) → within x ≡ true → dead x ≡ false) → (xs : List ℕ) →
+    length (filter (λ x. not (both x)) xs) + length (filter within xs) ≡ length (filter (λ x. not (dead x)) xs)
+parted dead within both joined apart [] = refl
+parted dead within both joined apart (x ∷ xs) =
+    here (dead x) (within x) (both x) (joined x) (apart x) (filter (λ y. not (both y)) xs) (filter within xs) (filter (λ y. not (dead y)) xs) (parted dead within both joined apart xs)
+  where
+    here : (d w b : Bool) → b ≡ (d || w) → (w ≡ true → d ≡ false) → (left taken all : List ℕ) → length left + length taken ≡ length all →
+        length (cond (not b) (x ∷ left) left) + length (cond w (x ∷ taken) taken) ≡ length (cond (not d) (x ∷ all) all)
+    here true true b is apart left taken all rest = absurd (true≢false (apart refl))
+    here true false true is apart left taken all rest = rest
+    here true false false is apart left taken all rest = absurd cc
+    here false true true is apart left taken all rest = omega (arith, rest)
+    here false true false is apart left taken all rest = absurd cc
+    here false false true is apart left taken all rest = absurd cc
+    here false false false is apart left taken all rest = omega (arith, rest)
+
+-- one dead range more takes what it has
+pub alive_less : (low end : ℕ) (mask : List SlotRange) (i : ℕ) (d : SlotRange) (xs : List ℕ) → AreRangesWithin low end mask → i < length mask →
+    length (filter (is_alive (take (i + 1) mask)) xs) + length (filter (is_within (get_or mask i d)) xs) ≡ length (filter (is_alive (take i mask)) xs)
+alive_less low end mask i d xs r lt =
+    parted (is_dead (take i mask)) (is_within (get_or mask i d)) (is_dead (take (i + 1) mask)) (λ p. dead_more mask i d p lt) (λ p within. apart_before low end mask i d p r lt within) xs
+
+-- the words of one slot more
+pub places_more : (slot : SlotContent) (slots : List SlotContent) (token : List ℕ) → length (places (live_of (slot ∷ slots)) token) ≡ length (places (live_words slot) token) + length (places (live_of slots) token)
+places_more slot slots token = ap length (places-append (live_words slot) (live_of slots) token) ∙ length-append (places (live_words slot) token) (places (live_of slots) token)
+
+-- without a dead range all postings are alive
+pub all_alive : (xs : List ℕ) → filter (is_alive []) xs ≡ xs
+all_alive [] = refl
+all_alive (x ∷ xs) = ap (λ ps. x ∷ ps) (all_alive xs)
+
+-- no token has more places than there are addresses
+pub few_places : (v : VersionContent) (token : List ℕ) → IsVersion v → length (places (live_of v.slots) token) ≤ address_end
+few_places v token is =
+    let rise = places_rise v.next v.first (live_of v.slots) token (version_is_text v is).rising in
+    let few = rise_length v.first v.next (places (live_of v.slots) token) rise in
+    let within = is.in_range in
+    omega (arith, few, within)

@@ -1,0 +1,95 @@
+ghost use Rattle.std.specs.Prelude.{◌≡◌, ◌≤◌, filter, length};
+ghost use Rattle.gcl_model.specs.Forms.{term};
+ghost use Rattle.gcl_model.specs.Limits.{address_end};
+ghost use Rattle.gcl_model.specs.Meaning.{concordance};
+ghost use Rattle.gcl_model.specs.Texts.{places};
+ghost use Rattle.delete_mask.specs.Masks.{is_within};
+ghost use Rattle.live_version.specs.Contents.{IsVersion, live_of, live_words, version_text};
+ghost use Rattle.live_version.specs.LookUps.{is_alive};
+ghost use Rattle.posting_access.specs.Search.{count_below};
+
+use crate::slot::Slot;
+use crate::version::Version;
+use address_space::Range;
+use delete_mask::Mask;
+use gcl_model::{Ledger, Question, Steps, uncounted};
+use posting_access::rank;
+use posting_code::PostingList;
+
+impl Version {
+    /// How many surviving words have the token: of each slot it takes the length of the term's list, less what each dead range holds of it.
+    /// It is no look-up and takes no memory. Where `to be or not to be` is deleted and `be` is not, `be` stands once.
+    pub fn count_of_term(&self, token: &[u8]) -> u64
+        ensures places { result ≡ length (places (live_of self.now.slots) token.now) }
+        ensures members { result ≡ length (concordance (version_text self.now) (term token.now)) }
+        ensures version { IsVersion self.now }
+    {
+        let slots = self.slots();
+        let mut count = 0;
+        for slot in slots {
+            count += slot.count_of_term(token);
+        }
+        count
+    }
+}
+
+impl Slot {
+    fn count_of_term(&self, token: &[u8]) -> u64
+        ensures { result ≡ length (places (live_words self.now) token.now) }
+    {
+        let shard = self.shard();
+        match shard.place(token) {
+            Some(place) => count_alive(shard.postings(place), self.mask()) as u64,
+            None => 0,
+        }
+    }
+}
+
+/// How many postings are not dead.
+fn count_alive(list: &PostingList, mask: &Mask) -> usize
+    ensures { result ≡ length (filter (is_alive mask.now) list.now) }
+{
+    let ranges = mask.ranges();
+    let mut count = list.len();
+    for range in ranges {
+        count -= count_within(list, range);
+    }
+    count
+}
+
+/// How many postings a range has.
+fn count_within(list: &PostingList, range: &Range) -> usize
+    ensures { result ≡ length (filter (is_within range.now) list.now) }
+{
+    rank_of(list, range.last + 1) - rank_of(list, range.first)
+}
+
+fn rank_of(list: &PostingList, k: u64) -> usize
+    ensures { result ≡ count_below list.now k }
+{
+    uncounted(&Rank { list, k })
+}
+
+/// How many postings are below `k`.
+#[derive(Drop)]
+struct Rank<'a> {
+    list: &'a PostingList,
+    k: u64,
+}
+
+impl Question for Rank<'_> {
+    ghost use Rattle.std.specs.Prelude.{◌≡◌, ◌+◌, ◌*◌, ⊤, length};
+    ghost use Rattle.posting_access.specs.Search.{count_below};
+
+    type Answer = usize;
+
+    ghost can_ask = { λ _. ⊤ };
+
+    ghost answers = { λ asked answer. answer ≡ count_below asked.list.now asked.k };
+
+    ghost most = { λ asked _. 2 * length asked.list.now + 1 };
+
+    fn ask<L: Ledger>(&self, probes: &mut Steps<L>) -> usize {
+        rank(self.list, self.k, probes)
+    }
+}
