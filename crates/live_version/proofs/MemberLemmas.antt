@@ -1,13 +1,13 @@
 -- The members of a term: one for each place of it.
-use Rattle.std.proofs.Common.{◌≡◌, ℕ, zero, suc, ◌+◌, ◌-◌, ◌<◌, ◌≤◌, Bool, true, false, ◌&&◌, eqb, List, [], ◌∷◌, ◌++◌, cond, length, map, flat_map, filter, bytes_eq, refl, sym, ap, ◌∙◌, subst, arith, le_refl, inl, inr}
+use Rattle.std.proofs.Common.{◌≡◌, ℕ, zero, suc, ◌+◌, ◌-◌, ◌<◌, ◌≤◌, Bool, true, false, eqb, List, [], ◌∷◌, ◌++◌, cond, length, map, flat_map, filter, bytes_eq, refl, sym, ap, ◌∙◌, subst, arith, le_refl, inl, inr}
 use Rattle.std.specs.List.{range_with_len}
 use Rattle.std.proofs.lemmas.Bool.{cases_Bool, cases_lt, eq-eqb, ne_eqb}
 use Rattle.std.proofs.lemmas.List.{length-map}
 use Rattle.std.proofs.lemmas.List.Elements.{filter-append}
-use Rattle.gcl_model.specs.Extents.{Extent, extent, all_extents}
+use Rattle.gcl_model.specs.Extents.{Extent, extent}
 use Rattle.gcl_model.specs.Forms.{term}
-use Rattle.gcl_model.specs.Meaning.{concordance, extents_where, is_term}
-use Rattle.gcl_model.specs.Texts.{Text, Word, IsText, AreRisingBelow, holds, is_word, places}
+use Rattle.gcl_model.specs.Meaning.{concordance, is_term}
+use Rattle.gcl_model.specs.Texts.{Text, Word, IsText, AreRisingBelow, holds, places}
 use Rattle.gcl_model.proofs.Places.{point}
 
 -- no address before the words holds a token
@@ -19,7 +19,7 @@ holds_before next low (w ∷ ws) token p r lt =
     rw other (holds_before next (w.address + 1) ws token p r.2 (omega (arith, first, lt)))
 
 -- among the addresses from p on, those that a test passes as words hold a token are its places
-marked : (test : ℕ → Bool) (words : List Word) (token : List ℕ) (n p end : ℕ) → end ≡ p + n → AreRisingBelow end p words → ((q : ℕ) → p ≤ q → test q ≡ holds words token q) → filter test (range_with_len p n) ≡ places words token
+pub marked : (test : ℕ → Bool) (words : List Word) (token : List ℕ) (n p end : ℕ) → end ≡ p + n → AreRisingBelow end p words → ((q : ℕ) → p ≤ q → test q ≡ holds words token q) → filter test (range_with_len p n) ≡ places words token
 marked test [] token zero p end is r tells = refl
 marked test (w ∷ ws) token zero p end is r tells = let a = r.0 in let b = r.1 in absurd (omega (arith, a, b, is))
 marked test [] token (suc n) p end is r tells =

@@ -46,7 +46,7 @@ impl Slot {
 }
 
 /// How many postings are not dead.
-fn count_alive(list: &PostingList, mask: &Mask) -> usize
+pub(crate) fn count_alive(list: &PostingList, mask: &Mask) -> usize
     ensures { result ≡ length (filter (is_alive mask.now) list.now) }
 {
     let ranges = mask.ranges();

@@ -40,4 +40,6 @@ pub use version::Version;
 #[cfg(test)]
 mod change_tests;
 #[cfg(test)]
+mod count_tests;
+#[cfg(test)]
 mod tests;

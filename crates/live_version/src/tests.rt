@@ -193,6 +193,15 @@ fn what_was_deleted_is_passed_as_a_whole(rt: HostRuntime) -> Result<(), Fail> {
 }
 
 #[test]
+fn a_count_is_of_the_words_that_survive(rt: HostRuntime) -> Result<(), Fail> {
+    let version = three_of_four(&rt, rt.alloc())?;
+    for (term, want) in [("be", 3), ("not", 1), ("or", 0), ("to", 3), ("who", 0)] {
+        assert_eq!(rt; version.count_of_term(term.as_bytes()), want, "{term}");
+    }
+    Ok(())
+}
+
+#[test]
 fn the_least_term_from_a_bound_on_is_that_of_any_slot(rt: HostRuntime) -> Result<(), Fail> {
     let version = three_of_four(&rt, rt.alloc())?;
     let cases = [

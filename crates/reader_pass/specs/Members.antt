@@ -1,9 +1,9 @@
 -- The members that a query on a pass finds, and the look-ups that it may take.
-use Rattle.std.specs.Prelude.{ℕ, ◌+◌, ◌*◌, List, take}
+use Rattle.std.specs.Prelude.{ℕ, ◌+◌, ◌*◌, Bool, false, List, take, bytes_eq}
 use Rattle.gcl_model.specs.Limits.{most_slots}
 use Rattle.gcl_model.specs.Extents.{Extent}
 use Rattle.gcl_model.specs.Texts.{Text}
-use Rattle.gcl_model.specs.Forms.{Form}
+use Rattle.gcl_model.specs.Forms.{Form, term, phrase, width, both, one, seq, containing, contained_in, not_containing, not_contained_in}
 use Rattle.gcl_model.specs.Meaning.{concordance}
 use Rattle.gcl_model.specs.Cost.{cost}
 use Rattle.gcl_eval.specs.Members.{members_from}
@@ -20,6 +20,19 @@ first_members_from text form k most = take most (members_from (concordance text 
 -- finding so many members, and that no more are wanted or there: each takes at most the cost of the expression
 abbrev pub look_ups : Text → ℕ → Form → ℕ → ℕ
 look_ups text most form members = (members + 1) * cost text most form
+
+-- whether the form is the term of this token
+abbrev pub is_the_term : List ℕ → Form → Bool
+is_the_term token (term other) = bytes_eq other token
+is_the_term token (phrase tokens) = false
+is_the_term token (width n) = false
+is_the_term token (both forms) = false
+is_the_term token (one forms) = false
+is_the_term token (seq forms) = false
+is_the_term token (containing a b) = false
+is_the_term token (contained_in a b) = false
+is_the_term token (not_containing a b) = false
+is_the_term token (not_contained_in a b) = false
 
 -- how many look-ups one access to a word of the version may make: one for each slot and each deletion
 abbrev pub access_most : VersionContent → ℕ

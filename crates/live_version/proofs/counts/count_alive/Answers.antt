@@ -1,9 +1,7 @@
-use Rattle.std.proofs.Common.{◌≡◌, ◌+◌, ◌-◌, ◌≤◌, length, filter, take, get_or, sym, ap, subst, ◌∙◌, arith}
-use Rattle.std.proofs.lemmas.List.{take_all}
+use Rattle.std.proofs.Common.{length, filter, sym, ap, subst, ◌∙◌, arith}
 use Rattle.gcl_model.specs.Limits.{address_end}
 use Rattle.gcl_model.specs.Slots.{SlotRange, AreRangesWithin}
 use Rattle.delete_mask.specs.Masks.{is_within}
-use Rattle.live_version.specs.LookUps.{is_alive}
 use Rattle.live_version.proofs.CountLemmas.{alive_less, all_alive}
 use Rattle.live_version.proofs.counts.count_alive.Goals as goal
 

@@ -1,7 +1,6 @@
-use Rattle.std.proofs.Common.{◌≡◌, ◌+◌, ◌-◌, length, filter, subst, sym, ap, ◌∙◌, arith}
+use Rattle.std.proofs.Common.{◌≡◌, ◌-◌, length, filter, subst, arith}
 use Rattle.gcl_model.specs.Slots.{SlotRange, slot_range}
 use Rattle.delete_mask.specs.Masks.{is_within}
-use Rattle.posting_access.specs.Search.{count_below}
 use Rattle.live_version.proofs.CountLemmas.{count_to_end}
 use Rattle.live_version.proofs.counts.count_within.Goals as goal
 

@@ -1,5 +1,4 @@
-use Rattle.std.proofs.Common.{◌≡◌, [], Some, length, filter, sym, ap, ◌∙◌}
-use Rattle.delete_mask.specs.Masks.{is_dead}
+use Rattle.std.proofs.Common.{length, filter, sym, ap, ◌∙◌}
 use Rattle.index_shard.specs.Tables.{ShardContent, postings_of}
 use Rattle.index_shard.proofs.TableLaws.{at_its_place, at_no_place}
 use Rattle.live_version.specs.LookUps.{is_alive}
