@@ -1,21 +1,28 @@
 -- How many members one of several terms has: the sum of what each different one has.
-use Rattle.std.proofs.Common.{◌≡◌, ℕ, zero, suc, ◌+◌, ◌-◌, ◌<◌, ◌≤◌, Bool, true, false, not, cond, ◌&&◌, ◌||◌, eqb, List, [], ◌∷◌, ◌++◌, length, map, filter, bytes_eq, refl, sym, ap, ◌∙◌, subst, arith, le_refl, inl, inr, ◌⊎◌}
-use Rattle.std.specs.List.{AllByRecursion, list_any, list_all, range_with_len}
-use Rattle.std.proofs.lemmas.Bool.{true≢false, cases_Bool, cases_lt, eq-eqb, ne_eqb, eqb-true, or_cases, and_parts, and_from}
-use Rattle.std.proofs.lemmas.List.{length-map}
-use Rattle.std.proofs.lemmas.List.Folds.{list_any-append}
+use Rattle.std.proofs.Common.{◌≡◌, ℕ, ◌+◌, ◌-◌, ◌<◌, ◌≤◌, Bool, true, false, not, cond, ◌&&◌, ◌||◌, eqb, List, [], ◌∷◌, ◌++◌, length, map, filter, take, get_or, bytes_eq, refl, sym, ap, ◌∙◌, arith, inl, inr}
+use Rattle.std.specs.List.{AllByRecursion, list_any, range_with_len}
+use Rattle.std.proofs.lemmas.Bool.{true≢false, cases_Bool, cases_lt, eq-eqb, ne_eqb, eqb-true, or_cases, and_from}
+use Rattle.std.proofs.lemmas.List.{length-map, map-append, take_more}
+use Rattle.std.proofs.lemmas.List.Sums.{length-filter, count_by-le-length}
+use Rattle.std.proofs.lemmas.List.FromFn.{length-range_with_len}
 use Rattle.std.proofs.lemmas.Slice.Eq.{bytes_eq-Decides}
+use Rattle.gcl_model.specs.declared.expr.Expr.{Expr, Term}
+use Rattle.gcl_model.specs.declared.expr.Expr.TheOpen as F
+use Rattle.gcl_model.specs.declared.expr.Expr.TheVariants.{rolls-Term}
+use Rattle.gcl_model.specs.declared.expr.Expr.TheFolds.{fold-roll-Expr}
+use Rattle.gcl_model.specs.Limits.{address_end}
 use Rattle.gcl_model.specs.Extents.{Extent, extent, is_nested, same_extent, contains_extent, is_least, all_extents}
-use Rattle.gcl_model.specs.Forms.{Form, Forms, term, one}
-use Rattle.gcl_model.specs.FormOf.{forms_from}
+use Rattle.gcl_model.specs.Forms.{Form, term, one}
+use Rattle.gcl_model.specs.FormOf.{form_of, form_step, forms_from}
 use Rattle.gcl_model.specs.Meaning.{concordance, operands, extents_where, is_minimal, any_contains}
-use Rattle.gcl_model.specs.Texts.{Text, Word, IsText, holds, is_word, places}
+use Rattle.gcl_model.specs.Texts.{Text, Word, IsText, holds, places}
 use Rattle.gcl_model.proofs.Lists.{all_filter}
-use Rattle.gcl_model.proofs.Covers.{Nested, nested_tells}
+use Rattle.gcl_model.proofs.Covers.{nested_tells}
 use Rattle.gcl_model.proofs.Minimal.{each_extent, IsProper}
 use Rattle.gcl_model.proofs.Places.{point}
 use Rattle.index_shard.specs.Tables.{has_address}
 use Rattle.index_shard.proofs.ShardWords.{rising_apart}
+use Rattle.reader_pass.specs.Members.{is_the_term}
 use Rattle.live_version.proofs.MemberLemmas.{points_pass, marked, term_members}
 
 abbrev pub IsPoint : Extent → Type 0
@@ -217,3 +224,35 @@ pub count_again : (text : Text) (tokens : List (List ℕ)) (token : List ℕ) �
 count_again text tokens token old =
     ap length (same_filter (any_stands text.words (tokens ++ token ∷ [])) (any_stands text.words tokens) (range_with_len text.first (text.next - text.first))
     (λ p. one_more text.words tokens token p ∙ stands_again text tokens token old p))
+
+nowhere : (words : List Word) (xs : List ℕ) → filter (any_stands words []) xs ≡ []
+nowhere words [] = refl
+nowhere words (x ∷ xs) = nowhere words xs
+
+pub none_count : (text : Text) → length (stands_in text []) ≡ 0
+none_count text = ap length (nowhere text.words (range_with_len text.first (text.next - text.first)))
+
+-- there are no more such addresses than addresses
+pub few_stand : (text : Text) (tokens : List (List ℕ)) → IsText text → length (stands_in text tokens) ≤ address_end
+few_stand text tokens sound =
+    let addresses = range_with_len text.first (text.next - text.first) in
+    let counted = length-filter (any_stands text.words tokens) addresses in
+    let most = count_by-le-length (any_stands text.words tokens) addresses in
+    let all : length addresses ≡ text.next - text.first = length-range_with_len text.first (text.next - text.first) in
+    let within = sound.in_range in
+    omega (arith, counted, most, all, within)
+
+-- a term is among terms where its token is among theirs
+pub among_terms : (tokens : List (List ℕ)) (token : List ℕ) → list_any (is_the_term token) (map term tokens) ≡ list_any (λ other. bytes_eq other token) tokens
+among_terms [] token = refl
+among_terms (other ∷ tokens) token = ap (λ b. bytes_eq other token || b) (among_terms tokens token)
+
+form_of-Term : (token : List ℕ) → form_of (Term token) ≡ term token
+form_of-Term token = ap form_of (sym (rolls-Term token)) ∙ fold-roll-Expr Form form_step (F.Term token)
+
+-- the first operands and one more are terms
+pub terms_more : (exprs : List Expr) (i : ℕ) (expr : Expr) (token : List ℕ) (tokens : List (List ℕ)) → i < length exprs → expr ≡ get_or exprs i expr → expr ≡ Term token → map form_of (take i exprs) ≡ map term tokens →
+    map form_of (take (i + 1) exprs) ≡ map term (tokens ++ token ∷ [])
+terms_more exprs i expr token tokens lt at is terms =
+    let more : take (i + 1) exprs ≡ take i exprs ++ Term token ∷ [] = take_more exprs i expr lt ∙ ap (λ x. take i exprs ++ x ∷ []) (sym at ∙ is) in
+    ap (map form_of) more ∙ map-append form_of (take i exprs) (Term token ∷ []) ∙ ap (λ forms. map form_of (take i exprs) ++ forms ∷ []) (form_of-Term token) ∙ ap (λ forms. forms ++ term token ∷ []) terms ∙ sym (map-append term tokens (token ∷ []))

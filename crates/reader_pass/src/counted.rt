@@ -38,6 +38,8 @@ fn told_count(version: &Version, expr: &Expr) -> Option<u64>
 fn count_of_one(version: &Version, operands: &[Expr]) -> Option<u64>
     ensures { IfSome result (λ count. count ≡ length (concordance (version_text version.now) (one (forms_from (map form_of operands.now))))) }
 {
+    // any call of a version tells that it is one
+    let _ = version.slot_count();
     let mut count = 0;
     for i in 0..operands.len() {
         let Expr::Term(token) = &operands[i] else {

@@ -197,6 +197,36 @@ fn a_count_leaps_over_a_hundred_thousand_words(rt: HostRuntime) -> Result<(), Fa
     Ok(())
 }
 
+#[test]
+fn a_term_and_one_of_several_terms_are_counted_without_a_look_up(
+    rt: HostRuntime,
+) -> Result<(), Fail> {
+    let alloc = rt.alloc();
+    let pass = pass_of(&rt, alloc, b"to be or not to be")?.expect(&rt, "one file");
+    let cases = [
+        ("\"to\"", 2),
+        ("\"who\"", 0),
+        ("\"to\"+\"be\"", 4),
+        ("\"to\"+\"be\"+\"to\"", 4),
+        ("\"who\"+\"not\"+\"who\"+\"not\"", 1),
+    ];
+    for (text, want) in cases {
+        let expr = query(alloc, text.as_bytes()).expect(&rt, "a query");
+        let found = counted(&Counting {
+            pass: &pass,
+            expr: &expr,
+        });
+        assert_eq!(rt; found, (want, 0), "{text}");
+    }
+    let expr = query(alloc, b"\"to\"+\"not to\"").expect(&rt, "a query");
+    let members = uncounted(&Counting {
+        pass: &pass,
+        expr: &expr,
+    });
+    assert_eq!(rt; members, 2);
+    Ok(())
+}
+
 fn lists_as_many_as_are_wanted<R: Abort>(
     rt: &R,
     alloc: Global,
