@@ -1,8 +1,8 @@
-ghost use Rattle.std.specs.Prelude.{◌≡◌, ◌≤◌, filter, length};
+ghost use Rattle.std.specs.Prelude.{◌≡◌, ◌<◌, filter, length};
 ghost use Rattle.gcl_model.specs.Forms.{term};
-ghost use Rattle.gcl_model.specs.Limits.{address_end};
 ghost use Rattle.gcl_model.specs.Meaning.{concordance};
 ghost use Rattle.gcl_model.specs.Texts.{places};
+ghost use Rattle.index_shard.specs.Tables.{addresses_at};
 ghost use Rattle.delete_mask.specs.Masks.{is_within};
 ghost use Rattle.live_version.specs.Contents.{IsVersion, live_of, live_words, version_text};
 ghost use Rattle.live_version.specs.LookUps.{is_alive};
@@ -37,11 +37,18 @@ impl Slot {
     fn count_of_term(&self, token: &[u8]) -> u64
         ensures { result ≡ length (places (live_words self.now) token.now) }
     {
-        let shard = self.shard();
-        match shard.place(token) {
-            Some(place) => count_alive(shard.postings(place), self.mask()) as u64,
+        match self.shard().place(token) {
+            Some(place) => self.count_at(place),
             None => 0,
         }
+    }
+
+    /// How many postings of the term at a place are not dead.
+    fn count_at(&self, place: usize) -> u64
+        requires { place < length self.now.shard.table }
+        ensures { result ≡ length (filter (is_alive self.now.mask) (addresses_at self.now.shard.table place)) }
+    {
+        count_alive(self.shard().postings(place), self.mask()) as u64
     }
 }
 
