@@ -1,0 +1,147 @@
+ghost use Rattle.std.specs.Prelude.{◌≡◌, ◌*◌, ◌-◌, ◌<◌, ◌≤◌, length, slice_index, slice_get, take};
+ghost use Rattle.index_shard.specs.Searched.{nearest};
+ghost use Rattle.posting_code.specs.Postings.{ArePostings, block_of, blocks_of};
+ghost use Rattle.posting_access.specs.Search.{least_from, greatest_to};
+ghost use Rattle.term_fingers.specs.Lists.{list_of};
+
+use crate::members::{greatest_in, least_in};
+use crate::naming::Naming;
+use crate::near::border_near;
+use gcl_model::{Direction, Ledger, Steps};
+use posting_access::BlocksUpTo;
+use posting_code::{BLOCK, PostingList};
+use std::marker::PhantomData;
+
+/// Where a term was last looked for: the members of one block of one list, and a place among them.
+// The list is told by the number of its slot and by its place there. While it is none, the block has no members.
+#[derive(Drop)]
+pub(crate) struct Finger<J: Naming> {
+    slot: usize,
+    place: usize,
+    block: usize,
+    count: usize,
+    members: [u64; 64],
+    at: usize,
+    of: PhantomData<J>,
+    ghost few: { count ≤ 64 },
+    ghost is: { 0 < count → take count members ≡ block_of (list_of J.version.slots slot place) block },
+}
+
+impl<J: Naming> Finger<J> {
+    /// On no list.
+    pub(crate) fn new() -> Self {
+        Finger {
+            slot: 0,
+            place: 0,
+            block: 0,
+            count: 0,
+            members: [0; BLOCK],
+            at: 0,
+            of: PhantomData,
+        }
+    }
+
+    /// The address that is nearest to `k` on one side, in the list at a place of the slot with this number.
+    pub(crate) fn nearest<P: Ledger>(
+        &mut self,
+        list: &PostingList,
+        slot: usize,
+        place: usize,
+        k: u64,
+        direction: Direction,
+        probes: &mut Steps<P>,
+    ) -> Option<u64>
+        requires { list.now ≡ list_of J.version.slots slot place }
+        ensures { result ≡ nearest direction list.now k }
+    {
+        match direction {
+            Direction::Forward => self.least(list, slot, place, k, probes),
+            Direction::Backward => self.greatest(list, slot, place, k, probes),
+        }
+    }
+
+    /// The least address at or after `k`.
+    fn least<P: Ledger>(
+        &mut self,
+        list: &PostingList,
+        slot: usize,
+        place: usize,
+        k: u64,
+        probes: &mut Steps<P>,
+    ) -> Option<u64>
+        requires { list.now ≡ list_of J.version.slots slot place }
+        ensures { result ≡ least_from list.now k }
+    {
+        let near = blocks_up_to(list, self.block, k, probes);
+        if list.len() == 0 {
+            return None;
+        }
+        self.read(list, slot, place, near.saturating_sub(1));
+        let (found, at) = least_in(&self.members[..self.count], self.at, k, probes);
+        self.at = at;
+        match found {
+            Some(address) => Some(address),
+            None => first_of_block(list, near),
+        }
+    }
+
+    /// The greatest address at or before `k`.
+    fn greatest<P: Ledger>(
+        &mut self,
+        list: &PostingList,
+        slot: usize,
+        place: usize,
+        k: u64,
+        probes: &mut Steps<P>,
+    ) -> Option<u64>
+        requires { list.now ≡ list_of J.version.slots slot place }
+        ensures { result ≡ greatest_to list.now k }
+    {
+        let near = blocks_up_to(list, self.block, k, probes);
+        let last = near.checked_sub(1)?;
+        self.read(list, slot, place, last);
+        let (found, behind) = greatest_in(&self.members[..self.count], self.at, k, probes);
+        self.at = behind;
+        found
+    }
+
+    /// Reads a block, unless it is the one that was read last.
+    fn read(&mut self, list: &PostingList, slot: usize, place: usize, block: usize)
+        requires list { list.now ≡ list_of J.version.slots slot place }
+        requires block { block < blocks_of list.now }
+        ensures members { take self.new.count self.new.members ≡ block_of list.now block }
+        ensures rising { ArePostings (block_of list.now block) }
+    {
+        // any call of the list tells that it rises
+        let _count = list.len();
+        if self.count > 0 && self.slot == slot && self.place == place && self.block == block {
+            return;
+        }
+        self.count = list.read_block(block, &mut self.members);
+        self.slot = slot;
+        self.place = place;
+        self.block = block;
+        self.at = 0;
+    }
+}
+
+/// How many blocks begin at or before `k`: they are the first ones. They are looked for from the block `hint` on.
+fn blocks_up_to<P: Ledger>(list: &PostingList, hint: usize, k: u64, probes: &mut Steps<P>) -> usize
+    ensures within { result ≤ blocks_of list.now }
+    ensures before { 0 < result → slice_index list.now (64 * (result - 1)) ≤ k }
+    ensures after { result < blocks_of list.now → k < slice_index list.now (64 * result) }
+    ensures rising { ArePostings list.now }
+{
+    border_near(&BlocksUpTo { list, k }, list.block_count(), hint, probes)
+}
+
+/// The first address of a block, if there is such a block.
+fn first_of_block(list: &PostingList, block: usize) -> Option<u64>
+    requires { block ≤ blocks_of list.now }
+    ensures { result ≡ slice_get list.now (64 * block) }
+{
+    if block == list.block_count() {
+        return None;
+    }
+    Some(list.block_first(block))
+}

@@ -1,0 +1,88 @@
+ghost use Rattle.std.specs.Prelude.{◌≡◌, ◌≤◌, Some, length, take};
+ghost use Rattle.gcl_model.specs.Limits.{most_slots};
+ghost use Rattle.index_shard.specs.Searched.{nearest};
+ghost use Rattle.index_shard.specs.Tables.{place_of, postings_of};
+ghost use Rattle.term_fingers.specs.Lists.{places_of, shard_at};
+
+use crate::finger::Finger;
+use crate::naming::Naming;
+use gcl_model::{Direction, Ledger, Steps};
+use index_shard::Shard;
+use live_version::{Slot, Version};
+use posting_access::{at_or_after, at_or_before};
+use std::cell::RefCell;
+
+/// A term, its place in the index of each slot, and a finger on the postings that it was last looked for in.
+#[derive(Drop)]
+pub(crate) struct Term<'a, J: Naming> {
+    bytes: &'a [u8],
+    places: [Option<usize>; 32],
+    finger: RefCell<Finger<J>>,
+    ghost found: { take (length J.version.slots) places ≡ places_of bytes.now J.version.slots },
+}
+
+impl<'a, J: Naming> Term<'a, J> {
+    /// Finds the term in each slot.
+    pub(crate) fn new(version: &Version, bytes: &'a [u8]) -> Self
+        requires { version.now ≡ J.version }
+        ensures { result.bytes.now ≡ bytes.now }
+    {
+        // the number of slots is known to be small
+        let _slots = version.slot_count();
+        Term {
+            bytes,
+            places: places(version.slots(), bytes),
+            finger: RefCell::new(Finger::new()),
+        }
+    }
+
+    pub(crate) fn bytes(&self) -> &[u8]
+        ensures { result.now ≡ self.now.bytes.now }
+    {
+        self.bytes
+    }
+
+    /// The posting that is nearest to `k` on one side, in the index of the slot with this number.
+    pub(crate) fn nearest<P: Ledger>(
+        &self,
+        number: usize,
+        shard: &Shard,
+        k: u64,
+        direction: Direction,
+        probes: &mut Steps<P>,
+    ) -> Option<u64>
+        requires { shard_at J.version.slots number ≡ Some shard.now }
+        ensures { result ≡ nearest direction (postings_of shard.now.table self.now.bytes.now) k }
+    {
+        let place = self.place(number, shard)?;
+        let list = shard.postings(place);
+        match self.finger.try_borrow_mut() {
+            Ok(mut finger) => finger.nearest(list, number, place, k, direction, probes),
+            // another look-up of the term is under way
+            Err(_) => match direction {
+                Direction::Forward => at_or_after(list, k, probes),
+                Direction::Backward => at_or_before(list, k, probes),
+            },
+        }
+    }
+
+    /// The term's place in the index of a slot, if it is there.
+    fn place(&self, number: usize, shard: &Shard) -> Option<usize>
+        requires { shard_at J.version.slots number ≡ Some shard.now }
+        ensures { result ≡ place_of shard.now.table self.now.bytes.now }
+    {
+        self.places[number]
+    }
+}
+
+/// The place of a term in the index of each slot, by the slot's number.
+fn places(slots: &[Slot], bytes: &[u8]) -> [Option<usize>; 32]
+    requires { length slots.now ≤ most_slots }
+    ensures { take (length slots.now) result ≡ places_of bytes.now slots.now }
+{
+    let mut places = [None; 32];
+    for (number, slot) in slots.iter().enumerate() {
+        places[number] = slot.shard().place(bytes);
+    }
+    places
+}
