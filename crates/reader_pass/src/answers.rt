@@ -10,7 +10,7 @@ ghost use Rattle.manifest_publish.specs.Histories.{IsLatest};
 ghost use Rattle.reader_pass.specs.Members.{first_members, first_members_from, look_ups, access_most};
 
 use crate::counted::count;
-use gcl_eval::{list, list_from};
+use crate::fingered::{list, list_from};
 use gcl_model::{Expr, IntervalList, Ledger, Steps};
 use manifest_publish::Pass;
 use std::alloc::{AllocError, Global};

@@ -7,6 +7,7 @@ ghost use Rattle.gcl_model.specs.WellFormed.{IsWellFormed};
 ghost use Rattle.live_version.specs.Contents.{version_text};
 ghost use Rattle.reader_pass.specs.Members.{access_most, is_the_term, look_ups};
 
+use crate::fingered;
 use gcl_model::{Expr, Ledger, Steps};
 use live_version::Version;
 
@@ -18,7 +19,7 @@ pub(crate) fn count<S: Ledger>(expr: &Expr, version: &Version, steps: &mut Steps
 {
     match told_count(version, expr) {
         Some(count) => count,
-        None => gcl_eval::count(expr, version, steps),
+        None => fingered::count(expr, version, steps),
     }
 }
 

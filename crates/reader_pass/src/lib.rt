@@ -12,6 +12,7 @@
 
 mod answers;
 mod counted;
+mod fingered;
 #[cfg(test)]
 mod tests;
 

@@ -161,48 +161,45 @@ fn slots<R: Abort>(rt: &R, alloc: Global) -> Result<Version, AllocError> {
     deleted(rt, &deleted(rt, &version, 1)?, 6)
 }
 
+/// More terms than have fingers: the last ones have none.
+const ADDED: &[u8] = b"abcdefghijklmnopqrstuvwxyz";
+
+const ASKED: [(&str, Direction); 5] = [
+    ("a", Direction::Forward),
+    ("b", Direction::Backward),
+    ("z", Direction::Forward),
+    ("a", Direction::Backward),
+    ("who", Direction::Forward),
+];
+
+/// What look-ups give, and how many look-ups in slots they take.
+fn found<V: Leaves>(leaves: &V, term: &str, k: u64, direction: Direction) -> (Option<u64>, u64) {
+    counted(&Nearest {
+        leaves,
+        term: term.as_bytes(),
+        k,
+        direction,
+    })
+}
+
 /// Asks fingers and the version the same, at addresses in no order.
-fn asks_both<J: Naming, R: Abort>(rt: &R, version: &Version)
+fn ask_both<J: Naming, R: Abort>(rt: &R, version: &Version)
     requires { version.now ≡ J.version }
 {
     let mut fingers = Fingers::<J>::new(version);
-    // the last one is one too many
-    let added = [
-        "a", "b", "c", "d", "e", "f", "g", "h", "i", "j", "k", "l", "m", "n", "o", "p", "z",
-    ];
-    for term in added {
-        fingers.add(term.as_bytes());
+    for term in ADDED.chunks(1) {
+        fingers.add(term);
     }
     let mut state = 1u64;
-    for round in 0..5_000u32 {
+    for _ in 0..5_000u32 {
         state = state
             .wrapping_mul(6364136223846793005)
             .wrapping_add(1442695040888963407);
         let k = (state >> 33) % 8000;
-        for (term, direction) in [
-            ("a", Direction::Forward),
-            ("b", Direction::Backward),
-            ("z", Direction::Forward),
-            ("a", Direction::Backward),
-            ("who", Direction::Forward),
-        ] {
-            let by_fingers = counted(&Nearest {
-                leaves: &fingers,
-                term: term.as_bytes(),
-                k,
-                direction,
-            });
-            let by_version = counted(&Nearest {
-                leaves: version,
-                term: term.as_bytes(),
-                k,
-                direction,
-            });
-            assert_eq!(rt;
-                by_fingers,
-                by_version,
-                "{term} at {k}, {direction:?}, round {round}"
-            );
+        for (term, direction) in ASKED {
+            let got = found(&fingers, term, k, direction);
+            let want = found(version, term, k, direction);
+            assert_eq!(rt; got, want, "{term} at {k}, {direction:?}");
         }
     }
 }
@@ -211,6 +208,6 @@ fn asks_both<J: Naming, R: Abort>(rt: &R, version: &Version)
 fn look_ups_in_no_order_are_those_of_the_version(rt: HostRuntime) -> Result<(), Fail> {
     let version = slots(&rt, rt.alloc())?;
     assert_eq!(rt; version.dels(), 2);
-    asks_both::<Brand, _>(&rt, &version);
+    ask_both::<Brand, _>(&rt, &version);
     Ok(())
 }

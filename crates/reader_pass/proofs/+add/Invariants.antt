@@ -1,0 +1,9 @@
+use Rattle.std.proofs.Common.{◌≡◌}
+use Rattle.reader_pass.proofs.+add.Given as goal
+
+-- what was found changes nothing that is seen
+abbrev pub invariant-add_each-loop-operand : goal.invariant-add_each-loop-operand
+invariant-add_each-loop-operand g l = l.fingers ≡ l.fn.fingers
+
+abbrev pub invariant-add_terms-loop-token : goal.invariant-add_terms-loop-token
+invariant-add_terms-loop-token g l = l.fingers ≡ l.fn.fingers
