@@ -1,5 +1,5 @@
 use Rattle.std.proofs.Common.{◌≡◌}
-use Rattle.reader_pass.proofs.+add.Given as goal
+use Rattle.reader_pass.proofs.fingered.+add.Given as goal
 
 -- what was found changes nothing that is seen
 abbrev pub invariant-add_each-loop-operand : goal.invariant-add_each-loop-operand
