@@ -1,6 +1,6 @@
 #!/usr/bin/env bash
 # Counts queries over a text of 1 MB that stands 1, 4 and 16 times in a version, each time in a slot of its own: the intervals, the
-# look-ups, and the nanoseconds of a look-up beside those in one slot. It makes its text.
+# look-ups, and the nanoseconds of a look-up beside those in one slot, by bytes and by fingers. It makes its text.
 set -eu
 here=$(cd "$(dirname "$0")/.." && pwd)
 work=$(mktemp -d)
@@ -21,8 +21,8 @@ P
 for query in '"the" ^ "w17"' '"of the"' '"the" < ("<l>".."</l>")'; do
   one=
   for times in 1 4 16; do
-    read -r look_ups took <<< "$("$program" slots "$work/text" "$times" "$query" | awk '{ print $5, $8 }')"
+    read -r look_ups took fingered <<< "$("$program" slots "$work/text" "$times" "$query" | awk '{ print $5, $8, $12 }')"
     one=${one:-$(awk -v l="$look_ups" -v t="$took" 'BEGIN { print t / l }')}
-    awk -v q="$query" -v n="$times" -v l="$look_ups" -v t="$took" -v o="$one" 'BEGIN { printf "%-28s %2d slots: %d look-ups, %.0f ns each, ratio to one slot %.2f\n", q, n, l, t / l, t / l / o }'
+    awk -v q="$query" -v n="$times" -v l="$look_ups" -v t="$took" -v o="$one" -v f="$fingered" 'BEGIN { printf "%-28s %2d slots: %d look-ups, %.0f ns each, ratio to one slot %.2f, by fingers %.0f ns\n", q, n, l, t / l, t / l / o, f / l }'
   done
 done

@@ -5,7 +5,7 @@
 //! - `tokens FILE` cuts the file into tokens.
 //! - `shards FILE TIMES` builds its shard too, so many times, and keeps them all: memory grows by one shard for each.
 //! - `count FILE QUERY` counts the intervals of a query over the file's tokens, and the look-ups that this took.
-//! - `slots FILE TIMES QUERY` puts the file so many times into one version, each time in a slot of its own, and counts the same.
+//! - `slots FILE TIMES QUERY` puts the file so many times into one version, each time in a slot of its own, and counts the same, by bytes and by fingers.
 //! - `lists` takes the times of look-ups in and walks over a posting list of a million addresses, beside plain numbers.
 #![tactic(auto)]
 

@@ -1,3 +1,5 @@
+ghost use Rattle.std.specs.Prelude.{◌≡◌};
+
 use crate::files::{content_of, text_of};
 use address_space::{FileId, FileRecord};
 use gcl_eval::count;
@@ -7,8 +9,10 @@ use live_version::Version;
 use plain_text::of_tokens;
 use shard_build::build_from;
 use std::alloc::{AllocError, Global};
+use std::marker::Brand;
 use std::rt::{Clock, Files};
 use std::time::Instant;
+use term_fingers::{Fingers, Naming};
 use word_tokens::{TokenText, tokens};
 
 /// How many intervals has a concordance list?
@@ -82,6 +86,18 @@ fn count_over<L: Leaves>(alloc: Global, leaves: &L, query: &[u8]) -> Option<(u64
     Some(counted(&MemberCount { expr, leaves }))
 }
 
+/// The same over a version, by fingers.
+fn count_by_fingers<J: Naming>(alloc: Global, version: &Version, query: &[u8]) -> Option<(u64, u64)>
+    requires { version.now ≡ J.version }
+{
+    let expr = &parse(alloc, query).ok()?;
+    let fingers = Fingers::<J>::of(version, expr);
+    Some(counted(&MemberCount {
+        expr,
+        leaves: &fingers,
+    }))
+}
+
 /// Counts a query over the tokens of a file.
 pub(crate) fn measure_count<R: Files + Print + AllocGlobal>(
     rt: &R,
@@ -97,7 +113,7 @@ pub(crate) fn measure_count<R: Files + Print + AllocGlobal>(
     println!(rt; "{members} intervals, {look_ups} look-ups").ok()
 }
 
-/// Counts a query over a version that has a file so many times.
+/// Counts a query over a version that has a file so many times, by bytes and by fingers.
 pub(crate) fn measure_slots<R: Files + Clock + Print + AllocGlobal>(
     rt: &R,
     name: &[u8],
@@ -108,6 +124,14 @@ pub(crate) fn measure_slots<R: Files + Clock + Print + AllocGlobal>(
     let start = Instant::now(rt).ok()?;
     let (members, look_ups) = count_over(rt.alloc(), &version, query)?;
     let took = start.elapsed(rt).ok()?.as_nanos();
+    let start = Instant::now(rt).ok()?;
+    let same = count_by_fingers::<Brand>(rt.alloc(), &version, query)?;
+    let fingered = start.elapsed(rt).ok()?.as_nanos();
+    if same != (members, look_ups) {
+        return None;
+    }
     let slots = version.slot_count();
-    println!(rt; "{slots} slots: {members} intervals, {look_ups} look-ups in {took} ns").ok()
+    println!(rt;
+        "{slots} slots: {members} intervals, {look_ups} look-ups in {took} ns, by fingers {fingered} ns"
+    ).ok()
 }

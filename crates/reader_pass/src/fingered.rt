@@ -65,8 +65,7 @@ fn list_named<J: Naming, S: Ledger>(
     ensures ok { IfOk result (λ members. members ≡ first_members (version_text version.now) (form_of expr.now) most) }
     ensures cost { steps.new ≤ steps.old + look_ups (version_text version.now) (access_most version.now) (form_of expr.now) (length (first_members (version_text version.now) (form_of expr.now) most)) }
 {
-    let mut fingers = Fingers::<J>::new(version);
-    add_terms(&mut fingers, expr);
+    let fingers = Fingers::<J>::of(version, expr);
     gcl_eval::list(alloc, expr, &fingers, most, steps)
 }
 
@@ -84,8 +83,7 @@ fn list_from_named<J: Naming, S: Ledger>(
     ensures ok { IfOk result (λ members. members ≡ first_members_from (version_text version.now) (form_of expr.now) k most) }
     ensures cost { steps.new ≤ steps.old + look_ups (version_text version.now) (access_most version.now) (form_of expr.now) (length (first_members_from (version_text version.now) (form_of expr.now) k most)) }
 {
-    let mut fingers = Fingers::<J>::new(version);
-    add_terms(&mut fingers, expr);
+    let fingers = Fingers::<J>::of(version, expr);
     gcl_eval::list_from(alloc, expr, &fingers, k, most, steps)
 }
 
@@ -95,42 +93,6 @@ fn count_named<J: Naming, S: Ledger>(expr: &Expr, version: &Version, steps: &mut
     ensures value { result ≡ length (concordance (version_text version.now) (form_of expr.now)) }
     ensures cost { steps.new ≤ steps.old + look_ups (version_text version.now) (access_most version.now) (form_of expr.now) result }
 {
-    let mut fingers = Fingers::<J>::new(version);
-    add_terms(&mut fingers, expr);
+    let fingers = Fingers::<J>::of(version, expr);
     gcl_eval::count(expr, &fingers, steps)
-}
-
-/// Finds the words of an expression.
-#[cycle(add)]
-fn add_terms<'a, J: Naming>(fingers: &mut Fingers<'a, J>, expr: &'a Expr)
-    ensures { fingers.new ≡ fingers.old }
-{
-    match expr {
-        Expr::Term(token) => fingers.add(token.as_slice()),
-        Expr::Phrase(tokens) => {
-            for token in tokens.as_slice() {
-                fingers.add(token.as_slice());
-            }
-        }
-        Expr::Width(_) => {}
-        Expr::Both(operands) | Expr::One(operands) | Expr::Seq(operands) => {
-            add_each(fingers, operands);
-        }
-        Expr::Containing(first, second)
-        | Expr::ContainedIn(first, second)
-        | Expr::NotContaining(first, second)
-        | Expr::NotContainedIn(first, second) => {
-            add_terms(fingers, first);
-            add_terms(fingers, second);
-        }
-    }
-}
-
-#[cycle(add)]
-fn add_each<'a, J: Naming>(fingers: &mut Fingers<'a, J>, operands: &'a [Expr])
-    ensures { fingers.new ≡ fingers.old }
-{
-    for operand in operands {
-        add_terms(fingers, operand);
-    }
 }

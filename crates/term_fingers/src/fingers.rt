@@ -3,8 +3,9 @@ ghost use Rattle.std.specs.Prelude.{◌≡◌, IfSome};
 use crate::look_up::ByFinger;
 use crate::naming::Naming;
 use crate::term::Term;
+use crate::words::add_words;
 use arrayvec::ArrayVec;
-use gcl_model::{Leaves, Ledger, Span, Steps};
+use gcl_model::{Expr, Leaves, Ledger, Span, Steps};
 use live_version::Version;
 use std::marker::Model;
 
@@ -69,6 +70,16 @@ impl<'a, J: Naming> Fingers<'a, J> {
             version,
             terms: ArrayVec::new(),
         }
+    }
+
+    /// The words of an expression were found.
+    pub fn of(version: &'a Version, expr: &'a Expr) -> Self
+        requires { version.now ≡ J.version }
+        ensures { result ≡ version.now }
+    {
+        let mut fingers = Fingers::new(version);
+        add_words(&mut fingers, expr);
+        fingers
     }
 
     /// Finds a term in each slot, unless it was found before or 16 others were. It changes no answer.

@@ -19,6 +19,7 @@ mod near;
 mod term;
 #[cfg(test)]
 mod tests;
+mod words;
 
 pub use fingers::Fingers;
 pub use naming::Naming;
