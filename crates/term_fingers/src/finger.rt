@@ -12,8 +12,9 @@ use posting_access::BlocksUpTo;
 use posting_code::{BLOCK, PostingList};
 use std::marker::PhantomData;
 
-/// Where a term was last looked for: the members of one block of one list, and a place among them.
-// The list is told by the number of its slot and by its place there. While it is none, the block has no members.
+/// Where a term was last looked for: one block of one list, its members where they were read, and a place among them.
+// The list is told by the number of its slot and by its place there. To unpack a whole block takes twice as long as to go through it
+// up to an answer, so the next block is unpacked at once only where the last one was looked into again.
 #[derive(Drop)]
 pub(crate) struct Finger<J: Naming> {
     slot: usize,
@@ -22,6 +23,7 @@ pub(crate) struct Finger<J: Naming> {
     count: usize,
     members: [u64; 64],
     at: usize,
+    again: bool,
     of: PhantomData<J>,
     ghost few: { count ≤ 64 },
     ghost is: { 0 < count → take count members ≡ block_of (list_of J.version.slots slot place) block },
@@ -37,6 +39,7 @@ impl<J: Naming> Finger<J> {
             count: 0,
             members: [0; BLOCK],
             at: 0,
+            again: false,
             of: PhantomData,
         }
     }
@@ -76,13 +79,33 @@ impl<J: Naming> Finger<J> {
         if list.len() == 0 {
             return None;
         }
-        self.read(list, slot, place, near.saturating_sub(1));
-        let (found, at) = least_in(&self.members[..self.count], self.at, k, probes);
-        self.at = at;
-        match found {
+        match self.least_in_block(list, slot, place, near.saturating_sub(1), k, probes) {
             Some(address) => Some(address),
             None => first_of_block(list, near),
         }
+    }
+
+    /// The least address of a block from `k` on.
+    fn least_in_block<P: Ledger>(
+        &mut self,
+        list: &PostingList,
+        slot: usize,
+        place: usize,
+        block: usize,
+        k: u64,
+        probes: &mut Steps<P>,
+    ) -> Option<u64>
+        requires list { list.now ≡ list_of J.version.slots slot place }
+        requires block { block < blocks_of list.now }
+        ensures { result ≡ least_from (block_of list.now block) k }
+    {
+        if self.passes_by(slot, place, block) {
+            return list.around(block, k).1;
+        }
+        self.read(list, slot, place, block);
+        let (found, at) = least_in(&self.members[..self.count], self.at, k, probes);
+        self.at = at;
+        found
     }
 
     /// The greatest address at or before `k`.
@@ -99,10 +122,30 @@ impl<J: Naming> Finger<J> {
     {
         let near = blocks_up_to(list, self.block, k, probes);
         let last = near.checked_sub(1)?;
+        if self.passes_by(slot, place, last) {
+            return list.around(last, k.saturating_add(1)).0;
+        }
         self.read(list, slot, place, last);
         let (found, behind) = greatest_in(&self.members[..self.count], self.at, k, probes);
         self.at = behind;
         found
+    }
+
+    /// Goes to a block, and says whether it stays packed: where it is another one than before, and that one was looked into once.
+    fn passes_by(&mut self, slot: usize, place: usize, block: usize) -> bool {
+        if self.slot == slot && self.place == place && self.block == block {
+            self.again = true;
+            return false;
+        }
+        if self.again {
+            self.again = false;
+            return false;
+        }
+        self.count = 0;
+        self.slot = slot;
+        self.place = place;
+        self.block = block;
+        true
     }
 
     /// Reads a block, unless it is the one that was read last.

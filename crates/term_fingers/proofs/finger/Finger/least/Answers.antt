@@ -1,17 +1,14 @@
-use Rattle.std.proofs.Common.{ap, sym, ◌∙◌, arith}
-use Rattle.posting_access.specs.Search.{least_from}
+use Rattle.std.proofs.Common.{◌∙◌, arith}
 use Rattle.posting_access.proofs.Searches.{least_found, least_not_found}
 use Rattle.term_fingers.proofs.finger.Finger.least.Goals as goal
 
 pub returns-in-Some : goal.returns-in-Some
 returns-in-Some g c =
     let e = c.blocks_up_to-near.ensures in
-    least_found _ _ _ c.blocks_up_to-near.result _ record { rising = e.rising; within = e.within; before = e.before; after = e.after } (omega (arith, c.saturating_sub.ensures)) (omega (arith, c.len.ensures.value))
-    (sym c.in-Some.is ∙ c.least_in-found.ensures ∙ ap (λ xs. least_from xs c.args.k) c.read.ensures.members)
+    least_found _ _ _ c.blocks_up_to-near.result _ record { rising = e.rising; within = e.within; before = e.before; after = e.after } (omega (arith, c.saturating_sub.ensures)) (omega (arith, c.len.ensures.value)) c.in-Some.ensures
 
 pub returns-in-None : goal.returns-in-None
 returns-in-None g c =
     let e = c.blocks_up_to-near.ensures in
     c.first_of_block.ensures
-    ∙ least_not_found _ _ _ c.blocks_up_to-near.result record { rising = e.rising; within = e.within; before = e.before; after = e.after } (omega (arith, c.saturating_sub.ensures)) (omega (arith, c.len.ensures.value))
-    (sym c.in-None.is ∙ c.least_in-found.ensures ∙ ap (λ xs. least_from xs c.args.k) c.read.ensures.members)
+    ∙ least_not_found _ _ _ c.blocks_up_to-near.result record { rising = e.rising; within = e.within; before = e.before; after = e.after } (omega (arith, c.saturating_sub.ensures)) (omega (arith, c.len.ensures.value)) c.in-None.ensures
