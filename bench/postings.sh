@@ -1,11 +1,41 @@
 #!/usr/bin/env bash
 # Makes a posting list of a million addresses and prints ratios of one run: a look-up at a random place to halving over
-# the plain numbers (target 2.5), and a walk over all of them to their sum (target 4, or 150 million a second).
+# the plain numbers (target 2.5), and a walk over all of them to their sum (target 4, or 150 million a second). Then, over a text of
+# 10 MB with 5,000 different words that it makes, or over each file that is named, the bytes that a posting takes in the lists of 64 or
+# more, and their ratio to the packed differences alone (target 1.35).
 set -eu
 here=$(cd "$(dirname "$0")/.." && pwd)
-log=$(mktemp)
-trap 'rm -f "$log"' EXIT
-(cd "$here/crates/measure" && rt run -- tokens data/a) > "$log" 2>&1 || { cat "$log" >&2; exit 1; }
-"$here/crates/measure/out/measure" lists | awk '
+work=$(mktemp -d)
+trap 'rm -rf "$work"' EXIT
+program=$here/crates/measure/out/measure
+(cd "$here/crates/measure" && rt run -- tokens data/a) > "$work/log" 2>&1 || { cat "$work/log" >&2; exit 1; }
+"$program" lists | awk '
   /look-ups/ { printf "look-up %.0f ns, by partition_point %.0f ns: ratio %.2f (target 2.5)\n", $3 / 1e6, $7 / 1e6, $3 / $7 }
   /walk/ { printf "walk %.2f ns a posting, sum %.2f ns: ratio %.2f (target 4), %.0f million a second (target 150)\n", $4 / 1e6, $7 / 1e6, $4 / $7, 1e9 / $4 }'
+if [ $# -eq 0 ]; then
+  python3 - "$work/made" <<'P'
+import random, sys
+random.seed(7)
+words = ["the", "of", "and", "to", "be"] * 200 + ["w%d" % n for n in range(5000)]
+with open(sys.argv[1], "w") as out:
+    written = 0
+    while written < 10_000_000:
+        line = " ".join(random.choices(words, k=2000)) + "\n"
+        out.write(line)
+        written += len(line)
+P
+  set -- "$work/made"
+fi
+# prints the kilobytes of a run
+memory() { python3 -c '
+import resource, subprocess, sys
+subprocess.run(sys.argv[1:], check=True, stdout=subprocess.DEVNULL)
+print(resource.getrusage(resource.RUSAGE_CHILDREN).ru_maxrss)' "$@"; }
+for text in "$@"; do
+  one=$(memory "$program" packed "$text" 1)
+  five=$(memory "$program" packed "$text" 5)
+  "$program" packed "$text" 1 | awk -v n="$(basename "$text")" -v o="$one" -v f="$five" '{
+    kept = (f - o) * 1024 / 4
+    printf "%s: %d lists of 64 or more, %.3f bytes a posting, differences %.3f: ratio %.2f (target 1.35)\n", n, $4, kept / $1, $6 / $1, kept / $6
+  }'
+done

@@ -4,6 +4,7 @@
 //!
 //! - `tokens FILE` cuts the file into tokens.
 //! - `shards FILE TIMES` builds its shard too, so many times, and keeps them all: memory grows by one shard for each.
+//! - `packed FILE TIMES` counts the postings in lists of 64 or more, and keeps these lists so many times more.
 //! - `count FILE QUERY` counts the intervals of a query over the file's tokens, and the look-ups that this took.
 //! - `slots FILE TIMES QUERY` puts the file so many times into one version, each time in a slot of its own, and counts the same, by bytes and by fingers.
 //! - `lists` takes the times of look-ups in and walks over a posting list of a million addresses, beside plain numbers.
@@ -11,10 +12,12 @@
 
 mod files;
 mod lists;
+mod packed;
 mod queries;
 
 use crate::files::{measure_shards, measure_tokens};
 use crate::lists::measure_lists;
+use crate::packed::measure_packed;
 use crate::queries::{measure_count, measure_slots};
 use std::process::ExitCode;
 use std::rt::{Clock, Files};
@@ -35,6 +38,7 @@ fn measured<R: Files + Clock + Print + AllocGlobal>(rt: &R, words: &[&[u8]]) -> 
     match mode {
         b"tokens" => measure_tokens(rt, name),
         b"shards" => measure_shards(rt, name, number_of(words.get(2).copied())?),
+        b"packed" => measure_packed(rt, name, number_of(words.get(2).copied())?),
         b"count" => measure_count(rt, name, words.get(2)?),
         b"slots" => measure_slots(rt, name, number_of(words.get(2).copied())?, words.get(3)?),
         _ => None,
