@@ -1,4 +1,5 @@
 pub mod Places
+pub mod Grouping
 pub mod Tables
 pub mod Updates
 pub mod MapTables

@@ -15,5 +15,5 @@ mod source;
 mod tests;
 
 pub use boundaries::{file_end, file_start};
-pub use making::{build, build_from};
+pub use making::{build, build_from, build_text};
 pub use source::Tokens;

@@ -9,6 +9,7 @@
 //! law that each token of a text is a token. Of `To <B x="1">be</B >` the tokens are `to`, `<b>`, `be` and `</b>`.
 #![tactic(auto)]
 
+mod cursor;
 mod cut;
 mod joined;
 mod laws;
@@ -16,6 +17,7 @@ mod lexeme;
 #[cfg(test)]
 mod tests;
 
+pub use cursor::TokenCursor;
 pub use cut::{is_token, token_count, token_text, tokens};
 pub use joined::TokenText;
 pub use laws::tokens_are_tokens;

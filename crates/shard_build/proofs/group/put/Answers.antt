@@ -23,6 +23,6 @@ pub returns-in_ok-insert-in-None : goal.returns-in_ok-insert-in-None
 returns-in_ok-insert-in-None c =
     record {
       lists =
-          list_begun c.args.token.now c.args.groups.now c.get_mut.follows.lender-at-none c.insert.new.self c.push-in-None.new.self c.args.address c.get_mut.follows.holds-at-none
+          list_begun c.args.token.now c.in_ok-key-in-None.key.items c.args.groups.now c.get_mut.follows.lender-at-none c.insert.new.self c.push-in-None.new.self c.args.address c.in_ok-key-in-None.ensures.items c.get_mut.follows.holds-at-none
           c.in_ok-insert-in-None.ensures.updates c.in-None.ensures.value (c.in_ok-push-in-None.ensures.ok ∙ ap (λ l. l ++ c.args.address ∷ []) c.new-list.ensures);
     }
