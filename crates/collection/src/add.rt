@@ -14,11 +14,11 @@ use crate::faults::AddFault;
 use address_space::{AddressesSpent, FileId, FileRecord, Range, place};
 use gcl_model::{ADDRESS_END, Bytes};
 use live_version::Version;
-use shard_build::build_from;
+use shard_build::build_text;
 use shard_merge::merge;
 use std::alloc::{AllocError, Global};
 use std::sync::Wait;
-use word_tokens::{TokenText, token_text};
+use word_tokens::token_count;
 
 impl Engine {
     /// Adds a file of these bytes, and publishes once. At `Err` nothing was published.
@@ -29,12 +29,11 @@ impl Engine {
         ensures spent { (next : ℕ) → (need : ℕ) → IsErrOf result (Spent next need) → (next ≡ self.old.version.next) × (need ≡ width_of (tokens_of bytes.now)) × (address_end < next + need) }
         ensures err { OnErr result (self.new ≡ self.old) }
     {
-        let tokens = token_text(self.allocator(), bytes)?;
-        let need = tokens.len() as u64 + 2;
+        let need = width(bytes);
         let last = self.version();
         let id = FileId(last.next_id());
         let range = place_file(last.next(), need)?;
-        let version = with_file(self.allocator(), last, name, tokens)?;
+        let version = with_file(self.allocator(), last, name, bytes, need)?;
         let receipt = self.publish(rt, version)?;
         Ok(Added {
             id,
@@ -43,6 +42,21 @@ impl Engine {
             receipt,
         })
     }
+}
+
+/// How many addresses a file of these bytes needs.
+fn width(bytes: &[u8]) -> u64
+    ensures { result ≡ width_of (tokens_of bytes.now) }
+{
+    count(bytes) + 2
+}
+
+/// The number of tokens. No text has more of them than bytes.
+fn count(bytes: &[u8]) -> u64
+    ensures value { result ≡ length (tokens_of bytes.now) }
+    ensures few { result ≤ length bytes.now }
+{
+    token_count(bytes)
 }
 
 /// The addresses from `next` on of a file that needs so many.
@@ -59,29 +73,29 @@ fn place_file(next: u64, need: u64) -> Result<Range, AddressesSpent>
     place(next, need)
 }
 
-/// The version with a file of these tokens more, whose last slots are made one as far as the rule of adding goes.
+/// The version with a file of these bytes more, which needs so many addresses, and whose last slots are made one as far as the rule of adding goes.
 fn with_file(
     alloc: Global,
     last: &Version,
     name: &[u8],
-    tokens: TokenText,
+    bytes: &[u8],
+    need: u64,
 ) -> Result<Version, AllocError>
     requires few { length last.now.slots < most_slots }
     requires ids { last.now.next_id < number_end }
     requires number { last.now.number + 1 < number_end }
-    requires fits { last.now.next + width_of tokens ≤ address_end }
+    requires need { need ≡ width_of (tokens_of bytes.now) }
+    requires fits { last.now.next + width_of (tokens_of bytes.now) ≤ address_end }
     requires named { is_name name.now ≡ true }
-    requires tokens { AllByRecursion IsToken tokens }
-    ensures { IfOk result (λ version. AddsFileTo last.now version name.now tokens) }
+    ensures { IfOk result (λ version. AddsFileTo last.now version name.now (tokens_of bytes.now)) }
 {
     let file = FileRecord {
         id: FileId(last.next_id()),
         base: last.next(),
-        len: tokens.len() as u64 + 2,
+        len: need,
         name: Bytes::copy_of(alloc, name)?,
     };
-    let shard = build_from(alloc, last.next(), &tokens)?;
-    drop(tokens);
+    let shard = build_text(alloc, last.next(), bytes)?;
     let grown = last.with_file(file, shard)?;
     let version = settled(alloc, last, grown)?;
     Ok(version)

@@ -137,6 +137,25 @@ short_tokens (suc n) (b ∷ bytes) le =
     (all_append (λ token. length token ≤ suc (length bytes)) part.tokens (tokens_of rest) (short_in_longer part.size (suc (length bytes)) part.tokens fits fit.short)
     (short_in_longer (length rest) (suc (length bytes)) (tokens_of rest) (omega arith) (short_tokens n rest (omega arith))))
 
+few_by : (n : ℕ) (text : List ℕ) → length text ≤ n → length (tokens_of text) ≤ length text
+few_by n [] le = omega arith
+few_by zero (b ∷ bytes) le = absurd (omega arith)
+few_by (suc n) (b ∷ bytes) le =
+    let part = first_part b bytes in
+    let fit = first_part_fits b bytes in
+    let some : 1 ≤ part.size = fit.some in
+    let fits : part.size ≤ suc (length bytes) = fit.fits in
+    let few : length part.tokens ≤ part.size = fit.few in
+    let rest : List ℕ = drop part.size (b ∷ bytes) in
+    let shorter : length rest ≡ suc (length bytes) - part.size = length-drop part.size (b ∷ bytes) in
+    let fewer : length (tokens_of rest) ≤ length rest = few_by n rest (omega arith) in
+    let all : length (tokens_of (b ∷ bytes)) ≡ length part.tokens + length (tokens_of rest) = ap length (tokens_of-cons b bytes) ∙ length-append part.tokens (tokens_of rest) in
+    omega arith
+
+-- there are no more tokens than bytes
+pub few_tokens : (text : List ℕ) → length (tokens_of text) ≤ length text
+few_tokens text = few_by (length text) text (omega arith)
+
 -- a text is a token where it is the one token of its first part
 pub token_from_part : (text : List ℕ) → (part_of text).size ≡ length text → (part_of text).tokens ≡ text ∷ [] → IsToken text
 token_from_part text size tokens =
