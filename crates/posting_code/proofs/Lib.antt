@@ -2,6 +2,7 @@ pub mod Numbers
 pub mod Spellings
 pub mod Rising
 pub mod Packed
+pub mod Joining
 pub mod Around
 pub mod Unpacking
 mod Worked

@@ -126,7 +126,7 @@ first_kept first y packed heads k rising =
       },
     )
 
-last_behind : (xs : List ℕ) (i : ℕ) → i < length xs → last_of (get_or xs i 0 ∷ drop (i + 1) xs) ≡ last_of xs
+pub last_behind : (xs : List ℕ) (i : ℕ) → i < length xs → last_of (get_or xs i 0 ∷ drop (i + 1) xs) ≡ last_of xs
 last_behind [] i lt = absurd (omega (arith, lt))
 last_behind (x ∷ xs) zero lt = refl
 last_behind (x ∷ []) (suc i) lt = absurd (omega (arith, lt))

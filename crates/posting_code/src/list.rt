@@ -1,10 +1,10 @@
-ghost use Rattle.std.specs.Prelude.{◌≡◌, ◌+◌, ◌*◌, ◌<◌, ◌≤◌, ◌++◌, ◌∷◌, [], length, slice_index, take, reverse, find, nat_lt, nat_le, OnOk, OnErr};
+ghost use Rattle.std.specs.Prelude.{◌≡◌, ◌+◌, ◌*◌, ◌<◌, ◌≤◌, ◌++◌, ◌∷◌, [], length, slice_index, take, reverse, find, nat_lt, nat_le, IfOk, OnOk, OnErr};
 ghost use Rattle.posting_code.specs.Postings.{ArePostings, blocks_of, block_of};
-ghost use Rattle.posting_code.specs.Packed.{last_of};
+ghost use Rattle.posting_code.specs.Packed.{IsHead, last_of, packed_of};
 
 use crate::head::{Head, head_of, push_head};
 use crate::number::{NUMBER_END, put_number};
-use crate::unpack::{around_in, unpack};
+use crate::unpack::{around_in, unpack, walk};
 use std::alloc::{AllocError, Global};
 use std::marker::Model;
 
@@ -78,12 +78,67 @@ impl PostingList {
         }
     }
 
+    /// Where its memory comes from.
+    pub(crate) fn alloc(&self) -> Global {
+        *self.packed.allocator()
+    }
+
+    /// An equal list.
+    pub(crate) fn copy(&self) -> Result<PostingList, AllocError>
+        ensures { IfOk result (λ list. list ≡ self.now) }
+    {
+        Ok(PostingList {
+            count: self.count,
+            first: self.first,
+            packed: Vec::from_slice(self.alloc(), &self.packed)?,
+            heads: Vec::from_slice(self.alloc(), &self.heads)?,
+        })
+    }
+
+    /// The members of both lists. The differences of the later one are copied as they are packed.
+    pub(crate) fn joined(self, last: u64, list: &PostingList) -> Result<PostingList, AllocError>
+        requires last { last ≡ last_of self }
+        requires some { (0 < length self) × (0 < length list.now) }
+        requires rising { ArePostings (self ++ list.now) }
+        ensures { IfOk result (λ joined. joined ≡ self ++ list.now) }
+    {
+        let mut packed = self.packed;
+        put_number(&mut packed, list.first - last)?;
+        let shift = packed.len();
+        packed.extend_from_slice(&list.packed)?;
+        let mut heads = self.heads;
+        let mut place = (BLOCK - self.count % BLOCK) % BLOCK;
+        while place < list.count {
+            let head = list.head(place);
+            heads.push(Head {
+                first: head.first,
+                at: shift + head.at,
+            })?;
+            place += BLOCK;
+        }
+        Ok(PostingList {
+            count: self.count + list.count,
+            first: self.first,
+            packed,
+            heads,
+        })
+    }
+
     /// Gives back the memory that growing took and no address needs.
     pub(crate) fn fit(&mut self)
         ensures { self.new ≡ self.old }
     {
         self.packed.shrink_to_fit();
         self.heads.shrink_to_fit();
+    }
+
+    /// Where a member stands.
+    pub(crate) fn head(&self, place: usize) -> Head
+        requires { place < length self.now }
+        ensures { IsHead self.now (packed_of self.now) place result }
+    {
+        let head = head_of(self.first, &self.heads, place / BLOCK);
+        walk(&self.packed, head, place % BLOCK)
     }
 
     /// The number of addresses.

@@ -1,9 +1,11 @@
-ghost use Rattle.std.specs.Prelude.{◌≡◌, ◌++◌, ◌∷◌, [], OnOk, OnErr, IfOk};
+ghost use Rattle.std.specs.Prelude.{◌≡◌, ◌<◌, ◌++◌, ◌∷◌, [], length, OnOk, OnErr, IfOk};
+ghost use Rattle.posting_code.specs.Packed.{last_of};
 ghost use Rattle.posting_code.specs.Postings.{ArePostings};
 
 use crate::list::PostingList;
 use std::alloc::{AllocError, Global};
 use std::marker::Model;
+use std::mem;
 
 /// A list that grows address by address.
 #[derive(Drop)]
@@ -45,6 +47,23 @@ impl PostingMaker {
         Ok(())
     }
 
+    /// Puts the addresses of a list behind the others. They are not unpacked. After an Err none are left.
+    pub fn append(&mut self, list: &PostingList) -> Result<(), AllocError>
+        requires { ArePostings (self.old ++ list.now) }
+        ensures { OnOk result (self.new ≡ self.old ++ list.now) }
+    {
+        if list.len() == 0 {
+            return Ok(());
+        }
+        let last = list.head(list.len() - 1).first;
+        let alloc = self.list.alloc();
+        let front = mem::replace(&mut self.list, PostingList::new(alloc));
+        let before = mem::replace(&mut self.last, 0);
+        self.list = both(front, before, list)?;
+        self.last = last;
+        Ok(())
+    }
+
     /// The list of the addresses so far, in no more memory than it needs.
     pub fn finish(self) -> PostingList
         ensures { result ≡ self }
@@ -53,6 +72,19 @@ impl PostingMaker {
         list.fit();
         list
     }
+}
+
+/// The members of a list, and those of another one behind them.
+fn both(front: PostingList, last: u64, list: &PostingList) -> Result<PostingList, AllocError>
+    requires last { last ≡ last_of front }
+    requires some { 0 < length list.now }
+    requires rising { ArePostings (front ++ list.now) }
+    ensures { IfOk result (λ all. all ≡ front ++ list.now) }
+{
+    if front.len() == 0 {
+        return list.copy();
+    }
+    front.joined(last, list)
 }
 
 /// The list of exactly these addresses.

@@ -1,6 +1,7 @@
-ghost use Rattle.std.specs.Prelude.{◌≡◌, ◌+◌, ◌<◌, ◌≤◌, ◌^◌, ◌∷◌, length, take, reverse, find, nat_lt, nat_le};
+ghost use Rattle.std.specs.Prelude.{◌≡◌, ◌+◌, ◌<◌, ◌≤◌, ◌^◌, ◌∷◌, length, take, drop, reverse, find, nat_lt, nat_le};
 ghost use Rattle.posting_code.specs.Packed.{CanUnpack, members_behind};
 
+use crate::head::Head;
 use crate::number::{Number, get_number};
 
 /// The member behind another one, and the place behind its difference.
@@ -10,6 +11,7 @@ fn next_member(packed: &[u8], before: u64, at: usize) -> Number
     requires some { 0 < length (members_behind packed.now before at) }
     ensures next { members_behind packed.now before at ≡ result.value ∷ members_behind packed.now result.value result.after }
     ensures above { before < result.value }
+    ensures within { at ≤ length packed.now → result.after ≤ length packed.now }
     ensures can { CanUnpack packed.now result.value result.after }
 {
     match get_number(packed, at) {
@@ -37,6 +39,27 @@ pub(crate) fn unpack(packed: &[u8], first: u64, at: usize, into: &mut [u64])
         member = next_member(packed, member.value, member.after);
         into[i] = member.value;
     }
+}
+
+/// The place of the member that stands so many behind another one.
+pub(crate) fn walk(packed: &[u8], head: Head, steps: usize) -> Head
+    requires can { CanUnpack packed.now head.first head.at }
+    requires within { head.at ≤ length packed.now }
+    requires enough { steps ≤ length (members_behind packed.now head.first head.at) }
+    ensures rest { drop steps (head.first ∷ members_behind packed.now head.first head.at) ≡ result.first ∷ members_behind packed.now result.first result.at }
+    ensures can { CanUnpack packed.now result.first result.at }
+    ensures within { result.at ≤ length packed.now }
+{
+    let mut member = head;
+    for step in 0..steps {
+        let _ = step;
+        let next = next_member(packed, member.first, member.at);
+        member = Head {
+            first: next.value,
+            at: next.after,
+        };
+    }
+    member
 }
 
 /// Of the first member and some behind it the greatest before `k`, and the least from `k` on.

@@ -5,7 +5,7 @@ ghost use Rattle.slot_terms.specs.Parts.{alive, head_term, head_postings, past};
 use address_space::Range;
 use delete_mask::Mask;
 use index_shard::Shard;
-use posting_code::PostingList;
+use posting_code::{PostingList, PostingMaker};
 use std::alloc::AllocError;
 use std::marker::Model;
 
@@ -64,6 +64,36 @@ impl<'a> Part<'a> {
         }
         Ok(())
     }
+
+    /// The same, with the live postings put behind those of a list.
+    pub(crate) fn take_packed(&mut self, term: &[u8], postings: &mut PostingMaker) -> Result<(), AllocError>
+        requires { ArePostings (postings.old ++ alive self.old.mask (head_postings self.old.left term.now)) }
+        ensures postings { OnOk result (postings.new ≡ postings.old ++ alive self.old.mask (head_postings self.old.left term.now)) }
+        ensures past { OnOk result (self.new ≡ past term.now self.old) }
+    {
+        if self.next < self.shard.term_count() && self.shard.term(self.next) == term {
+            append_live(self.shard.postings(self.next), self.mask, postings)?;
+            self.next += 1;
+        }
+        Ok(())
+    }
+}
+
+/// Puts the live ones of the postings behind the others. Where nothing is dead they are not unpacked.
+fn append_live(
+    list: &PostingList,
+    mask: &Mask,
+    postings: &mut PostingMaker,
+) -> Result<(), AllocError>
+    requires { ArePostings (postings.old ++ alive mask.now list.now) }
+    ensures { OnOk result (postings.new ≡ postings.old ++ alive mask.now list.now) }
+{
+    if mask.range_count() == 0 {
+        return postings.append(list);
+    }
+    let mut addresses = Vec::new(postings.alloc());
+    put_live(list, mask, &mut addresses)?;
+    postings.push_all(&addresses)
 }
 
 /// Puts the live ones of the postings behind the addresses. Each block is read once.

@@ -1,5 +1,6 @@
 use Rattle.std.proofs.Common.{refl}
 use Rattle.posting_code.proofs.Packed.{next_absurd, next_is}
+use Rattle.posting_code.proofs.Joining.{number_within}
 use Rattle.posting_code.proofs.unpack.next_member.Goals as goal
 
 pub unreachable-requires : goal.unreachable-requires
@@ -13,3 +14,6 @@ returns-clause-above c = (next_is _ _ _ _ _ c.requires.can c.requires.some c.in-
 
 pub returns-clause-can : goal.returns-clause-can
 returns-clause-can c = (next_is _ _ _ _ _ c.requires.can c.requires.some c.in-Some.ensures.some).can
+
+pub returns-clause-within : goal.returns-clause-within
+returns-clause-within c = number_within _ _ _ _ c.in-Some.ensures.some
