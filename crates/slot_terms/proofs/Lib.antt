@@ -3,3 +3,4 @@ pub mod LeastHeads
 pub mod LivePostings
 pub mod Loops
 pub mod Passing
+pub mod Rising

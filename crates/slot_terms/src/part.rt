@@ -5,8 +5,8 @@ ghost use Rattle.slot_terms.specs.Parts.{alive, head_term, head_postings, past};
 use address_space::Range;
 use delete_mask::Mask;
 use index_shard::Shard;
-use posting_code::{PostingList, PostingMaker};
-use std::alloc::AllocError;
+use posting_code::{PostingList, PostingMaker, encode};
+use std::alloc::{AllocError, Global};
 use std::marker::Model;
 
 /// The index and the dead ranges of a slot, and the place of the first term that is still to come.
@@ -66,13 +66,18 @@ impl<'a> Part<'a> {
     }
 
     /// The same, with the live postings put behind those of a list.
-    pub(crate) fn take_packed(&mut self, term: &[u8], postings: &mut PostingMaker) -> Result<(), AllocError>
+    pub(crate) fn take_packed(
+        &mut self,
+        alloc: Global,
+        term: &[u8],
+        postings: &mut PostingMaker,
+    ) -> Result<(), AllocError>
         requires { ArePostings (postings.old ++ alive self.old.mask (head_postings self.old.left term.now)) }
         ensures postings { OnOk result (postings.new ≡ postings.old ++ alive self.old.mask (head_postings self.old.left term.now)) }
         ensures past { OnOk result (self.new ≡ past term.now self.old) }
     {
         if self.next < self.shard.term_count() && self.shard.term(self.next) == term {
-            append_live(self.shard.postings(self.next), self.mask, postings)?;
+            append_live(alloc, self.shard.postings(self.next), self.mask, postings)?;
             self.next += 1;
         }
         Ok(())
@@ -81,6 +86,7 @@ impl<'a> Part<'a> {
 
 /// Puts the live ones of the postings behind the others. Where nothing is dead they are not unpacked.
 fn append_live(
+    alloc: Global,
     list: &PostingList,
     mask: &Mask,
     postings: &mut PostingMaker,
@@ -91,9 +97,10 @@ fn append_live(
     if mask.range_count() == 0 {
         return postings.append(list);
     }
-    let mut addresses = Vec::new(postings.alloc());
+    let mut addresses = Vec::new(alloc);
     put_live(list, mask, &mut addresses)?;
-    postings.push_all(&addresses)
+    let live = encode(alloc, &addresses)?;
+    postings.append(&live)
 }
 
 /// Puts the live ones of the postings behind the addresses. Each block is read once.

@@ -1,0 +1,52 @@
+use Rattle.std.proofs.Common.{◌≡◌, ◌+◌, ◌++◌, true, false, drop, refl, sym, ap, ◌∙◌, arith, subst}
+use Rattle.std.proofs.lemmas.List.{append-nil}
+use Rattle.slot_terms.specs.Parts.{PartContent, alive, is_headed, head_postings, past}
+use Rattle.posting_code.specs.Postings.{ArePostings}
+use Rattle.slot_terms.proofs.Heads.{part_content, headed_at, headed_postings, headed_behind, unheaded_past, unheaded_postings, unheaded_behind}
+use Rattle.slot_terms.proofs.part.Part.take_packed.Goals as goal
+use Rattle.slot_terms.proofs.part.Part.take_packed.Goals.{else-self-term_count-via-then-self-term_count+else-eq, else-self-term_count-via-else-self-term_count}
+
+pub append_live-requires : goal.append_live-requires
+append_live-requires c =
+    let table = c.self.inside.shard.now.table in
+    let next = c.self.inside.next in
+    let term = c.args.term.now in
+    let out = c.args.postings.now in
+    let headed : is_headed (drop next table) term ≡ true = headed_at table next c.term.result.now term c.term.ensures.value ∙ sym c.eq.ensures ∙ c.if-eq.true in
+    subst ArePostings
+    (sym (ap (λ l. out ++ alive c.self.inside.mask.now l) (c.postings.ensures.value ∙ sym (headed_postings table next term headed))
+    ∙ ap (λ (p : PartContent). out ++ alive p.mask (head_postings p.left term)) c.self.view_is))
+    c.requires
+
+pub returns-in_ok-append_live : goal.returns-in_ok-append_live
+returns-in_ok-append_live c =
+    let table = c.self.inside.shard.now.table in
+    let next = c.self.inside.next in
+    let term = c.args.term.now in
+    let out = c.args.postings.now in
+    let headed : is_headed (drop next table) term ≡ true = headed_at table next c.term.result.now term c.term.ensures.value ∙ sym c.eq.ensures ∙ c.if-eq.true in
+    record {
+      postings =
+          c.in_ok-append_live.ensures
+          ∙ ap (λ l. out ++ alive c.self.inside.mask.now l) (c.postings.ensures.value ∙ sym (headed_postings table next term headed))
+          ∙ ap (λ (p : PartContent). out ++ alive p.mask (head_postings p.left term)) c.self.view_is;
+      past = ap (part_content c.self.inside.mask.now) (sym (headed_behind table next (next + 1) term refl headed)) ∙ ap (past term) c.self.view_is;
+    }
+
+pub returns-else-self-term_count : goal.returns-else-self-term_count
+returns-else-self-term_count c =
+    let table = c.self.inside.shard.now.table in
+    let next = c.self.inside.next in
+    let term = c.args.term.now in
+    let part = c.args.self.now in
+    let out = c.args.postings.now in
+    let unheaded : is_headed part.left term ≡ false =
+    subst (λ (p : PartContent). is_headed p.left term ≡ false) c.self.view_is
+    (elim c.else-self-term_count.branch [
+      | else-self-term_count-via-then-self-term_count+else-eq w ↦ headed_at table next w.term.result.now term w.term.ensures.value ∙ sym w.eq.ensures ∙ w.if-eq.false
+      | else-self-term_count-via-else-self-term_count w ↦ unheaded_past table next term (omega arith)
+    ]) in
+    record {
+      postings = sym (ap (λ l. out ++ alive part.mask l) (unheaded_postings part.left term unheaded) ∙ append-nil out);
+      past = ap (part_content part.mask) (sym (unheaded_behind part.left term unheaded));
+    }
