@@ -1,0 +1,7 @@
+use Rattle.std.proofs.Common.{◌≡◌, map, take}
+use Rattle.command_words.specs.Program.{HasNoEnd}
+use Rattle.command_words.proofs.reader.texts_of.Given as goal
+
+-- the texts are those of the words so far
+abbrev pub invariant-loop-word : goal.invariant-loop-word
+invariant-loop-word l = (map (λ text. text.now) l.texts.items ≡ take l.word-index l.words) × HasNoEnd (take l.word-index l.words)

@@ -1,0 +1,99 @@
+ghost use Rattle.std.specs.Prelude.{◌≡◌, IfOk, IfSome, IsNone, None, map, option_map};
+ghost use Rattle.command_words.specs.Grammar.{IsWithinLimits, made_from, number_within, options_from, options_of};
+ghost use Rattle.command_words.specs.Program.{HasNoEnd};
+
+use crate::command::command;
+use crate::options::{MOST_MADE, MOST_READERS, Made, Options};
+use clap::error::ErrorKind;
+use gcl_model::{ADDRESS_END, Bytes};
+use script_lang::number_of;
+use std::alloc::{AllocError, Global};
+
+// The number that a value writes, where it lies within these bounds.
+fn number_within(least: u64, most: u64, value: &str) -> Option<u64>
+    ensures { result ≡ number_within least most value.now }
+{
+    match number_of(value.as_bytes()) {
+        Some(n) if least <= n && n <= most => Some(n),
+        _ => None,
+    }
+}
+
+// The corpus that the values of `--made` and `--count` ask for: both are given, or neither.
+fn made_from(made: Option<&str>, count: Option<&str>) -> Option<Option<Made>>
+    ensures { result ≡ made_from (option_map (λ text. text.now) made.entry) (option_map (λ text. text.now) count.entry) }
+{
+    match (made, count) {
+        (None, None) => Some(None),
+        (Some(made), Some(count)) => {
+            let start = number_of(made.as_bytes())?;
+            let count = number_within(0, MOST_MADE, count)?;
+            Some(Some(Made { start, count }))
+        }
+        _ => None,
+    }
+}
+
+// The options of these values.
+fn options_from(
+    first: Option<&str>,
+    readers: Option<&str>,
+    made: Option<&str>,
+    count: Option<&str>,
+) -> Option<Options>
+    ensures value { result ≡ options_from (option_map (λ text. text.now) first.entry) (option_map (λ text. text.now) readers.entry)
+        (option_map (λ text. text.now) made.entry) (option_map (λ text. text.now) count.entry) }
+{
+    let first = number_within(0, ADDRESS_END, first.unwrap_or("0"))?;
+    let readers = number_within(1, MOST_READERS, readers.unwrap_or("4"))?;
+    let made = made_from(made, count)?;
+    Some(Options {
+        first,
+        readers,
+        made,
+    })
+}
+
+// The words as text. `--` would end the options for clap, so it is refused with what is not UTF-8.
+fn texts_of<'a>(alloc: Global, words: &'a [Bytes]) -> Result<Option<Vec<&'a str>>, AllocError>
+    ensures some { IfOk result (λ texts. IfSome texts (λ t. (map (λ text. text.now) t.items ≡ words.now) × HasNoEnd words.now)) }
+    ensures none { IfOk result (λ texts. IsNone texts → options_of words.now ≡ None) }
+{
+    let mut texts = Vec::new(alloc);
+    for word in words {
+        match str::from_utf8(word.as_slice()) {
+            Ok(text) if text != "--" => texts.push(text)?,
+            _ => return Ok(None),
+        }
+    }
+    Ok(Some(texts))
+}
+
+// The options that the texts write, by clap.
+fn options_in(alloc: Global, texts: &[&str]) -> Result<Option<Options>, AllocError>
+    requires { HasNoEnd (map (λ text. text.now) texts.now) }
+    ensures { IfOk result (λ options. options ≡ options_of (map (λ text. text.now) texts.now)) }
+{
+    match command(alloc)?.try_get_matches_from(texts) {
+        Ok(matches) => Ok(options_from(
+            matches.get_str("first"),
+            matches.get_str("readers"),
+            matches.get_str("made"),
+            matches.get_str("count"),
+        )),
+        Err(fault) if fault.kind() == ErrorKind::OutOfMemory => Err(AllocError),
+        Err(_) => Ok(None),
+    }
+}
+
+/// The options that the words write, None where they are outside the grammar: of `--first=7 --readers 2` the first
+/// address is 7, and there are two readers.
+pub fn options_of(alloc: Global, words: &[Bytes]) -> Result<Option<Options>, AllocError>
+    ensures value { IfOk result (λ options. options ≡ options_of words.now) }
+    ensures in_range { IfOk result (λ options. IfSome options IsWithinLimits) }
+{
+    match texts_of(alloc, words)? {
+        Some(texts) => options_in(alloc, texts.as_slice()),
+        None => Ok(None),
+    }
+}
