@@ -1,10 +1,16 @@
 -- What clap's parse of the program's command comes to.
-use Rattle.std.proofs.Common.{◌≡◌, ◌∙◌, ◌∷◌, ◌++◌, ◌||◌, ◌&&◌, ℕ, Bool, true, false, List, [], map, find, Option, Some, None, is_some, option_map, option_and_then, refl, sym, ap, ap₂, subst, codes, bytes_eq, not, drop, true≢false, fold}
+use Rattle.std.proofs.Common.{◌≡◌, ◌∙◌, ◌∷◌, ◌++◌, ◌||◌, ◌&&◌, ℕ, Bool, true, false, List, [], map, find, Option, Some, None, IsNone, is_some, inl, inr, option_map, option_and_then, refl, sym, ap, ap₂, subst, codes, bytes_eq, not, drop, true≢false, fold}
 use Rattle.std.specs.List.{list_all}
-use Rattle.clap.specs.Faults.{check_fault, default_fault, defaults_fault, entered_fault, fault_of}
-use Rattle.clap.specs.Kinds.{Kinds, or_else}
+use Rattle.clap.specs.Faults.{check_fault, default_fault, defaults_fault, entered_fault, fault_of, is_simple_and_free}
+use Rattle.clap.specs.Kinds.{HasKind, IsAmong, Kinds, or_else}
+use Rattle.clap.specs.Values.{kind_of}
+use Rattle.clap.specs.Matches.{first_value}
+use Rattle.clap.proofs.WalkLemmas.{first_value-rows}
+use Rattle.clap.specs.declared.error.Error.{Error}
+use Rattle.clap.specs.declared.error.kind.ErrorKind.TheVariants.{OutOfMemory}
+use Rattle.clap.specs.declared.parser.matches.Found.{Found}
 use Rattle.clap.specs.Simple.{App, built, entered, is_simple, matches_of}
-use Rattle.clap.specs.Walk.{Row, Rule, Text, finished, first_of, has_row, idle, nothing_held, stop_after, walk, with_default}
+use Rattle.clap.specs.Walk.{Row, Rule, Text, finished, first_of, has_row, idle, nothing_held, rows_of, stop_after, walk, with_default}
 use Rattle.command_words.specs.declared.options.Options.{Options}
 use Rattle.command_words.specs.Grammar.{Given, are_options, is_given, is_option_name, options_from, options_in, options_of, pairs_of, value_of}
 use Rattle.command_words.specs.Program.{HasNoEnd, program}
@@ -129,3 +135,27 @@ fault_outside words plain fault = go (parse_reads words plain)
     go : Reads [] words (fault_of program words) (matches_of program words) → options_of words ≡ None
     go (taken reads) = absurd (fault reads.clear)
     go (refused reads) = none reads.none (pairs_of words) refl
+
+-- ---- the same, of the matches of a parse
+
+pub is_simple_program : is_simple program ≡ true
+is_simple_program = refl
+
+pub is_free_program : is_simple_and_free program ≡ true
+is_free_program = refl
+
+pub matches_options : (found : Found) (words : List Text) → rows_of found ≡ matches_of program words → HasNoEnd words → fault_of program words ≡ []
+    → options_from (first_value found (codes "first")) (first_value found (codes "readers")) (first_value found (codes "made")) (first_value found (codes "count")) ≡ options_of words
+matches_options found words rows plain clear =
+    rw (first_value-rows found (codes "first"), first_value-rows found (codes "readers"), first_value-rows found (codes "made"), first_value-rows found (codes "count"))
+    (ap options_found rows ∙ found_options words plain clear)
+
+pub is_none : {X : Type 0} (o : Option X) → IsNone o → o ≡ None
+is_none None none = refl
+is_none (Some x) none = absurd (true≢false none)
+
+-- an error that is not for want of memory is a step that failed
+pub error_outside : (kinds : Kinds) (words : List Text) (e : Error) → HasNoEnd words → kinds ≡ fault_of program words → HasKind kinds e → ¬ (kind_of e ≡ OutOfMemory)
+    → options_of words ≡ None
+error_outside kinds words e plain is (inl memory) other = absurd (other memory)
+error_outside kinds words e plain is (inr among) other = fault_outside words plain (λ clear. subst (IsAmong (kind_of e)) (is ∙ clear) among)

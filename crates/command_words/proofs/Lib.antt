@@ -5,3 +5,5 @@ pub mod TurnLemmas
 pub mod WordLemmas
 pub mod ReadLemmas
 pub mod LevelLemmas
+pub mod TextLemmas
+pub mod LimitLemmas

@@ -38,7 +38,8 @@ pub data Reads (all : List Given) (spelled : List Text) (kinds : Kinds) (rows : 
 
 -- ---- pairs at the front
 
-is_cons : (given : Given) (o : Option (List Given)) (pairs : List Given) → option_map (λ rest. given ∷ rest) o ≡ Some pairs
+-- where a pair is put in front, what comes out begins with it
+pub is_cons : (given : Given) (o : Option (List Given)) (pairs : List Given) → option_map (λ rest. given ∷ rest) o ≡ Some pairs
     → (rest : List Given) × (o ≡ Some rest) × (pairs ≡ given ∷ rest)
 is_cons given None pairs is = absurd (some≢none pairs (sym is))
 is_cons given (Some rest) pairs is = (rest, refl, ap (λ o. unwrap_or o pairs) (sym is))

@@ -1,4 +1,5 @@
 ghost use Rattle.std.specs.Prelude.{◌≡◌, IfOk, IfSome, IsNone, None, map, option_map};
+ghost use Rattle.clap.specs.declared.error.kind.ErrorKind.TheVariants.{OutOfMemory};
 ghost use Rattle.command_words.specs.Grammar.{IsWithinLimits, made_from, number_within, options_from, options_of};
 ghost use Rattle.command_words.specs.Program.{HasNoEnd};
 
@@ -69,6 +70,16 @@ fn texts_of<'a>(alloc: Global, words: &'a [Bytes]) -> Result<Option<Vec<&'a str>
     Ok(Some(texts))
 }
 
+// None for words that clap refuses, but not where it wanted memory.
+fn refusal(kind: ErrorKind) -> Result<Option<Options>, AllocError>
+    ensures { IfOk result (λ options. IsNone options × ¬ (kind ≡ OutOfMemory)) }
+{
+    match kind {
+        ErrorKind::OutOfMemory => Err(AllocError),
+        _ => Ok(None),
+    }
+}
+
 // The options that the texts write, by clap.
 fn options_in(alloc: Global, texts: &[&str]) -> Result<Option<Options>, AllocError>
     requires { HasNoEnd (map (λ text. text.now) texts.now) }
@@ -81,8 +92,7 @@ fn options_in(alloc: Global, texts: &[&str]) -> Result<Option<Options>, AllocErr
             matches.get_str("made"),
             matches.get_str("count"),
         )),
-        Err(fault) if fault.kind() == ErrorKind::OutOfMemory => Err(AllocError),
-        Err(_) => Ok(None),
+        Err(fault) => refusal(fault.kind()),
     }
 }
 
