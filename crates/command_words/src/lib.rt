@@ -6,7 +6,7 @@
 //!
 //! The layer above uses `options_of`: it answers for every list of words exactly what the grammar says. The words are
 //! parted by the library `clap`, and the numbers, their bounds and the pair of `--made` and `--count` are tested here.
-//! `--first=7 --readers 2` gives the first address 7 and two readers.
+//! `--first=7 --readers 2` gives the first address 7 and two readers. `wrong_word` is for a message and promises nothing.
 #![tactic(auto)]
 
 mod command;
@@ -14,6 +14,8 @@ mod options;
 mod reader;
 #[cfg(test)]
 mod tests;
+mod wrong;
 
 pub use options::{MOST_MADE, MOST_READERS, Made, Options};
 pub use reader::options_of;
+pub use wrong::wrong_word;

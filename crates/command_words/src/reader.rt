@@ -10,11 +10,11 @@ use gcl_model::{ADDRESS_END, Bytes};
 use script_lang::number_of;
 use std::alloc::{AllocError, Global};
 
-// The number that a value writes, where it lies within these bounds.
-fn number_within(least: u64, most: u64, value: &str) -> Option<u64>
+/// The number that a value writes, where it lies within these bounds.
+pub(crate) fn number_within(least: u64, most: u64, value: &[u8]) -> Option<u64>
     ensures { result ≡ number_within least most value.now }
 {
-    match number_of(value.as_bytes()) {
+    match number_of(value) {
         Some(n) if least <= n && n <= most => Some(n),
         _ => None,
     }
@@ -28,7 +28,7 @@ fn made_from(made: Option<&str>, count: Option<&str>) -> Option<Option<Made>>
         (None, None) => Some(None),
         (Some(made), Some(count)) => {
             let start = number_of(made.as_bytes())?;
-            let count = number_within(0, MOST_MADE, count)?;
+            let count = number_within(0, MOST_MADE, count.as_bytes())?;
             Some(Some(Made { start, count }))
         }
         _ => None,
@@ -45,8 +45,8 @@ fn options_from(
     ensures value { result ≡ options_from (option_map (λ text. text.now) first.entry) (option_map (λ text. text.now) readers.entry)
         (option_map (λ text. text.now) made.entry) (option_map (λ text. text.now) count.entry) }
 {
-    let first = number_within(0, ADDRESS_END, first.unwrap_or("0"))?;
-    let readers = number_within(1, MOST_READERS, readers.unwrap_or("4"))?;
+    let first = number_within(0, ADDRESS_END, first.unwrap_or("0").as_bytes())?;
+    let readers = number_within(1, MOST_READERS, readers.unwrap_or("4").as_bytes())?;
     let made = made_from(made, count)?;
     Some(Options {
         first,
