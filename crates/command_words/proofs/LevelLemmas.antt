@@ -1,6 +1,5 @@
 -- What clap's parse of the program's command comes to.
-use Rattle.std.proofs.Common.{◌≡◌, ◌∙◌, ◌∷◌, ◌++◌, ◌||◌, ◌&&◌, ℕ, Bool, true, false, List, [], map, find, Option, Some, None, IsNone, is_some, inl, inr, option_map, option_and_then, refl, sym, ap, ap₂, subst, codes, bytes_eq, not, drop, true≢false, fold}
-use Rattle.std.specs.List.{list_all}
+use Rattle.std.proofs.Common.{◌≡◌, ◌∙◌, ◌∷◌, ◌&&◌, Bool, true, false, List, [], map, Option, Some, None, IsNone, is_some, inl, inr, option_and_then, refl, sym, ap, subst, codes, bytes_eq, not, drop, true≢false, fold}
 use Rattle.clap.specs.Faults.{check_fault, default_fault, defaults_fault, entered_fault, fault_of, is_simple_and_free}
 use Rattle.clap.specs.Kinds.{HasKind, IsAmong, Kinds, or_else}
 use Rattle.clap.specs.Values.{kind_of}
@@ -9,16 +8,15 @@ use Rattle.clap.proofs.WalkLemmas.{first_value-rows}
 use Rattle.clap.specs.declared.error.Error.{Error}
 use Rattle.clap.specs.declared.error.kind.ErrorKind.TheVariants.{OutOfMemory}
 use Rattle.clap.specs.declared.parser.matches.Found.{Found}
-use Rattle.clap.specs.Simple.{App, built, entered, is_simple, matches_of}
-use Rattle.clap.specs.Walk.{Row, Rule, Text, finished, first_of, has_row, idle, nothing_held, rows_of, stop_after, walk, with_default}
+use Rattle.clap.specs.Simple.{built, entered, is_simple, matches_of}
+use Rattle.clap.specs.Walk.{Row, Text, finished, first_of, has_row, idle, nothing_held, rows_of, stop_after, walk, with_default}
 use Rattle.command_words.specs.declared.options.Options.{Options}
 use Rattle.command_words.specs.Grammar.{Given, are_options, is_given, is_option_name, options_from, options_in, options_of, pairs_of, value_of}
 use Rattle.command_words.specs.Program.{HasNoEnd, program}
 use Rattle.command_words.proofs.PairLemmas.{each_name}
-use Rattle.command_words.proofs.ProgramLemmas.{IsProgram, rule, shape, shape-IsProgram}
+use Rattle.command_words.proofs.ProgramLemmas.{rule, shape, shape-IsProgram}
 use Rattle.command_words.proofs.TurnLemmas.{HasFault, faults, hold, last_rows, row, stand}
 use Rattle.command_words.proofs.ReadLemmas.{Reads, reads_from, refused, taken}
-use Rattle.command_words.proofs.WordLemmas.{some≢none}
 
 -- ---- defaults and the last checks
 

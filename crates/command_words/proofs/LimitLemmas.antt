@@ -1,5 +1,5 @@
 -- The numbers of options lie within the limits.
-use Rattle.std.proofs.Common.{◌≡◌, ◌∙◌, ◌∷◌, ◌&&◌, ◌≤◌, ℕ, Bool, true, false, List, Option, Some, None, IfSome, option_map, option_and_then, unwrap_or, cond, refl, sym, ap, codes, nat_le, leb-true, true≢false}
+use Rattle.std.proofs.Common.{◌≡◌, ◌&&◌, ◌≤◌, ℕ, Bool, true, false, List, Option, Some, None, IfSome, option_map, option_and_then, unwrap_or, cond, refl, codes, nat_le, leb-true}
 use Rattle.gcl_model.specs.Limits.{address_end}
 use Rattle.script_lang.specs.Numbers.{number_of}
 use Rattle.command_words.specs.declared.options.Made.{Made}

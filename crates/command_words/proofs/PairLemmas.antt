@@ -1,10 +1,9 @@
 -- What the grammar says of pairs of names and values.
-use Rattle.std.proofs.Common.{◌≡◌, ◌∙◌, ◌∷◌, ◌++◌, ◌&&◌, ◌||◌, not, ℕ, Bool, true, false, List, [], map, find, Option, Some, None, option_map, option_and_then, unwrap_or, cond, refl, sym, ap, ap₂, subst, codes, bytes_eq, nat_eq, eqb-true, true≢false, suc, take, drop, arith, ◌+◌}
-use Rattle.std.specs.List.{list_all, list_any}
+use Rattle.std.proofs.Common.{◌≡◌, ◌∙◌, ◌∷◌, ◌++◌, ◌&&◌, ◌||◌, not, ℕ, Bool, true, false, List, [], Option, Some, None, option_map, option_and_then, unwrap_or, refl, sym, ap, ap₂, subst, codes, bytes_eq, nat_eq, eqb-true, true≢false, suc, take, drop, arith, ◌+◌}
 use Rattle.std.proofs.lemmas.Slice.Eq.{bytes_eq-Decides}
 use Rattle.command_words.specs.declared.options.Made.{Made}
 use Rattle.command_words.specs.declared.options.Options.{Options}
-use Rattle.command_words.specs.Grammar.{Given, is_joined, parted, pairs_of, is_option_name, is_given, are_options, value_of, number_within, made_of, made_from, options_from, options_in, most_readers, most_made}
+use Rattle.command_words.specs.Grammar.{Given, is_joined, parted, pairs_of, is_option_name, is_given, are_options, value_of, number_within, made_from, options_from, options_in, most_readers}
 use Rattle.script_lang.specs.Numbers.{is_number, number_of}
 use Rattle.gcl_model.specs.Limits.{address_end}
 

@@ -1,8 +1,7 @@
 -- What clap reads of the program's command.
-use Rattle.std.proofs.Common.{◌≡◌, ◌∙◌, ◌∷◌, ◌++◌, ◌||◌, ◌&&◌, ◌==◌, not, ℕ, Bool, true, false, List, [], map, drop, Option, Some, None, refl, sym, ap, ap₂, codes, bytes_eq, true≢false}
-use Rattle.clap.specs.Lexer.{usize_max}
-use Rattle.clap.specs.Simple.{App, Shape, built, filled}
-use Rattle.clap.specs.Walk.{Row, Rule, Text, arg_by_id, arg_by_index, arg_by_long, arg_by_short}
+use Rattle.std.proofs.Common.{◌≡◌, ◌∷◌, ◌||◌, ℕ, Bool, true, false, drop, Some, None, refl, codes, bytes_eq, true≢false}
+use Rattle.clap.specs.Simple.{Shape, built, filled}
+use Rattle.clap.specs.Walk.{Rule, Text, arg_by_id, arg_by_index, arg_by_long, arg_by_short}
 use Rattle.command_words.specs.Grammar.{is_option_name}
 use Rattle.command_words.specs.Program.{option_rule, program}
 use Rattle.command_words.proofs.PairLemmas.{each_name}

@@ -1,16 +1,15 @@
 -- What clap makes of the words of the command line, by the grammar.
-use Rattle.std.proofs.Common.{◌≡◌, ◌∙◌, ◌∷◌, ◌++◌, ◌||◌, ◌&&◌, ◌==◌, ◌⊎◌, inl, inr, not, ℕ, Bool, true, false, List, [], map, Option, Some, None, is_some, option_map, refl, sym, ap, ap₂, subst, bytes_eq, true≢false, fold, append_assoc, append-nil, unwrap_or}
+use Rattle.std.proofs.Common.{◌≡◌, ◌∙◌, ◌∷◌, ◌++◌, ◌&&◌, not, Bool, true, false, List, [], map, Option, Some, None, option_map, refl, sym, ap, ap₂, subst, bytes_eq, true≢false, append_assoc, append-nil, unwrap_or}
 use Rattle.std.specs.List.{list_all}
-use Rattle.clap.specs.Lexer.{long_of, short_of}
+use Rattle.clap.specs.Lexer.{long_of}
 use Rattle.clap.specs.Kinds.{Kinds, or_else}
 use Rattle.clap.specs.Simple.{Shape}
-use Rattle.clap.specs.Walk.{Row, Rule, Text, Waiting, Walk, idle, option, subcommand_met, settled_rows, has_row, reacted, used, walked}
+use Rattle.clap.specs.Walk.{Row, Text, Waiting, Walk, idle, option, subcommand_met, settled_rows, has_row, used, walked}
 use Rattle.clap.specs.Faults.{settle_fault, turn_fault, use_fault, walk_fault}
 use Rattle.clap.specs.declared.error.kind.ErrorKind.TheVariants as kind
-use Rattle.command_words.specs.declared.options.Options.{Options}
-use Rattle.command_words.specs.Grammar.{Given, is_joined, is_option_name, is_given, are_options, options_in, pairs_of, parted}
+use Rattle.command_words.specs.Grammar.{Given, is_joined, is_option_name, are_options, options_in, pairs_of, parted}
 use Rattle.script_lang.specs.Numbers.{is_number}
-use Rattle.command_words.proofs.PairLemmas.{bad_name, bad_repeat, bad_value, bytes_eq-refl, one_more, pairs_of-joined, pairs_of-last, pairs_of-spaced}
+use Rattle.command_words.proofs.PairLemmas.{bad_name, bad_repeat, bad_value, one_more, pairs_of-joined, pairs_of-last, pairs_of-spaced}
 use Rattle.command_words.proofs.ProgramLemmas.{IsProgram, rule}
 use Rattle.command_words.proofs.TurnLemmas.{HasFault, ValueTurn, fails, fails_value, faults, faults-here, faults-next, has_row-given, hold, last_rows, last_rows-next, later, row, sooner, stand, stray-fails, takes_value, turn-joined, turn-spaced, turn-unknown, use-new, use-repeat, used-new, value_turn, walked-joined, walked-spaced}
 use Rattle.command_words.proofs.WordLemmas.{LongWord, joined, long_no_number, long_word, name_apart, no_joined_name, no_name, short_no_number, some≢none, spaced}

@@ -1,8 +1,8 @@
 -- Words of the grammar are text.
-use Rattle.std.proofs.Common.{◌≡◌, ◌∙◌, ◌∷◌, ◌++◌, ◌&&◌, ◌||◌, ◌<◌, not, ℕ, Bool, true, false, List, [], length, Option, Some, None, option_map, option_and_then, refl, sym, ap, ap₂, subst, codes, bytes_eq, nat_eq, nat_le, nat_lt, true≢false, append_assoc, get_or, ltb-true, leb-true, lt-ltb, arith, zero, suc, unwrap_or}
-use Rattle.std.specs.List.{All, list_all, list_any}
+use Rattle.std.proofs.Common.{◌≡◌, ◌∙◌, ◌∷◌, ◌++◌, ◌&&◌, ◌<◌, not, ℕ, Bool, true, false, List, [], length, Option, Some, None, option_map, option_and_then, refl, sym, ap, ap₂, codes, bytes_eq, nat_le, true≢false, append_assoc, get_or, ltb-true, leb-true, lt-ltb, arith, zero, suc}
+use Rattle.std.specs.List.{All, list_all}
 use Rattle.std.specs.Char.{is_ascii, is_ascii_digit}
-use Rattle.std.specs.Str.{IsAscii, IsUtf8}
+use Rattle.std.specs.Str.{IsUtf8}
 use Rattle.std.proofs.lemmas.List.Folds.{list_all-append, list_all_at}
 use Rattle.std.proofs.lemmas.Slice.Eq.{bytes_eq-Decides}
 use Rattle.std.proofs.lemmas.Str.{IsUtf8-from_ascii}

@@ -1,14 +1,13 @@
 -- What clap makes of one word of the command line.
-use Rattle.std.proofs.Common.{◌≡◌, ◌∙◌, ◌∷◌, ◌++◌, ◌||◌, ◌&&◌, ◌==◌, ◌⊎◌, inl, inr, not, ℕ, Bool, true, false, zero, suc, List, [], map, drop, length, Option, Some, None, is_some, option_map, option_and_then, refl, sym, ap, ap₂, subst, codes, bytes_eq, nat_eq, true≢false, cond, append-nil, fold}
+use Rattle.std.proofs.Common.{◌≡◌, ◌∙◌, ◌∷◌, ◌++◌, ◌||◌, ◌&&◌, ◌⊎◌, inl, inr, ℕ, Bool, true, false, zero, suc, List, [], map, drop, length, Option, Some, None, is_some, refl, sym, ap, ap₂, subst, bytes_eq, true≢false, cond, append-nil, fold}
 use Rattle.std.specs.Prelude.{slice_get}
 use Rattle.std.specs.Str.{chars}
-use Rattle.std.specs.Option.{option_map_or}
 use Rattle.std.proofs.lemmas.List.{map-append}
 use Rattle.clap.specs.Lexer.{long_of, short_of}
 use Rattle.clap.specs.Kinds.{Kinds, or_else}
 use Rattle.clap.specs.Simple.{Shape}
-use Rattle.clap.specs.Walk.{Held, Outcome, Row, Rule, Step, Text, Waiting, Walk, after_step, arg_by_id, arg_by_long, at_row, bundle_met, has_row, idle, long_or_other, more_values, reacted, done, refused, option, plain_word, settled, settled_rows, short_or_plain, subcommand_met, used, walked, without, plain}
-use Rattle.clap.specs.Faults.{bundle_fault, flag_word_fault, flags_fault, settle_fault, step_fault, turn_fault, use_fault, walk_fault}
+use Rattle.clap.specs.Walk.{Held, Row, Step, Text, Waiting, Walk, after_step, at_row, bundle_met, has_row, idle, long_or_other, more_values, reacted, option, plain_word, settled, short_or_plain, subcommand_met, used, walked, without, plain}
+use Rattle.clap.specs.Faults.{flag_word_fault, flags_fault, settle_fault, step_fault, turn_fault, use_fault, walk_fault}
 use Rattle.clap.specs.declared.builder.value_parser.Reading.TheVariants as reading
 use Rattle.clap.specs.declared.parser.matches.ValueSource.TheVariants.{CommandLine}
 use Rattle.clap.specs.declared.error.kind.ErrorKind.{ErrorKind}

@@ -1,8 +1,8 @@
 -- What a word looks like to clap and to the grammar.
-use Rattle.std.proofs.Common.{◌≡◌, ◌∙◌, ◌∷◌, ◌++◌, ◌||◌, ◌&&◌, ◌==◌, ◌⊎◌, ◌+◌, inl, inr, not, ℕ, Bool, true, false, zero, suc, List, [], map, drop, take, length, Option, Some, None, is_some, option_and_then, unwrap_or, refl, sym, ap, ap₂, subst, codes, bytes_eq, nat_eq, nat_le, true≢false, cond, eqb-true, arith}
-use Rattle.std.specs.List.{before_first, after_first, list_any, list_all}
+use Rattle.std.proofs.Common.{◌≡◌, ◌∙◌, ◌∷◌, ◌++◌, ◌||◌, ◌&&◌, ℕ, Bool, true, false, [], length, Option, Some, None, is_some, option_and_then, unwrap_or, refl, sym, ap, ap₂, subst, nat_eq, nat_le, true≢false, cond, eqb-true}
+use Rattle.std.specs.List.{before_first, after_first, list_all}
 use Rattle.std.specs.Char.{is_ascii_digit}
-use Rattle.clap.specs.Lexer.{has_byte, long_of, long_of_rest, name_and_value, short_of, short_of_rest, strip_byte}
+use Rattle.clap.specs.Lexer.{long_of, long_of_rest, name_and_value, short_of, short_of_rest, strip_byte}
 use Rattle.clap.specs.Walk.{Text}
 use Rattle.command_words.specs.Grammar.{Given, is_equals, is_joined, parted, is_option_name}
 use Rattle.script_lang.specs.Numbers.{is_number}

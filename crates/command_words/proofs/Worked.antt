@@ -1,5 +1,5 @@
 -- The grammar of the words, worked out.
-use Rattle.std.proofs.Common.{◌≡◌, ℕ, [], ◌∷◌, List, refl, codes, Option, Some, None}
+use Rattle.std.proofs.Common.{◌≡◌, [], ◌∷◌, refl, codes, Option, Some, None}
 use Rattle.command_words.specs.declared.options.Options.{Options}
 use Rattle.command_words.specs.Grammar.{pairs_of, options_of}
 

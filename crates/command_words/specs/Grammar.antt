@@ -1,7 +1,7 @@
 -- The words of the command line and what they write.
-use Rattle.std.specs.Prelude.{ℕ, ◌≤◌, ◌==◌, ◌&&◌, ◌||◌, Bool, true, not, nat_le, List, [], ◌∷◌, codes, bytes_eq, Option, Some, None, IfSome, option_map, unwrap_or, find, if◌then◌else◌}
+use Rattle.std.specs.Prelude.{ℕ, ◌≤◌, ◌==◌, ◌&&◌, Bool, true, not, nat_le, List, [], ◌∷◌, codes, bytes_eq, Option, Some, None, IfSome, option_map, unwrap_or, find, if◌then◌else◌}
 use Rattle.std.specs.Option.{option_and_then}
-use Rattle.std.specs.List.{list_all, list_any, before_first, after_first}
+use Rattle.std.specs.List.{list_any, before_first, after_first}
 use Rattle.gcl_model.specs.Limits.{address_end}
 use Rattle.script_lang.specs.Numbers.{number_of}
 use Rattle.command_words.specs.declared.options.Made.{Made}
