@@ -19,7 +19,7 @@ pub struct Options {
     /// The address that the collection begins at.
     pub first: u64,
     /// How many readers there are, from 1 on.
-    pub readers: u64,
+    pub readers: usize,
     /// The corpus to run over in place of the script and the files.
     pub made: Option<Made>,
 }

@@ -50,7 +50,7 @@ fn options_from(
     let made = made_from(made, count)?;
     Some(Options {
         first,
-        readers,
+        readers: readers as usize,
         made,
     })
 }

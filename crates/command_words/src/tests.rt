@@ -22,7 +22,7 @@ fn words_of(alloc: Global, line: &[u8]) -> Result<Vec<Bytes>, AllocError> {
     Ok(words)
 }
 
-fn given(first: u64, readers: u64) -> Option<Options> {
+fn given(first: u64, readers: usize) -> Option<Options> {
     Some(Options {
         first,
         readers,
@@ -30,7 +30,7 @@ fn given(first: u64, readers: u64) -> Option<Options> {
     })
 }
 
-fn made(first: u64, readers: u64, start: u64, count: u64) -> Option<Options> {
+fn made(first: u64, readers: usize, start: u64, count: u64) -> Option<Options> {
     Some(Options {
         first,
         readers,
