@@ -21,4 +21,4 @@ pub summary-put : (start count lines : ℕ) (counts : Counts) (text out out_1 ou
 summary-put start count lines counts text out out_1 out_2 out_3 out_4 out_5 out_6 out_7 out_8 e_1 e_2 e_3 e_4 e_5 e_6 e_7 e_8 number are =
     rw (e_8, e_7, e_6, e_5, e_4, e_3, e_2, e_1, are.refused, are.bytes, are.sum, number)
     (summary_text out (codes "made ") (decimal start) (codes " ") (decimal count) (codes "lines ") (decimal (length (made_lines start count))) (codes "refused ") (decimal (refusals text))
-     (codes "bytes ") (decimal (length text)) (codes "sum ") (decimal (sum text)) (10 ∷ []))
+    (codes "bytes ") (decimal (length text)) (codes "sum ") (decimal (sum text)) (10 ∷ []))

@@ -125,7 +125,10 @@ fn a_summary_tells_refusals_bytes_and_their_sum(rt: HostRuntime) -> Result<(), F
     let cases: [(&[&[u8]], &[u8]); 5] = [
         (&[], b"refused 0\nbytes 0\nsum 0\n"),
         (&[b"= 2\n"], b"refused 0\nbytes 4\nsum 153\n"),
-        (&[b"! no", b" file 7\n= 1\n!"], b"refused 2\nbytes 17\nsum 1016\n"),
+        (
+            &[b"! no", b" file 7\n= 1\n!"],
+            b"refused 2\nbytes 17\nsum 1016\n",
+        ),
         (&[b"a!\n", b"!", b"!"], b"refused 1\nbytes 5\nsum 206\n"),
         (&[b"\n", b"\n!"], b"refused 1\nbytes 3\nsum 53\n"),
     ];
