@@ -22,11 +22,12 @@ pub(crate) fn merge_terms(
     ensures postings { IfOk result (λ shard. (term : List ℕ) → postings_of shard.table term ≡ postings_left terms.old term) }
     ensures shard { IfOk result IsShard }
 {
+    // Its first address is read so that the end of the range is known to be in bounds.
+    let _ = &range.first;
     let mut maker = ShardMaker::new(alloc, range);
-    let mut addresses = Vec::new(alloc);
-    while let Some(term) = terms.next(&mut addresses)? {
-        if !addresses.is_empty() {
-            maker.push_term(term, &addresses)?;
+    while let Some((term, postings)) = terms.next_packed()? {
+        if postings.len() > 0 {
+            maker.push_list(term, postings)?;
         }
     }
     Ok(maker.finish())

@@ -23,6 +23,10 @@ front_rises xs ys r = front_within 0 (2 ^ 56) xs ys r
 pub back_rises : (xs ys : List ℕ) → ArePostings (xs ++ ys) → ArePostings ys
 back_rises xs ys r = back_within 0 (2 ^ 56) xs ys r
 
+-- what is left of addresses that rise within bounds
+pub left_of_rising : (low end : ℕ) (done left whole : List ℕ) → done ++ left ≡ whole → RiseWithin low end whole → end ≤ 2 ^ 56 → ArePostings left
+left_of_rising low end done left whole is rise le = back_rises done left (subst ArePostings (sym is) (rise_wider low 0 end (2 ^ 56) whole rise (omega arith) le))
+
 -- where nothing is dead, all are alive
 pub all_alive : (mask : List SlotRange) (xs : List ℕ) → 0 ≡ length mask → alive mask xs ≡ xs
 all_alive [] [] none = refl

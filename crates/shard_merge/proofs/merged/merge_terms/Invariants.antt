@@ -4,11 +4,11 @@ use Rattle.shard_merge.proofs.TermByTerm.{IsMerging}
 use Rattle.shard_merge.proofs.merged.merge_terms.Given as goal
 
 -- the maker has the terms so far, and the rest is still to come
-abbrev pub invariant-loop-addresses : goal.invariant-loop-addresses
-invariant-loop-addresses l = record {
+abbrev pub invariant-loop-maker : goal.invariant-loop-maker
+invariant-loop-maker l = record {
   range : l.maker.range ≡ l.fn.range;
   merging : IsMerging l.fn.terms l.terms l.maker.table;
 }
 
-abbrev pub decreases-loop-addresses : goal.decreases-loop-addresses
-decreases-loop-addresses l = entries_left l.terms
+abbrev pub decreases-loop-maker : goal.decreases-loop-maker
+decreases-loop-maker l = entries_left l.terms
