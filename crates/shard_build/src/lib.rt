@@ -4,7 +4,8 @@
 //! that `build` makes are these, and its range is these addresses.
 //!
 //! The layer above gives the next free address and a file's tokens. From address 0 on, the shard of `to be or not to be`
-//! has `to` at 1 and 5, and `</file!>` at 7. Any `Tokens` will do: a list of tokens, or a text that was cut.
+//! has `to` at 1 and 5, and `</file!>` at 7. Any `Tokens` will do: a list of tokens, or a text that was cut. Of a text as
+//! it stands, `build_text` takes one token after the other, so that nothing is kept but the index.
 #![tactic(auto)]
 
 mod boundaries;

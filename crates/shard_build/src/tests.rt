@@ -1,12 +1,12 @@
 ghost use Rattle.std.specs.Prelude.{◌<◌};
 
-use crate::making::{build, build_from};
+use crate::making::{build, build_from, build_text};
 use gcl_model::{Bytes, Ledger, Question, Steps, TokenList, counted};
 use index_shard::{Direction, Shard};
 use std::alloc::{AllocError, Global};
 use std::process::Abort;
 use std::test::Fail;
-use word_tokens::token_text;
+use word_tokens::{token_count, token_text};
 
 fn tokens_of(alloc: Global, words: &[&str]) -> Result<TokenList, AllocError> {
     let mut tokens = TokenList::new(alloc);
@@ -98,10 +98,13 @@ fn a_file_is_indexed_with_its_boundaries(rt: HostRuntime) -> Result<(), Fail> {
 }
 
 #[test]
-fn a_text_that_was_cut_is_indexed_as_its_tokens(rt: HostRuntime) -> Result<(), Fail> {
-    let text = token_text(rt.alloc(), b"To be, or NOT to be?")?;
+fn a_text_is_indexed_as_its_tokens_whether_it_was_cut_or_not(rt: HostRuntime) -> Result<(), Fail> {
+    let bytes = b"To be, or NOT to be?";
+    let text = token_text(rt.alloc(), bytes)?;
     assert_eq!(rt; text.len(), 6);
     is_hamlet(&rt, &build_from(rt.alloc(), 0, &text)?);
+    assert_eq!(rt; token_count(bytes), 6);
+    is_hamlet(&rt, &build_text(rt.alloc(), 0, bytes)?);
     Ok(())
 }
 

@@ -1,4 +1,4 @@
-use crate::{is_token, token_count, token_text, tokens, tokens_are_tokens};
+use crate::{TokenCursor, is_token, token_count, token_text, tokens, tokens_are_tokens};
 use std::alloc::{AllocError, Global};
 use std::test::Fail;
 
@@ -69,5 +69,26 @@ fn tags_that_never_end_are_words(rt: HostRuntime) -> Result<(), Fail> {
     assert_eq!(rt; token_count(&text), 3000);
     assert_eq!(rt; token_text(alloc, &text)?.len(), 3000);
     tokens_are_tokens();
+    Ok(())
+}
+
+#[test]
+fn a_cursor_gives_the_tokens_one_at_a_time(rt: HostRuntime) -> Result<(), AllocError> {
+    let texts: [&[u8]; 4] = [
+        b"",
+        b" .. ",
+        b"To be, or NOT to be?",
+        b"<a x='1'>B</a><Br/>c<d/> <e",
+    ];
+    for bytes in texts {
+        let text = token_text(rt.alloc(), bytes)?;
+        let mut cursor = TokenCursor::new(bytes);
+        let mut token = Vec::new(rt.alloc());
+        for i in 0..text.len() {
+            assert!(rt; cursor.next(&mut token)?, "token {i}");
+            assert_eq!(rt; token.as_slice(), text.get(i), "token {i}");
+        }
+        assert!(rt; !cursor.next(&mut token)?);
+    }
     Ok(())
 }
