@@ -13,6 +13,7 @@ use Rattle.clap.specs.Walk.{Row, Text, finished, first_of, has_row, idle, nothin
 use Rattle.command_words.specs.declared.options.Options.{Options}
 use Rattle.command_words.specs.Grammar.{Given, are_options, is_given, is_option_name, options_from, options_in, options_of, pairs_of, value_of}
 use Rattle.command_words.specs.Program.{HasNoEnd, program}
+use Rattle.command_words.proofs.Cases.{both}
 use Rattle.command_words.proofs.PairLemmas.{each_name}
 use Rattle.command_words.proofs.ProgramLemmas.{rule, shape, shape-IsProgram}
 use Rattle.command_words.proofs.TurnLemmas.{HasFault, faults, hold, last_rows, row, stand}
@@ -20,6 +21,7 @@ use Rattle.command_words.proofs.ReadLemmas.{Reads, reads_from, refused, taken}
 
 -- ---- defaults and the last checks
 
+-- an option without a default leaves the rows
 no_default : (name : Text) (rows : List Row) → with_default rows (rule name) ≡ rows
 no_default name rows = go (has_row name rows) refl
   where
@@ -31,6 +33,7 @@ no_defaults : (names : List Text) (rows : List Row) → fold with_default rows (
 no_defaults [] rows = refl
 no_defaults (name ∷ names) rows = ap (λ r. fold with_default r (map rule names)) (no_default name rows) ∙ no_defaults names rows
 
+-- and nothing of it can fail
 default_passes : (name : Text) (rows : List Row) → default_fault rows (rule name) ≡ []
 default_passes name rows = go (has_row name rows) refl
   where
@@ -44,17 +47,21 @@ defaults_pass [] rows = refl
 defaults_pass (name ∷ names) rows =
     ap (λ k. or_else k (defaults_fault (with_default rows (rule name)) (map rule names))) (default_passes name rows) ∙ defaults_pass names (with_default rows (rule name))
 
+-- nothing is required at the end
 checks_pass : (rows : List Row) (b : Bool) → check_fault shape rows b ≡ []
 checks_pass rows true = refl
 checks_pass rows false = refl
 
+-- there is no subcommand to fail
 enters_none : (stop : Option (Text × List Text)) → entered_fault (built program) stop ≡ []
 enters_none None = refl
 enters_none (Some p) = refl
 
+-- the ids of the four options
 ids : List Text
 ids = codes "first" ∷ codes "readers" ∷ codes "made" ∷ codes "count" ∷ []
 
+-- where those steps pass, only the words and what is pending at their end can fail
 ends : (walk below settle defaults check : Kinds) → below ≡ [] → defaults ≡ [] → check ≡ []
     → or_else walk (or_else below (or_else settle (or_else defaults check))) ≡ or_else walk settle
 ends walk below settle defaults check no_below no_defaults no_check = rw (no_below, no_defaults, no_check) (ap (or_else walk) (go settle))
@@ -65,16 +72,19 @@ ends walk below settle defaults check no_below no_defaults no_check = rw (no_bel
 
 -- ---- the parse
 
+-- the faults of a parse are those of its words
 fault_is : (words : List Text) → fault_of program words ≡ faults shape (stand idle (hold [] None)) words
 unfolding ids
 fault_is words =
     ends _ _ _ _ _ (enters_none (stop_after shape.rules [] words)) (defaults_pass ids (last_rows shape (stand idle (hold [] None)) words))
     (checks_pass (finished shape.rules (walk shape.rules [] nothing_held words).held) (is_some (entered (built program) (stop_after shape.rules [] words))))
 
+-- the matches are the rows at their end
 matches_are : (words : List Text) → matches_of program words ≡ last_rows shape (stand idle (hold [] None)) words
 unfolding ids
 matches_are words = no_defaults ids (last_rows shape (stand idle (hold [] None)) words)
 
+-- a parse takes the words as the grammar says, or both refuse them
 pub parse_reads : (words : List Text) → HasNoEnd words → Reads [] words (fault_of program words) (matches_of program words)
 parse_reads words plain =
     subst (λ (r : List Row). Reads [] words (fault_of program words) r) (sym (matches_are words))
@@ -82,10 +92,6 @@ parse_reads words plain =
     ((reads_from shape shape-IsProgram words plain).unwaited [] [] None (record { options = refl; clear = refl; ends = refl })))
 
 -- ---- what the parse gives
-
-both : (a b : Bool) → (a && b) ≡ true → (a ≡ true) × (b ≡ true)
-both true b e = (refl, e)
-both false b e = absurd (true≢false (sym e))
 
 -- the value of an option's row is the text given for it
 value_row : (name : Text) (pairs : List Given) → are_options pairs ≡ true → first_of name (map row pairs) ≡ value_of (45 ∷ 45 ∷ name) pairs
@@ -136,18 +142,22 @@ fault_outside words plain fault = go (parse_reads words plain)
 
 -- ---- the same, of the matches of a parse
 
+-- clap tells the matches of such a command, and its faults
 pub is_simple_program : is_simple program ≡ true
 is_simple_program = refl
 
+-- and no argument has a rule on another
 pub is_free_program : is_simple_and_free program ≡ true
 is_free_program = refl
 
+-- the values that are found give the options
 pub matches_options : (found : Found) (words : List Text) → rows_of found ≡ matches_of program words → HasNoEnd words → fault_of program words ≡ []
     → options_from (first_value found (codes "first")) (first_value found (codes "readers")) (first_value found (codes "made")) (first_value found (codes "count")) ≡ options_of words
 matches_options found words rows plain clear =
     rw (first_value-rows found (codes "first"), first_value-rows found (codes "readers"), first_value-rows found (codes "made"), first_value-rows found (codes "count"))
     (ap options_found rows ∙ found_options words plain clear)
 
+-- none is one thing
 pub is_none : {X : Type 0} (o : Option X) → IsNone o → o ≡ None
 is_none None none = refl
 is_none (Some x) none = absurd (true≢false none)

@@ -1,4 +1,5 @@
 mod Worked
+pub mod Cases
 pub mod PairLemmas
 pub mod ProgramLemmas
 pub mod TurnLemmas

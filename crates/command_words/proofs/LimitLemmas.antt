@@ -6,9 +6,11 @@ use Rattle.command_words.specs.declared.options.Made.{Made}
 use Rattle.command_words.specs.declared.options.Options.{Options}
 use Rattle.command_words.specs.Grammar.{Given, IsWithinLimits, are_options, made_from, most_made, most_readers, number_within, options_from, options_in, options_of, pairs_of, value_of}
 
+-- from the least to the most
 Within : ℕ → ℕ → ℕ → Type 0
 Within least most n = (least ≤ n) × (n ≤ most)
 
+-- a number is within the bounds that it is asked for
 number_limits : (least most : ℕ) (text : List ℕ) → IfSome (number_within least most text) (Within least most)
 unfolding Within
 number_limits least most text = go (number_of text)
@@ -22,6 +24,7 @@ number_limits least most text = go (number_of text)
     go None = tt
     go (Some n) = test n (nat_le least n) (nat_le n most) refl refl
 
+-- so is the count of a corpus
 made_limits : (start count : Option (List ℕ)) → IfSome (made_from start count) (λ made. IfSome made (λ m. m.count ≤ most_made))
 unfolding Within
 made_limits None None = tt
@@ -37,6 +40,7 @@ made_limits (Some start) (Some count) = go (number_of start) (number_within 0 mo
     go (Some s) None within = tt
     go (Some s) (Some c) within = within.1
 
+-- and so are all numbers of options
 options_limits : (first readers start count : Option (List ℕ)) → IfSome (options_from first readers start count) IsWithinLimits
 unfolding Within
 options_limits first readers start count =

@@ -1,11 +1,13 @@
 -- What the grammar says of pairs of names and values.
 use Rattle.std.proofs.Common.{◌≡◌, ◌∙◌, ◌∷◌, ◌++◌, ◌&&◌, ◌||◌, not, ℕ, Bool, true, false, List, [], Option, Some, None, option_map, option_and_then, unwrap_or, refl, sym, ap, ap₂, subst, codes, bytes_eq, nat_eq, eqb-true, true≢false, suc, take, drop, arith, ◌+◌}
 use Rattle.std.proofs.lemmas.Slice.Eq.{bytes_eq-Decides}
+use Rattle.std.proofs.lemmas.Bool.{not-true}
 use Rattle.command_words.specs.declared.options.Made.{Made}
 use Rattle.command_words.specs.declared.options.Options.{Options}
 use Rattle.command_words.specs.Grammar.{Given, is_joined, parted, pairs_of, is_option_name, is_given, are_options, value_of, number_within, made_from, options_from, options_in, most_readers}
 use Rattle.script_lang.specs.Numbers.{is_number, number_of}
 use Rattle.gcl_model.specs.Limits.{address_end}
+use Rattle.command_words.proofs.Cases.{both, neither, refuted}
 
 -- ---- words and pairs
 
@@ -19,9 +21,11 @@ pub pairs_of-spaced : (word next : List ℕ) (rest : List (List ℕ)) → is_joi
     → pairs_of (word ∷ next ∷ rest) ≡ option_map (λ pairs. (word, next) ∷ pairs) (pairs_of rest)
 pairs_of-spaced word next rest spaced = rw spaced refl
 
+-- without a next one it is no pair
 pub pairs_of-last : (word : List ℕ) → is_joined word ≡ false → pairs_of (word ∷ []) ≡ None
 pairs_of-last word spaced = rw spaced refl
 
+-- one byte more at the front
 take-more : (b : ℕ) (rest : List ℕ) (n : ℕ) → take (1 + n) (b ∷ rest) ≡ b ∷ take n rest
 take-more b rest n =
     let more : 1 + n ≡ suc n = omega arith in
@@ -48,6 +52,7 @@ parted-joins (b ∷ rest) joined = go (nat_eq b 61) refl joined (parted-joins re
 
 -- ---- names
 
+-- equal bytes, and the same the other way round
 pub bytes_eq-refl : (xs : List ℕ) → bytes_eq xs xs ≡ true
 bytes_eq-refl xs = (bytes_eq-Decides xs xs).1 refl
 
@@ -84,10 +89,7 @@ each_name P first readers made count name known =
 
 -- ---- a pair among others
 
-both : (a b : Bool) → (a && b) ≡ true → (a ≡ true) × (b ≡ true)
-both true b e = (refl, e)
-both false b e = absurd (true≢false (sym e))
-
+-- a pair among others gives its name
 pub is_given-here : (front : List Given) (given : Given) (rest : List Given) → is_given given.0 (front ++ given ∷ rest) ≡ true
 is_given-here [] given rest = rw (bytes_eq-refl given.0) refl
 is_given-here (x ∷ front) given rest = go (bytes_eq x.0 given.0) (is_given-here front given rest)
@@ -101,6 +103,7 @@ pub record StandsIn (pairs : List Given) (given : Given) : Type 0 where
   pub known : is_option_name given.0 ≡ true
   pub value : value_of given.0 pairs ≡ Some given.1
 
+-- each of them stands so
 pub stands_in : (front : List Given) (given : Given) (rest : List Given) → are_options (front ++ given ∷ rest) ≡ true → StandsIn (front ++ given ∷ rest) given
 stands_in [] given rest options = record {
   known = (both _ _ (both _ _ options).0).0;
@@ -138,13 +141,12 @@ repeated (x ∷ front) given rest twice = go (bytes_eq x.0 given.0) refl twice (
 
 -- ---- values
 
+-- what comes to nothing for each value comes to nothing
 nothing : {X Y : Type 0} (o : Option X) → ◌≡◌ {A = Option Y} (option_and_then (λ x. None) o) None
 nothing None = refl
 nothing (Some x) = refl
 
-no_number : (value : List ℕ) → is_number value ≡ false → (least most : ℕ) → number_within least most value ≡ None
-no_number value bad least most = rw bad refl
-
+-- a value that is no number, by the option that has it
 bad_first : (value : List ℕ) → is_number value ≡ false → (readers start count : Option (List ℕ)) → options_from (Some value) readers start count ≡ None
 bad_first value bad readers start count = rw bad refl
 
@@ -222,23 +224,11 @@ one_more (x ∷ front) given options known new =
     let head : (is_option_name x.0 ≡ true) × (not (is_given x.0 front) ≡ true) = both _ _ (both _ _ options).0 in
     let apart = neither (bytes_eq x.0 given.0) _ new in
     let below : are_options (front ++ given ∷ []) ≡ true = one_more front given (both _ _ options).1 known apart.1 in
-    let still : is_given x.0 (front ++ given ∷ []) ≡ false = absent x.0 given front (not_true _ head.1) (unturned apart.0) in
+    let still : is_given x.0 (front ++ given ∷ []) ≡ false = absent x.0 given front (not-true (is_given x.0 front) head.1) (unturned apart.0) in
     rw (head.0, still, below) refl
   where
-    neither : (a b : Bool) → (a || b) ≡ false → (a ≡ false) × (b ≡ false)
-    neither false b e = (refl, e)
-    neither true b e = absurd (true≢false e)
-
-    not_true : (a : Bool) → not a ≡ true → a ≡ false
-    not_true false e = refl
-    not_true true e = absurd (true≢false (sym e))
-
     unturned : bytes_eq x.0 given.0 ≡ false → bytes_eq given.0 x.0 ≡ false
-    unturned other = go (bytes_eq given.0 x.0) refl
-      where
-        go : (b : Bool) → bytes_eq given.0 x.0 ≡ b → bytes_eq given.0 x.0 ≡ false
-        go false other_way = other_way
-        go true all = absurd (true≢false (sym (bytes_eq-turned given.0 x.0 all) ∙ other))
+    unturned other = refuted (bytes_eq given.0 x.0) (λ same. true≢false (sym (bytes_eq-turned given.0 x.0 same) ∙ other))
 
     absent : (name : List ℕ) (last : Given) (xs : List Given) → is_given name xs ≡ false → bytes_eq last.0 name ≡ false → is_given name (xs ++ last ∷ []) ≡ false
     absent name last [] none other = rw other refl

@@ -4,6 +4,7 @@ use Rattle.clap.specs.Simple.{Shape, built, filled}
 use Rattle.clap.specs.Walk.{Rule, Text, arg_by_id, arg_by_index, arg_by_long, arg_by_short}
 use Rattle.command_words.specs.Grammar.{is_option_name}
 use Rattle.command_words.specs.Program.{option_rule, program}
+use Rattle.command_words.proofs.Cases.{neither}
 use Rattle.command_words.proofs.PairLemmas.{each_name}
 
 -- an option of the command once it is built
@@ -23,10 +24,7 @@ pub record IsProgram (s : Shape) : Type 0 where
   pub by_index : arg_by_index s.rules 1 ≡ None
   pub again : s.args_override_self ≡ false
 
-neither : (a b : Bool) → (a || b) ≡ false → (a ≡ false) × (b ≡ false)
-neither false b e = (refl, e)
-neither true b e = absurd (true≢false e)
-
+-- a name of no option finds no argument
 pub shape-by_no_long : (name : Text) → is_option_name (45 ∷ 45 ∷ name) ≡ false → arg_by_long shape.rules name ≡ None
 shape-by_no_long name unknown =
     let first = neither (bytes_eq (codes "first") name) _ unknown in
@@ -35,6 +33,7 @@ shape-by_no_long name unknown =
     let count = neither (bytes_eq (codes "count") name) _ made.1 in
     rw (first.0, readers.0, made.0, count.0) refl
 
+-- the command is such a one
 pub shape-IsProgram : IsProgram shape
 shape-IsProgram = record {
   by_long = λ name. each_name (λ full. arg_by_long shape.rules (drop 2 full) ≡ Some (rule (drop 2 full))) refl refl refl refl (45 ∷ 45 ∷ name);

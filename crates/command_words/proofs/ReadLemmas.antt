@@ -9,10 +9,12 @@ use Rattle.clap.specs.Faults.{settle_fault, turn_fault, use_fault, walk_fault}
 use Rattle.clap.specs.declared.error.kind.ErrorKind.TheVariants as kind
 use Rattle.command_words.specs.Grammar.{Given, is_joined, is_option_name, are_options, options_in, pairs_of, parted}
 use Rattle.script_lang.specs.Numbers.{is_number}
+use Rattle.std.proofs.lemmas.Bool.{not-true}
+use Rattle.command_words.proofs.Cases.{both, some≢none}
 use Rattle.command_words.proofs.PairLemmas.{bad_name, bad_repeat, bad_value, one_more, pairs_of-joined, pairs_of-last, pairs_of-spaced}
 use Rattle.command_words.proofs.ProgramLemmas.{IsProgram, rule}
 use Rattle.command_words.proofs.TurnLemmas.{HasFault, ValueTurn, fails, fails_value, faults, faults-here, faults-next, has_row-given, hold, last_rows, last_rows-next, later, row, sooner, stand, stray-fails, takes_value, turn-joined, turn-spaced, turn-unknown, use-new, use-repeat, used-new, value_turn, walked-joined, walked-spaced}
-use Rattle.command_words.proofs.WordLemmas.{LongWord, joined, long_no_number, long_word, name_apart, no_joined_name, no_name, short_no_number, some≢none, spaced}
+use Rattle.command_words.proofs.WordLemmas.{LongWord, joined, long_no_number, long_word, name_apart, no_joined_name, no_name, short_no_number, spaced}
 
 -- the word is not `--`
 abbrev pub is_no_end : Text → Bool
@@ -84,34 +86,32 @@ bad_spaced all word [] lacks unknown pairs is = absurd (some≢none pairs (sym i
 bad_spaced all word (next ∷ rest) lacks unknown pairs is =
     bad_front all (word, next) (word ∷ next ∷ rest) rest (pairs_of-spaced word next rest lacks) (λ ps. bad_name all (word, next) ps unknown) pairs is
 
+-- nor does one with a value joined to it
 bad_joined : (all : List Given) (word : Text) (rest : List Text) → is_joined word ≡ true → is_option_name (parted word).0 ≡ false → (pairs : List Given)
     → pairs_of (word ∷ rest) ≡ Some pairs → options_in (all ++ pairs) ≡ None
 bad_joined all word rest has unknown = bad_front all (parted word) (word ∷ rest) rest (pairs_of-joined word rest has) (λ ps. bad_name all (parted word) ps unknown)
 
 -- ---- the words one after the other
 
+-- the first word is not `--`
 no_end-first : (word : Text) (rest : List Text) → list_all is_no_end (word ∷ rest) ≡ true → bytes_eq word (45 ∷ 45 ∷ []) ≡ false
-no_end-first word rest plain = go (bytes_eq word (45 ∷ 45 ∷ [])) plain
-  where
-    go : (b : Bool) → (not b && list_all is_no_end rest) ≡ true → b ≡ false
-    go false all = refl
-    go true all = absurd (true≢false (sym all))
+no_end-first word rest plain = not-true (bytes_eq word (45 ∷ 45 ∷ [])) (both (is_no_end word) (list_all is_no_end rest) plain).0
 
+-- nor is another one
 no_end-rest : (word : Text) (rest : List Text) → list_all is_no_end (word ∷ rest) ≡ true → list_all is_no_end rest ≡ true
-no_end-rest word rest plain = go (is_no_end word) plain
-  where
-    go : (b : Bool) → (b && list_all is_no_end rest) ≡ true → list_all is_no_end rest ≡ true
-    go true all = all
-    go false all = absurd (true≢false (sym all))
+no_end-rest word rest plain = (both (is_no_end word) (list_all is_no_end rest) plain).1
 
 module _ (s : Shape) (is : IsProgram s) where
+  -- what is pending fails as the use of its option does
   settle-pending : (name value : Text) (rows : List Row) → is_option_name (45 ∷ 45 ∷ name) ≡ true
       → settle_fault s.rules false (hold rows (Some (name, value ∷ []))) ≡ use_fault false (rule name) (value ∷ []) rows
   settle-pending name value rows known = rw (is.by_id name known) refl
 
+  -- no use replaces an earlier one
   settle-again : (w : Walk) → settle_fault s.rules s.args_override_self w.held ≡ settle_fault s.rules false w.held
   settle-again w = ap (λ b. settle_fault s.rules b w.held) is.again
 
+  -- at the end of the words what is pending is used
   faults-end : (w : Walk) → faults s w [] ≡ settle_fault s.rules false w.held
   unfolding walk_fault
   faults-end w = settle-again w

@@ -10,22 +10,19 @@ use Rattle.std.proofs.lemmas.Str.Ascii.{IsAscii-from_all}
 use Rattle.script_lang.specs.Numbers.{is_number}
 use Rattle.command_words.specs.declared.options.Options.{Options}
 use Rattle.command_words.specs.Grammar.{Given, is_joined, is_option_name, options_in, options_of, pairs_of, parted}
+use Rattle.command_words.proofs.Cases.{both, confirmed, refuted, some≢none}
 use Rattle.command_words.proofs.PairLemmas.{bad_name, bad_value, each_name, pairs_of-joined, pairs_of-last, pairs_of-spaced, parted-joins}
 use Rattle.command_words.proofs.ReadLemmas.{is_cons}
-use Rattle.command_words.proofs.WordLemmas.{some≢none}
 
 -- ASCII bytes that are not `--`
 abbrev pub is_plain : List ℕ → Bool
 is_plain word = list_all is_ascii word && not (bytes_eq word (codes "--"))
 
-both : (a b : Bool) → (a && b) ≡ true → (a ≡ true) × (b ≡ true)
-both true b e = (refl, e)
-both false b e = absurd (true≢false (sym e))
-
 -- a digit is ASCII
 digit_ascii : (b : ℕ) → is_ascii_digit b ≡ true → is_ascii b ≡ true
 digit_ascii b digit = lt-ltb b 128 (omega (arith, leb-true b 57 (both (nat_le 48 b) (nat_le b 57) digit).1))
 
+-- so are digits, and with them numbers
 digits_ascii : (text : List ℕ) → list_all is_ascii_digit text ≡ true → list_all is_ascii text ≡ true
 digits_ascii [] all = refl
 digits_ascii (b ∷ rest) all =
@@ -37,12 +34,10 @@ number_ascii text number = digits_ascii text (both (nat_le 1 (length text) && na
 
 -- a test that `--` fails is failed by no other word that it passes
 not_end : (test : List ℕ → Bool) → test (codes "--") ≡ false → (word : List ℕ) → test word ≡ true → bytes_eq word (codes "--") ≡ false
-not_end test fails word passes = go (bytes_eq word (codes "--")) refl
-  where
-    go : (b : Bool) → bytes_eq word (codes "--") ≡ b → bytes_eq word (codes "--") ≡ false
-    go false other = other
-    go true same = absurd (true≢false (sym passes ∙ ap test ((bytes_eq-Decides word (codes "--")).0 same) ∙ fails))
+not_end test fails word passes =
+    refuted (bytes_eq word (codes "--")) (λ same. true≢false (sym passes ∙ ap test ((bytes_eq-Decides word (codes "--")).0 same) ∙ fails))
 
+-- numbers, names and what joins the two are plain
 number_plain : (text : List ℕ) → is_number text ≡ true → is_plain text ≡ true
 number_plain text number = ap₂ (λ x y. x && not y) (number_ascii text number) (not_end is_number refl text number)
 
@@ -61,15 +56,10 @@ joined_plain word has known number =
 -- a pair of options that write something: its name is known, and its value a number
 good_pair : (front : List Given) (given : Given) (rest : List Given) (options : Options) → options_in (front ++ given ∷ rest) ≡ Some options
     → (is_option_name given.0 ≡ true) × (is_number given.1 ≡ true)
-good_pair front given rest options is = (known (is_option_name given.0) refl, number (is_number given.1) refl)
-  where
-    known : (b : Bool) → is_option_name given.0 ≡ b → is_option_name given.0 ≡ true
-    known true e = e
-    known false e = absurd (some≢none options (sym is ∙ bad_name front given rest e))
-
-    number : (b : Bool) → is_number given.1 ≡ b → is_number given.1 ≡ true
-    number true e = e
-    number false e = absurd (some≢none options (sym is ∙ bad_value front given rest e))
+good_pair front given rest options is = (
+  confirmed (is_option_name given.0) (λ unknown. some≢none options (sym is ∙ bad_name front given rest unknown)),
+  confirmed (is_number given.1) (λ bad. some≢none options (sym is ∙ bad_value front given rest bad)),
+)
 
 -- words behind which the pairs are known to be plain
 Below : List (List ℕ) → Type 0
@@ -91,6 +81,7 @@ module _ (given : Given) (words rest : List (List ℕ)) (parts : pairs_of words 
   unfolding Below
   rest_plain = below (front ++ given ∷ []) cut.0 options cut.1 (ap options_in (append_assoc front (given ∷ []) cut.0) ∙ here)
 
+-- a joined word in front of such words
 joined_below : (word : List ℕ) (rest : List (List ℕ)) → is_joined word ≡ true → Below rest → Below (word ∷ rest)
 unfolding Below
 joined_below word rest has below front pairs options is writes =
@@ -98,6 +89,7 @@ joined_below word rest has below front pairs options is writes =
     let good = first_good (parted word) (word ∷ rest) rest parts below front pairs options is writes in
     ap₂ (λ x y. x && y) (joined_plain word has good.0 good.1) (rest_plain (parted word) (word ∷ rest) rest parts below front pairs options is writes)
 
+-- a name and its value in front of them
 spaced_below : (word next : List ℕ) (rest : List (List ℕ)) → is_joined word ≡ false → Below rest → Below (word ∷ next ∷ rest)
 unfolding Below
 spaced_below word next rest lacks below front pairs options is writes =
@@ -106,6 +98,7 @@ spaced_below word next rest lacks below front pairs options is writes =
     ap₂ (λ x y. x && y) (name_plain word good.0)
     (ap₂ (λ x y. x && y) (number_plain next good.1) (rest_plain (word, next) (word ∷ next ∷ rest) rest parts below front pairs options is writes))
 
+-- all words that write options are plain
 words_plain : (words : List (List ℕ)) → Below words
 unfolding Below
 words_plain [] = λ front pairs options is writes. refl
@@ -133,24 +126,24 @@ odd_word words i word below odd = go (pairs_of words) refl
     go None is = refl
     go (Some pairs) is = writes pairs is (options_in pairs) refl
 
--- bytes that are no text, and `--`, are no plain words
+-- bytes that are no text are no plain word
 not_text : (word : List ℕ) → ¬ IsUtf8 word → is_plain word ≡ false
-not_text word bad = go (list_all is_ascii word) refl
+not_text word bad =
+    ap (λ x. x && not (bytes_eq word (codes "--"))) (refuted (list_all is_ascii word) (λ all. bad (IsUtf8-from_ascii word (IsAscii-from_all word (each word all)))))
   where
-    go : (b : Bool) → list_all is_ascii word ≡ b → is_plain word ≡ false
-    go false some = ap (λ x. x && not (bytes_eq word (codes "--"))) some
-    go true all = absurd (bad (IsUtf8-from_ascii word (IsAscii-from_all word (each word all))))
-      where
-        each : (text : List ℕ) → list_all is_ascii text ≡ true → All (λ b. b < 128) text
-        each [] e k d lt = absurd (omega arith)
-        each (b ∷ rest) e zero d lt = ltb-true b 128 (both (is_ascii b) (list_all is_ascii rest) e).0
-        each (b ∷ rest) e (suc k) d lt = each rest (both (is_ascii b) (list_all is_ascii rest) e).1 k d (omega arith)
+    each : (text : List ℕ) → list_all is_ascii text ≡ true → All (λ b. b < 128) text
+    each [] e k d lt = absurd (omega arith)
+    each (b ∷ rest) e zero d lt = ltb-true b 128 (both (is_ascii b) (list_all is_ascii rest) e).0
+    each (b ∷ rest) e (suc k) d lt = each rest (both (is_ascii b) (list_all is_ascii rest) e).1 k d (omega arith)
 
+-- nor is `--`
 is_end : (word : List ℕ) → bytes_eq word (codes "--") ≡ true → is_plain word ≡ false
 is_end word same = ap is_plain ((bytes_eq-Decides word (codes "--")).0 same)
 
+-- a word that is no text is outside the grammar
 pub no_text_outside : (words : List (List ℕ)) (i : ℕ) (word : List ℕ) → i < length words → word ≡ get_or words i word → ¬ IsUtf8 word → options_of words ≡ None
 no_text_outside words i word below at bad = odd_word words i word below (ap is_plain (sym at) ∙ not_text word bad)
 
+-- and so is `--`
 pub end_outside : (words : List (List ℕ)) (i : ℕ) (word : List ℕ) → i < length words → word ≡ get_or words i word → bytes_eq word (codes "--") ≡ true → options_of words ≡ None
 end_outside words i word below at same = odd_word words i word below (ap is_plain (sym at) ∙ is_end word same)

@@ -1,5 +1,5 @@
 -- What clap makes of one word of the command line.
-use Rattle.std.proofs.Common.{◌≡◌, ◌∙◌, ◌∷◌, ◌++◌, ◌||◌, ◌&&◌, ◌⊎◌, inl, inr, ℕ, Bool, true, false, zero, suc, List, [], map, drop, length, Option, Some, None, is_some, refl, sym, ap, ap₂, subst, bytes_eq, true≢false, cond, append-nil, fold}
+use Rattle.std.proofs.Common.{not, ◌≡◌, ◌∙◌, ◌∷◌, ◌++◌, ◌||◌, ◌&&◌, ◌⊎◌, inl, inr, ℕ, Bool, true, false, zero, suc, List, [], map, drop, length, Option, Some, None, is_some, refl, sym, ap, ap₂, subst, bytes_eq, true≢false, cond, append-nil, fold}
 use Rattle.std.specs.Prelude.{slice_get}
 use Rattle.std.specs.Str.{chars}
 use Rattle.std.proofs.lemmas.List.{map-append}
@@ -13,6 +13,7 @@ use Rattle.clap.specs.declared.parser.matches.ValueSource.TheVariants.{CommandLi
 use Rattle.clap.specs.declared.error.kind.ErrorKind.{ErrorKind}
 use Rattle.clap.specs.declared.error.kind.ErrorKind.TheVariants as kind
 use Rattle.command_words.specs.Grammar.{Given, is_option_name, is_given, are_options}
+use Rattle.command_words.proofs.Cases.{both}
 use Rattle.command_words.proofs.PairLemmas.{bytes_eq-refl, each_name}
 use Rattle.command_words.proofs.ProgramLemmas.{IsProgram, rule}
 
@@ -26,19 +27,19 @@ abbrev is_nil : Kinds → Bool
 is_nil [] = true
 is_nil (k ∷ ks) = false
 
+-- a list with a kind is a fault
 pub fails : (k : ErrorKind) (ks : Kinds) → HasFault (k ∷ ks)
 fails k ks e = true≢false (sym (ap is_nil e))
 
+-- what fails first fails both
 pub sooner : (a b : Kinds) → HasFault a → HasFault (or_else a b)
 sooner [] b fault = absurd (fault refl)
 sooner (k ∷ ks) b fault = fault
 
+-- and so does what fails next
 pub later : (a b : Kinds) → HasFault b → HasFault (or_else a b)
 later [] b fault = fault
 later (k ∷ ks) b fault = fails k ks
-
-pub passes : (a b : Kinds) → a ≡ [] → or_else a b ≡ b
-passes a b none = ap (λ k. or_else k b) none
 
 -- ---- rows
 
@@ -46,20 +47,15 @@ passes a b none = ap (λ k. or_else k b) none
 abbrev pub row : Given → Row
 row given = record { id = drop 2 given.0; values = given.1 ∷ []; count = None; source = Some CommandLine; reading = reading.AsWritten }
 
+-- an option has a row where it is given
 pub has_row-given : (all : List Given) (name : Text) → are_options all ≡ true → has_row name (map row all) ≡ is_given (45 ∷ 45 ∷ name) all
 has_row-given [] name options = refl
 has_row-given (given ∷ rest) name options =
-    ap₂ (λ a b. a || b) (each_name (λ full. bytes_eq (drop 2 full) name ≡ bytes_eq full (45 ∷ 45 ∷ name)) refl refl refl refl given.0 (first _ _ (first _ _ options)))
-    (has_row-given rest name (second _ _ options))
-  where
-    first : (a b : Bool) → (a && b) ≡ true → a ≡ true
-    first true b e = refl
-    first false b e = absurd (true≢false (sym e))
+    ap₂ (λ a b. a || b) (each_name (λ full. bytes_eq (drop 2 full) name ≡ bytes_eq full (45 ∷ 45 ∷ name)) refl refl refl refl given.0
+    (both (is_option_name given.0) (not (is_given given.0 rest)) (both (is_option_name given.0 && not (is_given given.0 rest)) (are_options rest) options).0).0)
+    (has_row-given rest name (both (is_option_name given.0 && not (is_given given.0 rest)) (are_options rest) options).1)
 
-    second : (a b : Bool) → (a && b) ≡ true → b ≡ true
-    second true b e = e
-    second false b e = absurd (true≢false (sym e))
-
+-- where no row has this id, the rows get what stands for a missing one
 at_row-missing : (id : Text) (change : Row → List Row) (missing rows : List Row) → has_row id rows ≡ false → at_row id change missing rows ≡ rows ++ missing
 at_row-missing id change missing [] none = refl
 at_row-missing id change missing (r ∷ rs) none = go (bytes_eq r.id id) refl none (at_row-missing id change missing rs)
@@ -78,9 +74,11 @@ used-new name value all new =
     ∙ at_row-missing name (more_values CommandLine (value ∷ [])) (row (45 ∷ 45 ∷ name, value) ∷ []) (map row all) new
     ∙ sym (map-append row all ((45 ∷ 45 ∷ name, value) ∷ []))
 
+-- the first use passes
 pub use-new : (name value : Text) (rows : List Row) → has_row name rows ≡ false → use_fault false (rule name) (value ∷ []) rows ≡ []
 use-new name value rows new = rw new refl
 
+-- a second one does not
 pub use-repeat : (name value : Text) (rows : List Row) → has_row name rows ≡ true → HasFault (use_fault false (rule name) (value ∷ []) rows)
 use-repeat name value rows twice =
     let is : use_fault false (rule name) (value ∷ []) rows ≡ kind.ArgumentConflict ∷ [] = rw twice refl in

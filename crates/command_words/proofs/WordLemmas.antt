@@ -6,13 +6,12 @@ use Rattle.clap.specs.Lexer.{long_of, long_of_rest, name_and_value, short_of, sh
 use Rattle.clap.specs.Walk.{Text}
 use Rattle.command_words.specs.Grammar.{Given, is_equals, is_joined, parted, is_option_name}
 use Rattle.script_lang.specs.Numbers.{is_number}
+use Rattle.command_words.proofs.Cases.{both, refuted, some≢none}
 use Rattle.command_words.proofs.PairLemmas.{each_name, parted-joins, parted-more}
-
-pub some≢none : {X : Type 0} (x : X) → Some x ≡ None → ⊥
-some≢none x e = true≢false (ap is_some e)
 
 -- ---- long words
 
+-- what is left behind a first hyphen
 stripped : (word rest : Text) → strip_byte 45 word ≡ Some rest → word ≡ 45 ∷ rest
 stripped [] rest is = absurd (some≢none rest (sym is))
 stripped (b ∷ bs) rest is = go (nat_eq b 45) refl is
@@ -21,6 +20,7 @@ stripped (b ∷ bs) rest is = go (nat_eq b 45) refl is
     go true same is = ap₂ (λ (x : ℕ) (xs : Text). x ∷ xs) (eqb-true b 45 same) (ap (λ o. unwrap_or o bs) is)
     go false other is = absurd (some≢none rest (sym is))
 
+-- without an `=` all of a text stands before the first one
 before_all : (text : Text) → is_joined text ≡ false → before_first is_equals text ≡ text
 before_all [] none = refl
 before_all (b ∷ bs) none = go (nat_eq b 61) refl none (before_all bs)
@@ -34,6 +34,7 @@ pub data LongWord (word name : Text) (value : Option Text) : Type 0 where
   joined : (text : Text) → value ≡ Some text → is_joined word ≡ true → parted word ≡ (45 ∷ 45 ∷ name, text) → LongWord word name value
   spaced : value ≡ None → is_joined word ≡ false → word ≡ 45 ∷ 45 ∷ name → LongWord word name value
 
+-- the same of a word by what follows its two hyphens
 long_word-rest : (rest : Text) → LongWord (45 ∷ 45 ∷ rest) (name_and_value rest).0 (name_and_value rest).1
 long_word-rest rest = go (is_joined rest) refl
   where
@@ -42,6 +43,7 @@ long_word-rest rest = go (is_joined rest) refl
         (parted-more 45 (45 ∷ rest) refl ∙ ap (λ (p : Given). (45 ∷ p.0, p.1)) (parted-more 45 rest refl))
     go false lacks = spaced (rw lacks refl) lacks (ap (λ (t : Text). 45 ∷ 45 ∷ t) (sym (before_all rest lacks)))
 
+-- a word that clap reads as a long one is such a word
 pub long_word : (word name : Text) (value : Option Text) → long_of word ≡ Some (name, value) → LongWord word name value
 long_word word name value long = go (strip_byte 45 word) refl long
   where
@@ -69,49 +71,33 @@ name_apart = each_name (λ name. is_joined name ≡ false) refl refl refl refl
 
 -- a word that is not long begins with the name of no option
 pub no_name : (word : Text) → long_of word ≡ None → is_option_name word ≡ false
-no_name word short = go (is_option_name word) refl
-  where
-    go : (b : Bool) → is_option_name word ≡ b → is_option_name word ≡ false
-    go false unknown = unknown
-    go true known =
-        absurd (each_name (λ name. long_of name ≡ None → ⊥) (some≢none _) (some≢none _) (some≢none _) (some≢none _) word known short)
+no_name word short =
+    refuted (is_option_name word)
+    (λ known. each_name (λ name. long_of name ≡ None → ⊥) (some≢none _) (some≢none _) (some≢none _) (some≢none _) word known short)
 
+-- nor does one with a value joined to it
 pub no_joined_name : (word : Text) → is_joined word ≡ true → long_of word ≡ None → is_option_name (parted word).0 ≡ false
-no_joined_name word has short = go (is_option_name (parted word).0) refl
-  where
-    go : (b : Bool) → is_option_name (parted word).0 ≡ b → is_option_name (parted word).0 ≡ false
-    go false unknown = unknown
-    go true known =
-        absurd (each_name (λ name. long_of (name ++ 61 ∷ (parted word).1) ≡ None → ⊥) (some≢none _) (some≢none _) (some≢none _) (some≢none _) (parted word).0 known
-        (subst (λ (w : Text). long_of w ≡ None) (parted-joins word has) short))
+no_joined_name word has short =
+    refuted (is_option_name (parted word).0)
+    (λ known. each_name (λ name. long_of (name ++ 61 ∷ (parted word).1) ≡ None → ⊥) (some≢none _) (some≢none _) (some≢none _) (some≢none _) (parted word).0 known
+    (subst (λ (w : Text). long_of w ≡ None) (parted-joins word has) short))
 
 -- a number does not begin with a hyphen
 pub number_stripped : (word : Text) → is_number word ≡ true → strip_byte 45 word ≡ None
 number_stripped [] number = absurd (true≢false (sym number))
-number_stripped (b ∷ bs) number = go (nat_eq b 45) refl
-  where
-    both : (a b : Bool) → (a && b) ≡ true → (a ≡ true) × (b ≡ true)
-    both true b e = (refl, e)
-    both false b e = absurd (true≢false (sym e))
+number_stripped (b ∷ bs) number =
+    let digits = (both (nat_le 1 (length (b ∷ bs)) && nat_le (length (b ∷ bs)) 18) (list_all is_ascii_digit (b ∷ bs)) number).1 in
+    let digit = (both (is_ascii_digit b) (list_all is_ascii_digit bs) digits).0 in
+    let other : nat_eq b 45 ≡ false = refuted (nat_eq b 45) (λ same. true≢false (sym (sym (ap is_ascii_digit (eqb-true b 45 same)) ∙ digit))) in
+    rw other refl
 
-    digit : is_ascii_digit b ≡ true
-    digit = (both (is_ascii_digit b) (list_all is_ascii_digit bs) (both (nat_le 1 (length (b ∷ bs)) && nat_le (length (b ∷ bs)) 18) (list_all is_ascii_digit (b ∷ bs)) number).1).0
-
-    go : (t : Bool) → nat_eq b 45 ≡ t → strip_byte 45 (b ∷ bs) ≡ None
-    go false other = rw other refl
-    go true same = absurd (true≢false (sym (sym (ap is_ascii_digit (eqb-true b 45 same)) ∙ digit)))
-
+-- so a long word is none
 pub long_no_number : (word name : Text) (value : Option Text) → long_of word ≡ Some (name, value) → is_number word ≡ false
-long_no_number word name value long = go (is_number word) refl
-  where
-    go : (b : Bool) → is_number word ≡ b → is_number word ≡ false
-    go false other = other
-    go true number =
-        absurd (some≢none (name, value) (sym long ∙ ap (λ o. option_and_then long_of_rest (option_and_then (strip_byte 45) o)) (number_stripped word number)))
+long_no_number word name value long =
+    refuted (is_number word)
+    (λ number. some≢none (name, value) (sym long ∙ ap (λ o. option_and_then long_of_rest (option_and_then (strip_byte 45) o)) (number_stripped word number)))
 
+-- nor is a short one
 pub short_no_number : (word : Text) → is_some (short_of word) ≡ true → is_number word ≡ false
-short_no_number word short = go (is_number word) refl
-  where
-    go : (b : Bool) → is_number word ≡ b → is_number word ≡ false
-    go false other = other
-    go true number = absurd (true≢false (sym short ∙ ap (λ o. is_some (option_and_then short_of_rest o)) (number_stripped word number)))
+short_no_number word short =
+    refuted (is_number word) (λ number. true≢false (sym short ∙ ap (λ o. is_some (option_and_then short_of_rest o)) (number_stripped word number)))

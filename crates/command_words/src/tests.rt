@@ -80,74 +80,76 @@ fn options_stand_in_any_order_each_once_with_values_joined_or_behind(
     Ok(())
 }
 
+// Lines whose words are outside the grammar.
+static OUTSIDE: [&[u8]; 55] = [
+    // a word that no option begins with, and one too many
+    b"|",
+    b"7",
+    b"-",
+    b"gclq",
+    b"first=7",
+    b"--first|7|8",
+    b"--first=7|8",
+    // repeats, also of one value and in both forms
+    b"--first=7|--first=7",
+    b"--first|7|--first=7",
+    b"--readers|2|--readers|2",
+    b"--made=1|--count=1|--made=1",
+    // no value, or an option in its place
+    b"--first",
+    b"--first=",
+    b"--first|",
+    b"--first|--readers|2",
+    b"--first|--readers=2",
+    b"--readers=2|--first",
+    // `--`, help, version, abbreviations, short and other names
+    b"--",
+    b"--|--first=7",
+    b"--first=7|--",
+    b"--first|--",
+    b"--help",
+    b"-h",
+    b"help",
+    b"--version",
+    b"-V",
+    b"--fir=7",
+    b"--f|7",
+    b"-f|7",
+    b"--firsts=7",
+    b"--First=7",
+    b"--=7",
+    b"---first=7",
+    // signs, blanks, other digits and two joins
+    b"--first|-1",
+    b"--first=-1",
+    b"--first=+1",
+    b"--first= 7",
+    b"--first=7 ",
+    b"--first=0x7",
+    b"--first==7",
+    b"--first=7=7",
+    // bounds, and 19 digits
+    b"--first=72057594037927937",
+    b"--first=0000000000000000007",
+    b"--readers=0",
+    b"--readers=17",
+    b"--made=1|--count=10001",
+    // `--made` and `--count` one without the other
+    b"--made=1",
+    b"--count=1",
+    b"--made|1|--first|7",
+    b"--count|1|--readers|2",
+    // bytes that are not UTF-8
+    b"\xff",
+    b"--first=\xff",
+    b"--first|\xff",
+    b"\xff|--first=7",
+    b"--first=7|--\xc3",
+];
+
 #[test]
 fn all_other_words_are_outside_the_grammar(rt: HostRuntime) -> Result<(), Fail> {
-    let cases: [&[u8]; 55] = [
-        // a word that no option begins with, and one too many
-        b"|",
-        b"7",
-        b"-",
-        b"gclq",
-        b"first=7",
-        b"--first|7|8",
-        b"--first=7|8",
-        // repeats, also of one value and in both forms
-        b"--first=7|--first=7",
-        b"--first|7|--first=7",
-        b"--readers|2|--readers|2",
-        b"--made=1|--count=1|--made=1",
-        // no value, or an option in its place
-        b"--first",
-        b"--first=",
-        b"--first|",
-        b"--first|--readers|2",
-        b"--first|--readers=2",
-        b"--readers=2|--first",
-        // `--`, help, version, abbreviations, short and other names
-        b"--",
-        b"--|--first=7",
-        b"--first=7|--",
-        b"--first|--",
-        b"--help",
-        b"-h",
-        b"help",
-        b"--version",
-        b"-V",
-        b"--fir=7",
-        b"--f|7",
-        b"-f|7",
-        b"--firsts=7",
-        b"--First=7",
-        b"--=7",
-        b"---first=7",
-        // signs, blanks, other digits and two joins
-        b"--first|-1",
-        b"--first=-1",
-        b"--first=+1",
-        b"--first= 7",
-        b"--first=7 ",
-        b"--first=0x7",
-        b"--first==7",
-        b"--first=7=7",
-        // bounds, and 19 digits
-        b"--first=72057594037927937",
-        b"--first=0000000000000000007",
-        b"--readers=0",
-        b"--readers=17",
-        b"--made=1|--count=10001",
-        // `--made` and `--count` one without the other
-        b"--made=1",
-        b"--count=1",
-        b"--made|1|--first|7",
-        b"--count|1|--readers|2",
-        // bytes that are not UTF-8
-        b"\xff",
-        b"--first=\xff",
-        b"--first|\xff",
-        b"\xff|--first=7",
-        b"--first=7|--\xc3",
-    ];
-    for line in cases {
+    for line in OUTSIDE {
         let words = words_of(rt.alloc(), line)?;
         assert_eq!(rt; options_of(rt.alloc(), words.as_slice())?, None, "{line:?}");
     }
