@@ -1,5 +1,5 @@
 -- What clap reads of the program's command.
-use Rattle.std.proofs.Common.{◌≡◌, ◌∷◌, ◌||◌, ℕ, Bool, true, false, drop, Some, None, refl, codes, bytes_eq, true≢false}
+use Rattle.std.proofs.Common.{◌≡◌, ◌∷◌, ℕ, true, false, drop, Some, None, refl, codes, bytes_eq}
 use Rattle.clap.specs.Simple.{Shape, built, filled}
 use Rattle.clap.specs.Walk.{Rule, Text, arg_by_id, arg_by_index, arg_by_long, arg_by_short}
 use Rattle.command_words.specs.Grammar.{is_option_name}

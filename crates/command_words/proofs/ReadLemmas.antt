@@ -1,5 +1,5 @@
 -- What clap makes of the words of the command line, by the grammar.
-use Rattle.std.proofs.Common.{◌≡◌, ◌∙◌, ◌∷◌, ◌++◌, ◌&&◌, not, Bool, true, false, List, [], map, Option, Some, None, option_map, refl, sym, ap, ap₂, subst, bytes_eq, true≢false, append_assoc, append-nil, unwrap_or}
+use Rattle.std.proofs.Common.{◌≡◌, ◌∙◌, ◌∷◌, ◌++◌, not, Bool, true, false, List, [], map, Option, Some, None, option_map, refl, sym, ap, ap₂, subst, bytes_eq, append_assoc, append-nil, unwrap_or}
 use Rattle.std.specs.List.{list_all}
 use Rattle.clap.specs.Lexer.{long_of}
 use Rattle.clap.specs.Kinds.{Kinds, or_else}
