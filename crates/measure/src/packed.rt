@@ -21,13 +21,8 @@ struct Sizes {
 
 /// How many bytes a number takes with 7 bits in each.
 fn packed_size(n: u64) -> u64 {
-    let mut size = 1;
-    let mut left = n >> 7;
-    while left > 0 {
-        size += 1;
-        left >>= 7;
-    }
-    size
+    let unused = (n | 1).leading_zeros() as u64;
+    70u64.saturating_sub(unused) / 7
 }
 
 /// How many bytes the differences of a list take, the first address counted as the one from 0.
