@@ -1,0 +1,13 @@
+pub mod Fronts
+pub mod FileTracking
+pub mod AddressTracking
+pub mod TermTracking
+pub mod Candidates
+pub mod Made
+pub mod PlaceLemmas
+pub mod Spans
+pub mod Spelled
+pub mod Refusals
+pub mod Room
+pub mod Opened
+pub mod Saved
