@@ -1,8 +1,10 @@
 -- A status is known by its number.
-use Rattle.std.proofs.Common.{◌≡◌, ℕ, eqb, cond, refl, sym, ap, ◌∙◌, inl, inr}
+use Rattle.std.proofs.Common.{◌≡◌, ℕ, eqb, cond, refl, sym, subst, ap, ◌∙◌, inl, inr}
 use Rattle.query_run.specs.Statuses.{number_of, IsFinished}
 use Rattle.query_run.specs.declared.status.Status.{Status}
 use Rattle.query_run.specs.declared.status.Status.TheVariants.{Done, DoneWithRefusals, Usage, ReadFault, WriteFault, FileFault, NoMemory, ScriptTooLong}
+use Rattle.query_run.specs.Statuses as S
+use Rattle.gclq.specs.Exits as E
 use Rattle.gclq.specs.Exits.{IsEnd}
 
 -- the status of a number
@@ -35,3 +37,8 @@ finished_number ReadFault n p is = absurd is
 finished_number WriteFault n p is = absurd is
 finished_number FileFault n p is = absurd is
 finished_number ScriptTooLong n p is = absurd is
+
+-- the status at whose number all was answered
+pub answered_status : (s : Status) (n : ℕ) → n ≡ number_of s → E.IsAllAnswered n → S.IsAllAnswered s
+answered_status s n p (inl zero) = subst S.IsAllAnswered (sym (same_status s Done n p zero)) tt
+answered_status s n p (inr one) = subst S.IsAllAnswered (sym (same_status s DoneWithRefusals n p one)) tt

@@ -8,6 +8,10 @@ abbrev pub word_status : WordFault → ℕ
 word_status NotText = 2
 word_status NoMemory = 6
 
+-- all was answered
+abbrev pub IsAllAnswered : ℕ → Type 0
+IsAllAnswered status = (status ≡ 0) ⊎ (status ≡ 1)
+
 -- all was answered, or memory was wanted
 abbrev pub IsEnd : ℕ → Type 0
 IsEnd status = (status ≡ 0) ⊎ ((status ≡ 1) ⊎ (status ≡ 6))

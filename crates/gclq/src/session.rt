@@ -1,11 +1,13 @@
-ghost use Rattle.std.specs.Prelude.{◌≡◌, ◌≤◌, ◌⊎◌, false, true, None, IsSome, IsSomeAnd, length};
+ghost use Rattle.std.specs.Prelude.{◌≡◌, ◌≤◌, ◌⊎◌, [], false, true, None, IfSome, IsSome, IsSomeAnd, length};
 ghost use Rattle.std.specs.Process.{exit_status};
 ghost use Rattle.outside.specs.Causes.{Rose};
-ghost use Rattle.gcl_model.specs.Limits.{most_script};
+ghost use Rattle.gcl_model.specs.Limits.{most_line, most_script};
 ghost use Rattle.query_run.specs.Words.{first_of};
-ghost use Rattle.query_run.specs.Answers.{output};
+ghost use Rattle.script_lang.specs.Lines.{lines};
+ghost use Rattle.query_run.specs.States.{greatest_limits};
+ghost use Rattle.query_run.specs.Answers.{names_of, names_kept_of, output};
 ghost use Rattle.query_run.specs.Runs.{WhereTold, GetsPart, IsAnswered, HandsOverMore, within};
-ghost use Rattle.gclq.specs.Exits.{IsEnd};
+ghost use Rattle.gclq.specs.Exits.{IsEnd, IsAllAnswered};
 
 use crate::fault_name::FaultName;
 use crate::tell::{exit, tell};
@@ -32,16 +34,16 @@ pub fn answer<R: Threads + Wait + Sync + Eprint, F: FaultName, S: Source, K: Sin
     ensures untouched { exit_status result ≡ 2 → (source.new ≡ source.old) × (files.new ≡ files.old) × (sink.new ≡ sink.old) }
 
     // 0 where every line was answered and no answer is a refusal, 1 where one is.
-    ensures done { exit_status result ≡ 0 → WhereTold (first_of words.now) (S.left source.old) (F.held files.old) (λ first script contents.
-        IsAnswered first contents script false (S.left source.new) (K.written sink.old) (K.written sink.new)) }
-    ensures done_with_refusals { exit_status result ≡ 1 → WhereTold (first_of words.now) (S.left source.old) (F.held files.old) (λ first script contents.
-        IsAnswered first contents script true (S.left source.new) (K.written sink.old) (K.written sink.new)) }
+    ensures done { exit_status result ≡ 0 → WhereTold greatest_limits (first_of words.now) (S.left source.old) (F.held files.old) (λ start script.
+        IsAnswered start script false (S.left source.new) (F.held files.new) (K.written sink.old) (K.written sink.new)) }
+    ensures done_with_refusals { exit_status result ≡ 1 → WhereTold greatest_limits (first_of words.now) (S.left source.old) (F.held files.old) (λ start script.
+        IsAnswered start script true (S.left source.new) (F.held files.new) (K.written sink.old) (K.written sink.new)) }
 
     // Whatever the status, the sink gets the beginning of the output.
-    ensures part { WhereTold (first_of words.now) (S.left source.old) (F.held files.old) (λ first script contents.
-        GetsPart (K.written sink.old) (K.written sink.new) (output first contents script)) }
-    ensures part_within { exit_status result ≡ 7 → WhereTold (first_of words.now) (S.left source.old) (F.held files.old) (λ first script contents.
-        GetsPart (K.written sink.old) (K.written sink.new) (output first contents (within most_script script))) }
+    ensures part { WhereTold greatest_limits (first_of words.now) (S.left source.old) (F.held files.old) (λ start script.
+        GetsPart (K.written sink.old) (K.written sink.new) (output start script)) }
+    ensures part_within { exit_status result ≡ 7 → WhereTold greatest_limits (first_of words.now) (S.left source.old) (F.held files.old) (λ start script.
+        GetsPart (K.written sink.old) (K.written sink.new) (output start (within most_script script))) }
 
     // Each other status has its cause.
     ensures read_fault { exit_status result ≡ 3 → Rose (S.faults source.old) (S.faults source.new) }
@@ -54,7 +56,15 @@ pub fn answer<R: Threads + Wait + Sync + Eprint, F: FaultName, S: Source, K: Sin
     ensures complete { IsSome (first_of words.now) → ¬ Rose (S.faults source.old) (S.faults source.new) → ¬ Rose (K.faults sink.old) (K.faults sink.new) →
         ¬ Rose (F.faults files.old) (F.faults files.new) → IsSomeAnd (S.left source.old) (λ script. length script ≤ most_script) →
         IsEnd (exit_status result) }
-    ensures same_files { F.held files.new ≡ F.held files.old }
+
+    // Where all is answered no object failed.
+    ensures source_calm { IsAllAnswered (exit_status result) → S.faults source.new ≡ S.faults source.old }
+    ensures sink_calm { IsAllAnswered (exit_status result) → K.faults sink.new ≡ K.faults sink.old }
+    ensures files_calm { IsAllAnswered (exit_status result) → F.faults files.new ≡ F.faults files.old }
+
+    // No file is asked for that no line names, and where no line saves none changes.
+    ensures unasked { IfSome (S.left source.old) (λ script. names_of (lines most_line script) ≡ [] → files.new ≡ files.old) }
+    ensures unsaved { IfSome (S.left source.old) (λ script. names_kept_of (lines most_line script) ≡ [] → F.held files.new ≡ F.held files.old) }
 {
     let status = run(rt, alloc, words, files, source, sink, &FreeGate);
     tell(rt, status, words, files.fault_name());

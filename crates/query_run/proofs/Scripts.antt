@@ -1,29 +1,31 @@
 -- Answers to lists of lines that are put together, and how far a script has come.
-use Rattle.std.proofs.Common.{◌≡◌, ℕ, ◌+◌, ◌-◌, ◌≤◌, ◌<◌, ◌⊎◌, inl, inr, Bool, true, false, nat_lt, List, [], ◌∷◌, ◌++◌, length, take, drop, suc, refl, sym, ap, ◌∙◌, append_assoc, append-nil, Option, Some, None, IsSome, IfSome, IsSomeAnd, length-append, subst, arith, take-add, take_all}
+use Rattle.std.proofs.Common.{◌≡◌, ℕ, ◌+◌, ◌-◌, ◌≤◌, ◌<◌, ◌⊎◌, inl, inr, Bool, true, false, nat_lt, List, [], ◌∷◌, ◌++◌, length, take, drop, zero, suc, refl, sym, ap, ◌∙◌, append_assoc, append-nil, Option, Some, None, IsSome, IfSome, IsSomeAnd, length-append, subst, arith, take-add, take_all}
 use Rattle.std.proofs.lemmas.List.{take-take, take-append-drop, length-drop, drop-drop}
-use Rattle.std.specs.Prelude.{◌||◌, if◌then◌else◌}
+use Rattle.std.specs.Prelude.{◌||◌, Result, Err, if◌then◌else◌}
 use Rattle.std.specs.Option.{option_map}
 use Rattle.std.specs.List.{list_any}
 use Rattle.std.specs.Io.KnownBytes.{Appends, Consumes, IsAtEnd}
 use Rattle.std.proofs.lemmas.List.Folds.{list_any-append}
 use Rattle.std.proofs.lemmas.Grind.{flat_map-append}
 use Rattle.outside.specs.Contents.{Contents}
+use Rattle.outside.specs.declared.faults.FileError.{FileError}
 use Rattle.gcl_model.specs.Limits.{address_end}
 use Rattle.gcl_model.specs.Tokens.{tokens_of}
-use Rattle.gcl_model.specs.Collections.{empty_from, has_file, width_of}
+use Rattle.gcl_model.specs.Collections.{Collection, empty_from, has_file, width_of}
 use Rattle.live_version.specs.Contents.{VersionContent, ranges_of}
 use Rattle.script_lang.specs.Lines.{Line, lines}
-use Rattle.script_lang.specs.Answers.{is_refusal, file_line, gone_line}
+use Rattle.script_lang.specs.Answers.{is_refusal, file_line, gone_line, opened_line}
 use Rattle.script_lang.specs.Commands.{command_of}
 use Rattle.script_lang.specs.declared.commands.Command.{Command}
 use Rattle.script_lang.specs.declared.commands.Command.TheVariants.{Blank, Add, Del, Find, Count, Top, Files, Merge, Shards, Save, Load, Wrong}
-use Rattle.script_lang.specs.declared.refusals.Refusal.TheVariants.{LongLine, NoFile, TooLong, NoAddresses}
+use Rattle.script_lang.specs.declared.refusals.Refusal.TheVariants.{LongLine, NoFile, TooLong, NoAddresses, NotEmpty}
 use Rattle.live_version.specs.StandsFor.{StandsFor}
 use Rattle.collection.specs.Engines.{EngineContent}
 use Rattle.query_run.specs.States.{State, opening, Keeps, IsFresh}
-use Rattle.query_run.specs.Answers.{Reply, text_of_lines, answer, after_reply, state_after, with_later, answers, AllAnswered, names_of, names_of_line, unchanged, refusal_lines, content_reply, add_reply, last_address, state_with_file, state_without_file, reply}
-use Rattle.query_run.specs.Progress.{lines_of, answer_text, AreAnswered, HasCome, HasWritten, IsAt, StopsWithin}
-use Rattle.query_run.specs.Runs.{WhereTold, GetsPart, HasAnswered, IsLeftBy, IsStopped, HandsOverMore}
+use Rattle.query_run.specs.Images.{Images}
+use Rattle.query_run.specs.Answers.{Reply, text_of_lines, answer, after_reply, state_after, with_later, answers, AllAnswered, AreRead, IsRead, names_of, names_of_line, names_kept, names_kept_of, names_kept_of_line, unchanged, refusal_lines, content_reply, add_reply, image_reply, open_reply, reading_reply, last_address, state_with_file, state_without_file, state_opened, reply}
+use Rattle.query_run.specs.Progress.{lines_of, answer_text, AreAnswered, HasCome, HasWritten, HoldsAfter, HoldsSaved, HoldsWithin, IsAt, StopsWithin}
+use Rattle.query_run.specs.Runs.{GetsPart, HasAnswered, HoldsBut, IsLeftBy, IsStopped, HandsOverMore}
 use Rattle.query_run.specs.declared.limits.Limits.{Limits}
 use Rattle.query_run.proofs.Writing.{Appends-trans, Appends-none}
 
@@ -102,8 +104,8 @@ module _ (limits : Limits) where
       }
 
   -- nothing was answered yet
-  pub begins : (start : State) (engine : EngineContent) (old : Option (List ℕ)) → Keeps engine false start → HasCome limits start [] engine false false old old
-  begins start engine old keeps = record { are = record { answered = tt; refusal_is = refl; written = Appends-none old }; keeps = keeps }
+  pub begins : (start : State) (held : Option Contents) (engine : EngineContent) (old : Option (List ℕ)) → IsAt held engine false start → HasCome limits start [] held engine false false old old
+  begins start held engine old at = record { are = record { answered = tt; refusal_is = refl; written = Appends-none old }; at = at }
 
   -- the answers to a line that comes after others
   one_more : (s : State) (line : Line) → answers limits s (line ∷ []) ≡ lines_of (answer limits s line)
@@ -119,10 +121,10 @@ module _ (limits : Limits) where
   is_some o reply is = subst IsSome (sym is) refl
 
   -- a line further
-  pub goes_on : (start : State) (done : List Line) (line : Line) (before after : EngineContent) (w w' a b : Bool) (old mid new : Option (List ℕ)) →
-      HasCome limits start done before w a old mid → HasWritten limits (state_after limits start done) line after w' b mid new →
-      HasCome limits start (done ++ line ∷ []) after w' (a || b) old new
-  goes_on start done line before after w w' a b old mid new come step =
+  pub goes_on : (start : State) (done : List Line) (line : Line) (held held' : Option Contents) (before after : EngineContent) (w w' a b : Bool) (old mid new : Option (List ℕ)) →
+      HasCome limits start done held before w a old mid → HasWritten limits (state_after limits start done) line after w' b mid new →
+      held' ≡ Some (after_reply (state_after limits start done) (answer limits (state_after limits start done) line)).files → HasCome limits start (done ++ line ∷ []) held' after w' (a || b) old new
+  goes_on start done line held held' before after w w' a b old mid new come step files =
       let s : State = state_after limits start done in
       let o : Option Reply = answer limits s line in
       let all : answers limits start (done ++ line ∷ []) ≡ answers limits start done ++ step.reply.lines =
@@ -134,16 +136,31 @@ module _ (limits : Limits) where
           refusal_is = rw (come.are.refusal_is, step.refusal_is, all, list_any-append) refl;
           written = rw (all, flat_map-append) (Appends-trans old mid new _ _ come.are.written step.written);
         };
-        keeps = subst (Keeps after w') (sym now) step.keeps;
+        at = record {
+          files = files ∙ ap (λ (u : State). Some u.files) (reply_after s o step.reply step.is ∙ sym now);
+          keeps = subst (Keeps after w') (sym now) step.keeps;
+        };
       }
 
+  -- files that hold all of this hold it but for some names
+  all_held : (names : List (List ℕ)) (files : Contents) (held : Option Contents) → held ≡ Some files → HoldsBut names files held
+  all_held names files held is = record { contents = files; is = is; same = λ name. inl refl }
+
+  -- what the next line opens is read rightly
+  pub read_next : (start : State) (n : ℕ) (all rest : List Line) (line : Line) → AreRead limits start all → drop n all ≡ line ∷ rest → IsRead (state_after limits start (take n all)) line
+  read_next start zero [] rest line read is = absurd (cc is)
+  read_next start zero (x ∷ xs) rest line read is = let same : x ≡ line = cc in subst (IsRead start) same read.0
+  read_next start (suc n) [] rest line read is = absurd (cc is)
+  read_next start (suc n) (x ∷ xs) rest line read is = read_next (after_reply start (answer limits start x)) n xs rest line read.1 is
+
   -- a stop within the line after some that are answered
-  pub stopped : (start : State) (all rest : List Line) (line : Line) (n now : ℕ) (before after : EngineContent) (w a : Bool) (old mid new : Option (List ℕ)) →
-      drop n all ≡ line ∷ rest → HasCome limits start (take n all) before w a old mid →
+  pub stopped : (start : State) (all rest : List Line) (line : Line) (n now : ℕ) (held held' : Option Contents) (before after : EngineContent) (w a : Bool) (old mid new : Option (List ℕ)) →
+      drop n all ≡ line ∷ rest → HasCome limits start (take n all) held before w a old mid →
       StopsWithin (state_after limits start (take n all)) (answer limits (state_after limits start (take n all)) line) n now after →
+      HoldsWithin (state_after limits start (take n all)) (answer limits (state_after limits start (take n all)) line) (names_kept_of_line line) n now held' →
       GetsPart mid new (answer_text limits (state_after limits start (take n all)) line) →
-      IsStopped limits start all now after.version old new
-  stopped start all rest line n now before after w a old mid new cut come stop part =
+      IsStopped limits start all now after.version held' old new
+  stopped start all rest line n now held held' before after w a old mid new cut come stop holds part =
       let done : List Line = take n all in
       let s : State = state_after limits start done in
       let front : List (List ℕ) = answers limits start done in
@@ -163,18 +180,25 @@ module _ (limits : Limits) where
     where
       by_case : StopsWithin (state_after limits start (take n all)) (answer limits (state_after limits start (take n all)) line) n now after →
           take (n + 1) all ≡ take n all ++ line ∷ [] → n + 1 ≤ length all → GetsPart old new (text_of_lines (answers limits start (take (n + 1) all))) →
-          IsStopped limits start all now after.version old new
+          IsStopped limits start all now after.version held' old new
       by_case (inl before_it) upto within first =
-          let Stopped : ℕ → Type 0 = λ m. IsStopped limits start all m after.version old new in
-          subst Stopped (sym before_it.0) (record { within = omega (arith, within); stands = before_it.1; part = first })
+          let Stopped : ℕ → Type 0 = λ m. IsStopped limits start all m after.version held' old new in
+          let names : names_kept_of_line line ≡ names_kept_of (take 1 (drop n all)) = sym (ap (λ (l : List Line). names_kept_of (take 1 l)) cut ∙ append-nil (names_kept_of_line line)) in
+          subst Stopped (sym before_it.0) (record {
+            within = omega (arith, within);
+            stands = before_it.1;
+            part = first;
+            files = subst (λ (l : List (List ℕ)). HoldsBut l (state_after limits start (take n all)).files held') names (holds.early before_it.0);
+          })
       by_case (inr after_it) upto within first =
-          let Stopped : ℕ → Type 0 = λ m. IsStopped limits start all m after.version old new in
+          let Stopped : ℕ → Type 0 = λ m. IsStopped limits start all m after.version held' old new in
           let state : state_after limits start (take (n + 1) all) ≡ after_reply (state_after limits start (take n all)) (answer limits (state_after limits start (take n all)) line) =
           ap (state_after limits start) upto ∙ state_after-append start (take n all) (line ∷ []) in
           subst Stopped (sym after_it.0) (record {
             within = within;
             stands = subst (λ (u : State). StandsFor after.version u.collection) (sym state) after_it.1;
             part = further first;
+            files = all_held _ _ held' (holds.late after_it.0 ∙ sym (ap (λ (u : State). Some u.files) state));
           })
         where
           further : GetsPart old new (text_of_lines (answers limits start (take (n + 1) all))) → GetsPart old new (text_of_lines (answers limits start (take (n + 1 + 1) all)))
@@ -183,10 +207,10 @@ module _ (limits : Limits) where
               part_of_all start (take (n + 1 + 1) all) (n + 1) old new (subst (λ (l : List Line). GetsPart old new (text_of_lines (answers limits start l))) (sym again) first)
 
   -- a stop after the last line
-  pub stopped_at_end : (start : State) (all : List Line) (n : ℕ) (engine after : EngineContent) (w a : Bool) (old new : Option (List ℕ)) →
-      length all ≤ n → n ≤ length all → HasCome limits start (take n all) engine w a old new →
-      StandsFor after.version (state_after limits start (take n all)).collection → IsStopped limits start all n after.version old new
-  stopped_at_end start all n engine after w a old new past within come stands =
+  pub stopped_at_end : (start : State) (all : List Line) (n : ℕ) (held : Option Contents) (engine after : EngineContent) (w a : Bool) (old new : Option (List ℕ)) →
+      length all ≤ n → n ≤ length all → HasCome limits start (take n all) held engine w a old new →
+      StandsFor after.version (state_after limits start (take n all)).collection → IsStopped limits start all n after.version held old new
+  stopped_at_end start all n held engine after w a old new past within come stands =
       let done : take n all ≡ all = take_all n all past in
       let upto : take (n + 1) all ≡ take n all = take_all (n + 1) all (omega (arith, past)) ∙ sym done in
       record {
@@ -198,6 +222,7 @@ module _ (limits : Limits) where
           whole = ap (λ (l : List Line). text_of_lines (answers limits start l)) upto ∙ sym (append-nil _);
           written = come.are.written;
         };
+        files = all_held _ _ held come.at.files;
       }
 
 both_empty : (xs ys : List (List ℕ)) → xs ++ ys ≡ [] → (xs ≡ []) × (ys ≡ [])
@@ -216,6 +241,17 @@ names_of_next done line none =
     let split : names_of (done ++ line ∷ []) ≡ names_of done ++ names_of_line line = flat_map-append names_of_line done (line ∷ []) ∙ ap (λ l. names_of done ++ l) (append-nil (names_of_line line)) in
     both_empty (names_of done) (names_of_line line) (sym split ∙ none)
 
+-- the same of the names that lines give another content
+pub kept_of_first : (n : ℕ) (all : List Line) → names_kept_of all ≡ [] → names_kept_of (take n all) ≡ []
+kept_of_first n all none =
+    let split : names_kept_of all ≡ names_kept_of (take n all) ++ names_kept_of (drop n all) = ap names_kept_of (sym (take-append-drop n all)) ∙ flat_map-append names_kept_of_line (take n all) (drop n all) in
+    (both_empty (names_kept_of (take n all)) (names_kept_of (drop n all)) (sym split ∙ none)).0
+
+pub kept_of_next : (done : List Line) (line : Line) → names_kept_of (done ++ line ∷ []) ≡ [] → (names_kept_of done ≡ []) × (names_kept_of_line line ≡ [])
+kept_of_next done line none =
+    let split : names_kept_of (done ++ line ∷ []) ≡ names_kept_of done ++ names_kept_of_line line = flat_map-append names_kept_of_line done (line ∷ []) ∙ ap (λ l. names_kept_of done ++ l) (append-nil (names_kept_of_line line)) in
+    both_empty (names_kept_of done) (names_kept_of_line line) (sym split ∙ none)
+
 -- either of two replies leaves the files
 pick : (b : Bool) (files : Contents) (x y : Reply) → x.after.files ≡ files → y.after.files ≡ files → (if b then x else y).after.files ≡ files
 pick true files x y p q = p
@@ -229,72 +265,136 @@ module _ (limits : Limits) where
       (pick (nat_lt address_end (s.collection.next + width_of (tokens_of content))) s.files (unchanged s (refusal_lines NoAddresses))
       (record { lines = file_line s.collection.next_id s.collection.next (last_address s.collection (tokens_of content)) ∷ []; after = state_with_file s name (tokens_of content) }) refl refl)
 
-  -- no reply changes what the files hold
-  reply_files : (s : State) (command : Command) → (after_reply s (reply limits s command)).files ≡ s.files
-  reply_files s Blank = refl
-  reply_files s (Add name) = add_files s name (s.files name)
-  reply_files s (Del id) = pick (has_file s.collection id) s.files (record { lines = gone_line id ∷ []; after = state_without_file s id }) (unchanged s (refusal_lines (NoFile id))) refl refl
-  reply_files s (Find query) = refl
-  reply_files s (Count query) = refl
-  reply_files s (Top n query) = refl
-  reply_files s Files = refl
-  reply_files s Merge = refl
-  reply_files s Shards = refl
-  reply_files s (Save name) = refl
-  reply_files s (Load name) = refl
-  reply_files s Wrong = refl
+  read_files : (s : State) (o : Option Collection) → (reading_reply s o).after.files ≡ s.files
+  read_files s None = refl
+  read_files s (Some c) = refl
 
-  answer_files : (s : State) (line : Line) → (after_reply s (answer limits s line)).files ≡ s.files
-  answer_files s line = either line.long
+  image_files : (s : State) (content : Option (List ℕ)) → (after_reply s (option_map (image_reply limits s) content)).files ≡ s.files
+  image_files s None = refl
+  image_files s (Some content) = pick (nat_lt limits.image (length content)) s.files (unchanged s (refusal_lines TooLong)) (reading_reply s (s.images content)) refl (read_files s (s.images content))
+
+  open_files : (s : State) (name : List ℕ) → (after_reply s (open_reply limits s name)).files ≡ s.files
+  open_files s name = either (nat_lt 0 s.collection.next_id)
     where
-      either : (b : Bool) → (after_reply s (if b then Some (unchanged s (refusal_lines LongLine)) else reply limits s (command_of line.bytes))).files ≡ s.files
+      either : (b : Bool) → (after_reply s (if b then Some (unchanged s (refusal_lines NotEmpty)) else option_map (image_reply limits s) (s.files name))).files ≡ s.files
       either true = refl
-      either false = reply_files s (command_of line.bytes)
+      either false = image_files s (s.files name)
 
-  pub state_files : (s : State) (xs : List Line) → (state_after limits s xs).files ≡ s.files
-  state_files s [] = refl
-  state_files s (line ∷ xs) = state_files (after_reply s (answer limits s line)) xs ∙ answer_files s line
+  -- only the reply to a command that saves changes what the files hold
+  reply_files : (s : State) (command : Command) → names_kept command ≡ [] → (after_reply s (reply limits s command)).files ≡ s.files
+  reply_files s Blank none = refl
+  reply_files s (Add name) none = add_files s name (s.files name)
+  reply_files s (Del id) none = pick (has_file s.collection id) s.files (record { lines = gone_line id ∷ []; after = state_without_file s id }) (unchanged s (refusal_lines (NoFile id))) refl refl
+  reply_files s (Find query) none = refl
+  reply_files s (Count query) none = refl
+  reply_files s (Top n query) none = refl
+  reply_files s Files none = refl
+  reply_files s Merge none = refl
+  reply_files s Shards none = refl
+  reply_files s (Save name) none = absurd (cc none)
+  reply_files s (Load name) none = open_files s name
+  reply_files s Wrong none = refl
 
-  -- where lines are answered, the engine and the files are at the state after them
-  pub is_at : (first : ℕ) (contents : Contents) (done : List Line) (before now : Option Contents) (engine : EngineContent) (w a : Bool) (old new : Option (List ℕ)) → now ≡ before → before ≡ Some contents →
-      HasCome limits (opening first contents) done engine w a old new → IsAt now engine w (state_after limits (opening first contents) done)
-  is_at first contents done before now engine w a old new same held come = record {
-    files = same ∙ held ∙ ap Some (sym (state_files (opening first contents) done));
-    keeps = come.keeps;
-  }
+  answer_files : (s : State) (line : Line) → names_kept_of_line line ≡ [] → (after_reply s (answer limits s line)).files ≡ s.files
+  answer_files s line none = either line.long none
+    where
+      either : (b : Bool) → (if b then [] else names_kept (command_of line.bytes)) ≡ [] → (after_reply s (if b then Some (unchanged s (refusal_lines LongLine)) else reply limits s (command_of line.bytes))).files ≡ s.files
+      either true none = refl
+      either false none = reply_files s (command_of line.bytes) none
+
+  -- files that do not change, after a line that saves nothing
+  pub unsaved_held : (s : State) (line : Line) (before now : Option Contents) (engine : EngineContent) (w : Bool) → names_kept_of_line line ≡ [] → IsAt before engine w s → now ≡ before →
+      now ≡ Some (after_reply s (answer limits s line)).files
+  unsaved_held s line before now engine w none at same = same ∙ at.files ∙ ap Some (sym (answer_files s line none))
+
+  -- after any command
+  pub command_held : (s : State) (command : Command) (before now : Option Contents) (engine : EngineContent) (w : Bool) → IsAt before engine w s → (names_kept command ≡ [] → now ≡ before) →
+      ((name : List ℕ) → command ≡ Save name → now ≡ Some (after_reply s (reply limits s (Save name))).files) → now ≡ Some (after_reply s (reply limits s command)).files
+  command_held s command before now engine w at same saved = by_command command (λ none. same none ∙ at.files ∙ ap Some (sym (reply_files s command none))) saved
+    where
+      by_command : (c : Command) → (names_kept c ≡ [] → now ≡ Some (after_reply s (reply limits s c)).files) → ((name : List ℕ) → c ≡ Save name → now ≡ Some (after_reply s (reply limits s (Save name))).files) →
+          now ≡ Some (after_reply s (reply limits s c)).files
+      by_command Blank same saved = same refl
+      by_command (Add name) same saved = same refl
+      by_command (Del id) same saved = same refl
+      by_command (Find query) same saved = same refl
+      by_command (Count query) same saved = same refl
+      by_command (Top n query) same saved = same refl
+      by_command Files same saved = same refl
+      by_command Merge same saved = same refl
+      by_command Shards same saved = same refl
+      by_command (Save name) same saved = saved name refl
+      by_command (Load name) same saved = same refl
+      by_command Wrong same saved = same refl
+
+  -- after any command that was not answered
+  pub command_held_err : (s : State) (command : Command) (n m : ℕ) (before now : Option Contents) (engine : EngineContent) (w : Bool) (fault : FileError) → IsAt before engine w s → (names_kept command ≡ [] → now ≡ before) →
+      HoldsSaved {T = Bool} {E = FileError} limits s command n m now (Err fault) → HoldsWithin s (reply limits s command) (names_kept command) n m now
+  command_held_err s command n m before now engine w fault at same saved =
+      by_command command (λ none. kept_all command none (same none)) saved
+    where
+      kept_all : (c : Command) → names_kept c ≡ [] → now ≡ before → HoldsWithin s (reply limits s c) (names_kept c) n m now
+      kept_all c none is = record {
+        early = λ stays. record { contents = s.files; is = is ∙ at.files; same = λ name. inl refl };
+        late = λ more. is ∙ at.files ∙ ap Some (sym (reply_files s c none));
+      }
+
+      by_command : (c : Command) → (names_kept c ≡ [] → HoldsWithin s (reply limits s c) (names_kept c) n m now) → HoldsSaved {T = Bool} {E = FileError} limits s c n m now (Err fault) → HoldsWithin s (reply limits s c) (names_kept c) n m now
+      by_command Blank kept saved = kept refl
+      by_command (Add name) kept saved = kept refl
+      by_command (Del id) kept saved = kept refl
+      by_command (Find query) kept saved = kept refl
+      by_command (Count query) kept saved = kept refl
+      by_command (Top n query) kept saved = kept refl
+      by_command Files kept saved = kept refl
+      by_command Merge kept saved = kept refl
+      by_command Shards kept saved = kept refl
+      by_command (Save name) kept saved = saved
+      by_command (Load name) kept saved = kept refl
+      by_command Wrong kept saved = kept refl
+
+  -- a line that is not long is answered by its command
+  pub line_answered : (s : State) (long : Bool) (bytes : List ℕ) (command : Command) → long ≡ false → command ≡ command_of bytes → answer limits s (record { long = long; bytes = bytes }) ≡ reply limits s command
+  line_answered s long bytes command short is =
+      ap (λ (b : Bool). if b then Some (unchanged s (refusal_lines LongLine)) else reply limits s (command_of bytes)) short ∙ ap (reply limits s) (sym is)
+
+pub line_kept : (long : Bool) (bytes : List ℕ) (command : Command) → long ≡ false → command ≡ command_of bytes → names_kept_of_line (record { long = long; bytes = bytes }) ≡ names_kept command
+line_kept long bytes command short is = ap (λ (b : Bool). if b then [] else names_kept (command_of bytes)) short ∙ ap names_kept (sym is)
 
 -- an engine that was just opened keeps the state before the first line
-pub fresh_keeps : (engine : EngineContent) (lines : ℕ) (contents : Contents) → IsFresh engine lines → Keeps engine false (opening engine.version.first contents)
-fresh_keeps engine lines contents fresh = record {
+pub fresh_keeps : (engine : EngineContent) (lines : ℕ) (contents : Contents) (images : Images) → IsFresh engine lines → Keeps engine false (opening engine.version.first contents images)
+fresh_keeps engine lines contents images fresh = record {
   stands = subst (λ (v : VersionContent). StandsFor v (empty_from engine.version.first)) (sym fresh.version) (record { first = refl; next = refl; next_id = refl; dels = refl; files = refl; words = refl });
   slots = sym (ap (λ (v : VersionContent). ranges_of v.slots) fresh.version);
 }
 
 -- no line is answered yet
-pub fresh_come : (limits : Limits) (engine : EngineContent) (completed : ℕ) (contents : Contents) (all : List Line) (old : Option (List ℕ)) → IsFresh engine completed →
-    HasCome limits (opening engine.version.first contents) (take completed all) engine false false old old
-fresh_come limits engine completed contents all old fresh =
-    subst (λ (n : ℕ). HasCome limits (opening engine.version.first contents) (take n all) engine false false old old) (sym fresh.none)
-    (begins limits (opening engine.version.first contents) engine old (fresh_keeps engine completed contents fresh))
+pub fresh_come : (limits : Limits) (engine : EngineContent) (completed : ℕ) (contents : Contents) (images : Images) (held : Option Contents) (all : List Line) (old : Option (List ℕ)) → IsFresh engine completed →
+    held ≡ Some contents → HasCome limits (opening engine.version.first contents images) (take completed all) held engine false false old old
+fresh_come limits engine completed contents images held all old fresh is =
+    subst (λ (n : ℕ). HasCome limits (opening engine.version.first contents images) (take n all) held engine false false old old) (sym fresh.none)
+    (begins limits (opening engine.version.first contents images) held engine old (record { files = is; keeps = fresh_keeps engine completed contents images fresh }))
 
 -- all lines are answered
-pub ends : (limits : Limits) (first : ℕ) (contents : Contents) (script : List ℕ) (n : ℕ) (engine : EngineContent) (wanted refusal : Bool) (old new : Option (List ℕ)) →
-    length (lines limits.line script) ≤ n → HasCome limits (opening first contents) (take n (lines limits.line script)) engine wanted refusal old new →
-    HasAnswered limits first contents script refusal old new
-ends limits first contents script n engine wanted refusal old new past come =
+pub ends : (limits : Limits) (start : State) (script : List ℕ) (n : ℕ) (held : Option Contents) (engine : EngineContent) (wanted refusal : Bool) (old new : Option (List ℕ)) →
+    length (lines limits.line script) ≤ n → HasCome limits start (take n (lines limits.line script)) held engine wanted refusal old new → HasAnswered limits start script refusal held old new
+ends limits start script n held engine wanted refusal old new past come =
     let done : take n (lines limits.line script) ≡ lines limits.line script = take_all n (lines limits.line script) past in
-    let are : AreAnswered limits (opening first contents) (lines limits.line script) refusal old new =
-    subst (λ (l : List Line). AreAnswered limits (opening first contents) l refusal old new) done come.are in
-    record { all = are.answered; written = are.written; refusal_is = are.refusal_is }
+    let are : AreAnswered limits start (lines limits.line script) refusal old new = subst (λ (l : List Line). AreAnswered limits start l refusal old new) done come.are in
+    record {
+      all = are.answered;
+      written = are.written;
+      refusal_is = are.refusal_is;
+      files = come.at.files ∙ ap (λ (l : List Line). Some (state_after limits start l).files) done;
+    }
 
 -- the engine keeps the state after all lines
-pub left : (limits : Limits) (first : ℕ) (contents : Contents) (script : List ℕ) (n : ℕ) (engine : EngineContent) →
-    length (lines limits.line script) ≤ n → n ≤ length (lines limits.line script) → Keeps engine false (state_after limits (opening first contents) (take n (lines limits.line script))) →
-    IsLeftBy limits first contents script engine n
-left limits first contents script n engine past within keeps =
+pub left : (limits : Limits) (start : State) (script : List ℕ) (n : ℕ) (engine : EngineContent) →
+    length (lines limits.line script) ≤ n → n ≤ length (lines limits.line script) → Keeps engine false (state_after limits start (take n (lines limits.line script))) → IsLeftBy limits start script engine n
+left limits start script n engine past within keeps =
     let done : take n (lines limits.line script) ≡ lines limits.line script = take_all n (lines limits.line script) past in
     record {
-      keeps = subst (λ (l : List Line). Keeps engine false (state_after limits (opening first contents) l)) done keeps;
+      keeps = subst (λ (l : List Line). Keeps engine false (state_after limits start l)) done keeps;
       each = omega (arith, past, within);
     }
 
@@ -306,14 +406,6 @@ IfSome-given (Some x) h = h x refl
 -- at the value that it has
 pub IfSome-at : {T : Type 0} (P : T → Type 0) (o : Option T) (x : T) → o ≡ Some x → IfSome o P → P x
 IfSome-at {T} P o x is h = let Q : Option T → Type 0 = λ v. IfSome v P in subst Q is h
-
--- nothing is a part of each text
-pub nothing_of : (start : Option ℕ) (left : Option (List ℕ)) (held : Option Contents) (sink : Option (List ℕ)) (text : ℕ → List ℕ → Contents → List ℕ) →
-    WhereTold start left held (λ first script contents. GetsPart sink sink (text first script contents))
-nothing_of None left held sink text = tt
-nothing_of (Some first) None held sink text = tt
-nothing_of (Some first) (Some script) None sink text = tt
-nothing_of (Some first) (Some script) (Some contents) sink text = record { part = []; rest = text first script contents; whole = refl; written = Appends-none sink }
 
 -- no more can be handed over than was left
 pub not_more : (most : ℕ) (old new : Option (List ℕ)) → IsSomeAnd old (λ script. length script ≤ most) → HandsOverMore most old new → ⊥

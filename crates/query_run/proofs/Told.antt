@@ -1,75 +1,81 @@
--- Where it is known what the source has left and what the files hold.
-use Rattle.std.proofs.Common.{◌≡◌, ℕ, ◌+◌, ◌≤◌, Bool, List, [], length, take, refl, sym, ap, subst, ◌∙◌, Option, Some, None, IfSome, arith}
+-- Where it is known what the source has left and what the files hold, and of what the lines open it is said rightly what it is an image of.
+use Rattle.std.proofs.Common.{◌≡◌, ℕ, ◌+◌, ◌≤◌, inl, Bool, List, [], length, take, drop, refl, sym, ap, subst, ◌∙◌, Option, Some, None, arith}
 use Rattle.std.specs.Io.KnownBytes.{Appends, Consumes, IsAtEnd}
 use Rattle.outside.specs.Contents.{Contents}
 use Rattle.live_version.specs.StandsFor.{StandsFor}
 use Rattle.collection.specs.Engines.{EngineContent}
 use Rattle.script_lang.specs.Lines.{Line, lines}
+use Rattle.query_run.specs.Images.{Images}
 use Rattle.query_run.specs.States.{State, opening, Keeps, IsFresh}
-use Rattle.query_run.specs.Answers.{answers, text_of_lines, output_by, state_after}
-use Rattle.query_run.specs.Runs.{WhereTold, GetsPart, HasAnswered, IsAnsweredBy, IsLeftBy, IsStopped}
+use Rattle.query_run.specs.Answers.{answers, text_of_lines, output_by, state_after, AreRead, names_kept_of}
+use Rattle.query_run.specs.Runs.{WhereTold, GetsPart, HasAnswered, HoldsBut, IsAnsweredBy, IsLeftBy, IsStopped}
 use Rattle.query_run.specs.declared.limits.Limits.{Limits}
 use Rattle.query_run.proofs.Scripts.{fresh_keeps, part_of_all, all_read}
 use Rattle.query_run.proofs.Writing.{Appends-none}
 
--- at a script and contents that are known
-pub told : (first : ℕ) (left : Option (List ℕ)) (held : Option Contents) (P : ℕ → List ℕ → Contents → Type 0) →
-    ((script : List ℕ) (contents : Contents) → left ≡ Some script → held ≡ Some contents → P first script contents) → WhereTold (Some first) left held P
-told first None held P h = tt
-told first (Some script) None P h = tt
-told first (Some script) (Some contents) P h = h script contents refl refl
+-- at a script, contents and readings that are known
+pub told : (limits : Limits) (first : ℕ) (left : Option (List ℕ)) (held : Option Contents) (P : State → List ℕ → Type 0) →
+    ((script : List ℕ) (contents : Contents) (images : Images) → left ≡ Some script → held ≡ Some contents → P (opening first contents images) script) → WhereTold limits (Some first) left held P
+told limits first None held P h = tt
+told limits first (Some script) None P h = tt
+told limits first (Some script) (Some contents) P h = λ images read. h script contents images refl refl
 
 -- from one to another
-pub told_as : (first : ℕ) (left : Option (List ℕ)) (held : Option Contents) (P Q : ℕ → List ℕ → Contents → Type 0) →
-    ((script : List ℕ) (contents : Contents) → P first script contents → Q first script contents) → WhereTold (Some first) left held P → WhereTold (Some first) left held Q
-told_as first None held P Q h p = tt
-told_as first (Some script) None P Q h p = tt
-told_as first (Some script) (Some contents) P Q h p = h script contents p
+pub told_as : (limits : Limits) (first : ℕ) (left : Option (List ℕ)) (held : Option Contents) (P Q : State → List ℕ → Type 0) →
+    ((start : State) (script : List ℕ) → P start script → Q start script) → WhereTold limits (Some first) left held P → WhereTold limits (Some first) left held Q
+told_as limits first None held P Q h p = tt
+told_as limits first (Some script) None P Q h p = tt
+told_as limits first (Some script) (Some contents) P Q h p = λ images read. h (opening first contents images) script (p images read)
 
 -- what holds where the contents are known holds of the script that was read to its end
-pub told_read : (first : ℕ) (left after : Option (List ℕ)) (held : Option Contents) (bytes : List ℕ) (P : ℕ → List ℕ → Contents → Type 0) →
-    Consumes left after bytes → IsAtEnd after → IfSome held (λ contents. P first bytes contents) → WhereTold (Some first) left held P
-told_read first None after held bytes P from end p = tt
-told_read first (Some script) after None bytes P from end p = tt
-told_read first (Some script) after (Some contents) bytes P from end p =
-    subst (λ (l : List ℕ). P first l contents) (all_read (Some script) after script bytes from end refl) p
+pub told_read : (limits : Limits) (first : ℕ) (left after : Option (List ℕ)) (held : Option Contents) (bytes : List ℕ) (P : State → List ℕ → Type 0) →
+    Consumes left after bytes → IsAtEnd after →
+    ((contents : Contents) (images : Images) → held ≡ Some contents → AreRead limits (opening first contents images) (lines limits.line bytes) → P (opening first contents images) bytes) →
+    WhereTold limits (Some first) left held P
+told_read limits first None after held bytes P from end p = tt
+told_read limits first (Some script) after None bytes P from end p = tt
+told_read limits first (Some script) after (Some contents) bytes P from end p =
+    let same : bytes ≡ script = all_read (Some script) after script bytes from end refl in
+    λ images read.
+    let here : AreRead limits (opening first contents images) (lines limits.line bytes) = subst (λ (l : List ℕ). AreRead limits (opening first contents images) (lines limits.line l)) (sym same) read in
+    subst (λ (l : List ℕ). P (opening first contents images) l) same (p contents images refl here)
 
--- no line is completed, and nothing was written
+-- no line is completed, nothing was written, and the files are as they were
 pub stopped_before : (limits : Limits) (engine : EngineContent) (completed : ℕ) (left : Option (List ℕ)) (held : Option Contents) (sink : Option (List ℕ)) → IsFresh engine completed →
-    WhereTold (Some engine.version.first) left held (λ first script contents. IsStopped limits (opening first contents) (lines limits.line script) completed engine.version sink sink)
-stopped_before limits engine completed left held sink fresh = told engine.version.first left held
-    (λ first script contents. IsStopped limits (opening first contents) (lines limits.line script) completed engine.version sink sink) (λ script contents is_left is_held.
-    subst (λ (n : ℕ). IsStopped limits (opening engine.version.first contents) (lines limits.line script) n engine.version sink sink) (sym fresh.none)
+    WhereTold limits (Some engine.version.first) left held (λ start script. IsStopped limits start (lines limits.line script) completed engine.version held sink sink)
+stopped_before limits engine completed left held sink fresh = told limits engine.version.first left held
+    (λ start script. IsStopped limits start (lines limits.line script) completed engine.version held sink sink) (λ script contents images is_left is_held.
+    subst (λ (n : ℕ). IsStopped limits (opening engine.version.first contents images) (lines limits.line script) n engine.version held sink sink) (sym fresh.none)
     (record {
       within = omega arith;
-      stands = (fresh_keeps engine completed contents fresh).stands;
-      part = record { part = []; rest = text_of_lines (answers limits (opening engine.version.first contents) (take 1 (lines limits.line script))); whole = refl; written = Appends-none sink };
+      stands = (fresh_keeps engine completed contents images fresh).stands;
+      part = record { part = []; rest = text_of_lines (answers limits (opening engine.version.first contents images) (take 1 (lines limits.line script))); whole = refl; written = Appends-none sink };
+      files = record { contents = contents; is = is_held; same = λ name. inl refl };
     }))
 
 -- nothing is a part of each text
-pub part_before : (first : ℕ) (left : Option (List ℕ)) (held : Option Contents) (sink : Option (List ℕ)) (text : ℕ → List ℕ → Contents → List ℕ) →
-    WhereTold (Some first) left held (λ first script contents. GetsPart sink sink (text first script contents))
-part_before first left held sink text = told first left held (λ start script contents. GetsPart sink sink (text start script contents)) (λ script contents is_left is_held.
-    record { part = []; rest = text first script contents; whole = refl; written = Appends-none sink })
+pub part_before : (limits : Limits) (first : ℕ) (left : Option (List ℕ)) (held : Option Contents) (sink : Option (List ℕ)) (text : State → List ℕ → List ℕ) →
+    WhereTold limits (Some first) left held (λ start script. GetsPart sink sink (text start script))
+part_before limits first left held sink text = told limits first left held (λ start script. GetsPart sink sink (text start script)) (λ script contents images is_left is_held.
+    record { part = []; rest = text (opening first contents images) script; whole = refl; written = Appends-none sink })
+
+pub nothing_of : (limits : Limits) (first : Option ℕ) (left : Option (List ℕ)) (held : Option Contents) (sink : Option (List ℕ)) (text : State → List ℕ → List ℕ) →
+    WhereTold limits first left held (λ start script. GetsPart sink sink (text start script))
+nothing_of limits None left held sink text = tt
+nothing_of limits (Some first) left held sink text = part_before limits first left held sink text
 
 -- a stop within a script is a part of its output
-pub part_stopped : (limits : Limits) (first : ℕ) (script : List ℕ) (contents : Contents) (completed : ℕ) (engine : EngineContent) (old new : Option (List ℕ)) →
-    IsStopped limits (opening first contents) (lines limits.line script) completed engine.version old new → GetsPart old new (output_by limits first contents script)
-part_stopped limits first script contents completed engine old new stop =
-    part_of_all limits (opening first contents) (lines limits.line script) (completed + 1) old new stop.part
+pub part_stopped : (limits : Limits) (start : State) (script : List ℕ) (completed : ℕ) (engine : EngineContent) (held : Option Contents) (old new : Option (List ℕ)) →
+    IsStopped limits start (lines limits.line script) completed engine.version held old new → GetsPart old new (output_by limits start script)
+part_stopped limits start script completed engine held old new stop = part_of_all limits start (lines limits.line script) (completed + 1) old new stop.part
 
 -- what was answered was read to its end
-pub answered_read : (limits : Limits) (first : ℕ) (contents : Contents) (script : List ℕ) (refusal : Bool) (after old new : Option (List ℕ)) → length script ≤ limits.script → IsAtEnd after →
-    HasAnswered limits first contents script refusal old new → IsAnsweredBy limits first contents script refusal after old new
-answered_read limits first contents script refusal after old new short end all = record { short = short; read = end; answered = all }
-
--- at any option, within what holds there
-pub IfSome-map : {T : Type 0} (P Q : T → Type 0) (o : Option T) → ((x : T) → P x → Q x) → IfSome o P → IfSome o Q
-IfSome-map P Q None h p = tt
-IfSome-map P Q (Some x) h p = h x p
+pub answered_read : (limits : Limits) (start : State) (script : List ℕ) (refusal : Bool) (after : Option (List ℕ)) (held : Option Contents) (old new : Option (List ℕ)) → length script ≤ limits.script → IsAtEnd after →
+    HasAnswered limits start script refusal held old new → IsAnsweredBy limits start script refusal after held old new
+answered_read limits start script refusal after held old new short end all = record { short = short; read = end; answered = all }
 
 -- by the address that the words give, and by limits that are the same
-pub by_words : (o : Option ℕ) (limits limits' : Limits) (first : ℕ) (left : Option (List ℕ)) (held : Option Contents) (P : Limits → ℕ → List ℕ → Contents → Type 0) → Some first ≡ o → limits ≡ limits' →
-    WhereTold (Some first) left held (P limits) → WhereTold o left held (P limits')
+pub by_words : (o : Option ℕ) (limits limits' : Limits) (first : ℕ) (left : Option (List ℕ)) (held : Option Contents) (P : Limits → State → List ℕ → Type 0) → Some first ≡ o → limits ≡ limits' →
+    WhereTold limits (Some first) left held (P limits) → WhereTold limits' o left held (P limits')
 by_words o limits limits' first left held P is same h =
-    subst (λ (w : Option ℕ). WhereTold w left held (P limits')) is (subst (λ (l : Limits). WhereTold (Some first) left held (P l)) same h)
+    subst (λ (w : Option ℕ). WhereTold limits' w left held (P limits')) is (subst (λ (l : Limits). WhereTold l (Some first) left held (P l)) same h)

@@ -1,15 +1,18 @@
 -- Replies and outputs, worked out. What is UTF-8 does not compute here, so a line that adds a file is worked out by its command.
-use Rattle.std.proofs.Common.{◌≡◌, ℕ, true, List, [], ◌∷◌, ◌++◌, refl, codes, Some, None}
+use Rattle.std.proofs.Common.{◌≡◌, ℕ, true, List, [], ◌∷◌, ◌++◌, length, bytes_eq, refl, codes, Some, None}
+use Rattle.std.specs.Prelude.{if◌then◌else◌}
 use Rattle.std.specs.Fmt.{digits}
 use Rattle.outside.specs.Contents.{Contents, content_of}
-use Rattle.gcl_model.specs.Collections.{empty_from, text_of}
+use Rattle.gcl_model.specs.Collections.{text_of, words_of}
 use Rattle.gcl_model.specs.Slots.{slot_range}
+use Rattle.index_shard.specs.Tables.{TermEntry}
 use Rattle.script_lang.specs.Lines.{lines}
-use Rattle.script_lang.specs.declared.commands.Command.TheVariants.{Add, Merge, Shards}
+use Rattle.script_lang.specs.declared.commands.Command.TheVariants.{Add, Load, Merge, Save, Shards}
 use Rattle.query_run.specs.declared.limits.Limits.{Limits}
 use Rattle.query_run.specs.declared.queries.Asked.TheVariants.{All, First, Number}
+use Rattle.query_run.specs.Images.{Images, image_of, terms_of, with_token}
 use Rattle.query_run.specs.States.{State, opening}
-use Rattle.query_run.specs.Answers.{unchanged, state_with_file, state_without_file, state_merged, del_reply, files_lines, query_lines, reply, answers, state_after, output, has_refusal_by, names_of}
+use Rattle.query_run.specs.Answers.{unchanged, state_keeping, state_merged, state_opened, state_with_file, state_without_file, del_reply, files_lines, query_lines, reply, answers, state_after, output, has_refusal_by, names_of}
 use Rattle.query_run.specs.Runs.{within}
 use Rattle.query_run.specs.Words.{first_of}
 
@@ -17,16 +20,24 @@ use Rattle.query_run.specs.Words.{first_of}
 abbrev held : Contents
 held = content_of ((codes "a", codes "to be") ∷ [])
 
+-- nothing is said to be an image
+abbrev images : Images
+images content = None
+
 -- lines of at most 10 bytes, and files of at most 5
 abbrev small : Limits
-small = record { line = 10; file = 5; script = 1000 }
+small = record { line = 10; file = 5; script = 1000; image = 200 }
 
 -- files of at most 4 bytes
 abbrev smaller : Limits
-smaller = record { line = 10; file = 4; script = 1000 }
+smaller = record { line = 10; file = 4; script = 1000; image = 83 }
 
 abbrev start : State
-start = opening 0 held
+start = opening 0 held images
+
+-- a term at one address
+abbrev term : List ℕ → ℕ → TermEntry
+term token address = record { term = token; addresses = address ∷ [] }
 
 -- the file was added
 abbrev one : State
@@ -49,7 +60,7 @@ file-not_held = refl
 file-too_long : reply smaller start (Add (codes "a")) ≡ Some (unchanged start (codes "! file too long" ∷ []))
 file-too_long = refl
 
-file-no_room : reply small (opening 72057594037927933 held) (Add (codes "a")) ≡ Some (unchanged (opening 72057594037927933 held) (codes "! no addresses" ∷ []))
+file-no_room : reply small (opening 72057594037927933 held images) (Add (codes "a")) ≡ Some (unchanged (opening 72057594037927933 held images) (codes "! no addresses" ∷ []))
 file-no_room = refl
 
 file-gone : del_reply one 0 ≡ record { lines = codes "gone 0" ∷ []; after = state_without_file one 0 }
@@ -75,6 +86,53 @@ slots-counted = refl
 -- where no file survives a merge leaves no slot
 slots-none : (state_merged (state_without_file one 0)).slots ≡ []
 slots-none = refl
+
+-- each token once, in byte order
+terms-of_file : terms_of (words_of one.collection) ≡ term (codes "</file!>") 3 ∷ term (codes "<file!>") 0 ∷ term (codes "be") 2 ∷ term (codes "to") 1 ∷ []
+terms-of_file = refl
+
+tokens-once : with_token (codes "be") (codes "a" ∷ codes "be" ∷ codes "not" ∷ []) ≡ codes "a" ∷ codes "be" ∷ codes "not" ∷ []
+tokens-once = refl
+
+image-size : length (image_of one.collection) ≡ 84
+image-size = refl
+
+saved-given : reply small one (Save (codes "i")) ≡ Some record { lines = codes "saved 84" ∷ []; after = state_keeping one (codes "i") (image_of one.collection) }
+unfolding digits
+saved-given = refl
+
+saved-held : (state_keeping one (codes "i") (image_of one.collection)).files (codes "i") ≡ Some (image_of one.collection)
+saved-held = refl
+
+saved-other : (state_keeping one (codes "i") (image_of one.collection)).files (codes "a") ≡ Some (codes "to be")
+saved-other = refl
+
+saved-too_long : reply smaller one (Save (codes "i")) ≡ Some (unchanged one (codes "! file too long" ∷ []))
+saved-too_long = refl
+
+-- the file "i" is the image of the collection with the one file, and is read as that
+abbrev saved : State
+saved = opening 0 (content_of ((codes "i", image_of one.collection) ∷ (codes "a", codes "to be") ∷ [])) (λ content. if bytes_eq content (image_of one.collection) then Some one.collection else None)
+
+opened-given : reply small saved (Load (codes "i")) ≡ Some record { lines = codes "opened 1" ∷ []; after = state_opened saved one.collection }
+unfolding digits
+opened-given = refl
+
+opened-slot : (state_opened saved one.collection).slots ≡ slot_range 0 3 ∷ []
+opened-slot = refl
+
+opened-no_image : reply small saved (Load (codes "a")) ≡ Some (unchanged saved (codes "! not an image" ∷ []))
+opened-no_image = refl
+
+opened-too_long : reply smaller saved (Load (codes "i")) ≡ Some (unchanged saved (codes "! file too long" ∷ []))
+opened-too_long = refl
+
+opened-not_held : reply small saved (Load (codes "b")) ≡ None
+opened-not_held = refl
+
+-- once a file was added it does not matter what is held
+opened-not_empty : reply small one (Load (codes "b")) ≡ Some (unchanged one (codes "! not empty" ∷ []))
+opened-not_empty = refl
 
 query-listed : query_lines All (text_of one.collection) (codes "\"to\"..\"be\"") ≡ codes "1 2" ∷ codes "= 1" ∷ []
 unfolding digits
@@ -108,11 +166,11 @@ script-loads : names_of (lines 10 script) ≡ []
 script-loads = refl
 
 -- an empty line has no answer, and a line that is refused has one
-output-of_three : output 7 held (codes "count [1]" ++ 10 ∷ 10 ∷ codes "frob") ≡ codes "= 0" ++ 10 ∷ codes "! command" ++ 10 ∷ []
+output-of_three : output (opening 7 held images) (codes "count [1]" ++ 10 ∷ 10 ∷ codes "frob") ≡ codes "= 0" ++ 10 ∷ codes "! command" ++ 10 ∷ []
 unfolding digits
 output-of_three = refl
 
-output-refused : has_refusal_by small 7 held (codes "files" ++ 10 ∷ codes "frob") ≡ true
+output-refused : has_refusal_by small (opening 7 held images) (codes "files" ++ 10 ∷ codes "frob") ≡ true
 unfolding digits
 output-refused = refl
 

@@ -1,5 +1,6 @@
 pub mod Answers
 pub mod Faults
+pub mod Images
 pub mod Progress
 pub mod Runs
 pub mod States

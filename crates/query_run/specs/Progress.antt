@@ -1,5 +1,5 @@
 -- For proofs alone: what the functions under `serve` say of a line and of some lines. No clause of `serve` or `run` speaks of these.
-use Rattle.std.specs.Prelude.{◌≡◌, Bool, ℕ, ◌+◌, ◌≤◌, List, [], ◌++◌, Option, None, Some, Result, IsErrOf, ◌⊎◌, if◌then◌else◌}
+use Rattle.std.specs.Prelude.{◌≡◌, Bool, ℕ, ◌+◌, ◌≤◌, List, [], ◌∷◌, ◌++◌, Option, None, Some, Result, Ok, Err, IsErrOf, ◌⊎◌, ⊤, if◌then◌else◌}
 use Rattle.std.specs.List.{list_any}
 use Rattle.std.specs.Io.KnownBytes.{Appends}
 use Rattle.outside.specs.Causes.{Rose}
@@ -8,8 +8,11 @@ use Rattle.live_version.specs.StandsFor.{StandsFor}
 use Rattle.collection.specs.Engines.{EngineContent}
 use Rattle.script_lang.specs.Lines.{Line}
 use Rattle.script_lang.specs.Answers.{is_refusal}
+use Rattle.script_lang.specs.declared.commands.Command.{Command}
+use Rattle.script_lang.specs.declared.commands.Command.TheVariants.{Save}
 use Rattle.query_run.specs.States.{State, Keeps}
-use Rattle.query_run.specs.Answers.{Reply, answer, answers, after_reply, state_after, AllAnswered, text_of_lines}
+use Rattle.query_run.specs.Answers.{Reply, answer, answers, reply, after_reply, state_after, AllAnswered, text_of_lines}
+use Rattle.query_run.specs.Runs.{HoldsBut}
 use Rattle.query_run.specs.declared.limits.Limits.{Limits}
 use Rattle.query_run.specs.declared.run_fault.RunFault.{RunFault}
 use Rattle.query_run.specs.declared.run_fault.RunFault.TheVariants.{Write, Files}
@@ -40,6 +43,22 @@ abbrev pub StopsWithin : State → Option Reply → ℕ → ℕ → EngineConten
 StopsWithin state told before now engine =
     ((now ≡ before) × StandsFor engine.version state.collection) ⊎ ((now ≡ before + 1) × StandsFor engine.version (after_reply state told).collection)
 
+-- what the files hold where a line ended early: what they held before it, but for the names that it keeps, or, and then the line is
+-- completed, what it leaves
+pub record HoldsWithin (state : State) (told : Option Reply) (names : List (List ℕ)) (before now : ℕ) (held : Option Contents) : Type 0 where
+  pub early : now ≡ before → HoldsBut names state.files held
+  pub late : now ≡ before + 1 → held ≡ Some (after_reply state told).files
+
+-- what the files hold after a line: what it leaves, and where it ended early what is said above
+abbrev pub HoldsAfter : {T E : Type 0} → State → Option Reply → List (List ℕ) → ℕ → ℕ → Option Contents → Result T E → Type 0
+HoldsAfter state told names before now held (Ok _) = held ≡ Some (after_reply state told).files
+HoldsAfter state told names before now held (Err _) = HoldsWithin state told names before now held
+
+-- the same of a command that saves, and nothing of another
+abbrev pub HoldsSaved : {T E : Type 0} → Limits → State → Command → ℕ → ℕ → Option Contents → Result T E → Type 0
+HoldsSaved limits state (Save name) before now held result = HoldsAfter state (reply limits state (Save name)) (name ∷ []) before now held result
+HoldsSaved limits state _ before now held result = ⊤
+
 -- how many merges are wanted
 abbrev pub wish : Bool → ℕ
 wish wanted = if wanted then 1 else 0
@@ -67,10 +86,10 @@ pub record AreAnswered (limits : Limits) (start : State) (lines : List Line) (re
   pub refusal_is : refusal ≡ list_any is_refusal (answers limits start lines)
   pub written : Appends old new (text_of_lines (answers limits start lines))
 
--- so far the lines are answered, and the engine keeps the state after them
-pub record HasCome (limits : Limits) (start : State) (lines : List Line) (engine : EngineContent) (wanted refusal : Bool) (old new : Option (List ℕ)) : Type 0 where
+-- so far the lines are answered, and the engine and the files keep the state after them
+pub record HasCome (limits : Limits) (start : State) (lines : List Line) (held : Option Contents) (engine : EngineContent) (wanted refusal : Bool) (old new : Option (List ℕ)) : Type 0 where
   pub are : AreAnswered limits start lines refusal old new
-  pub keeps : Keeps engine wanted (state_after limits start lines)
+  pub at : IsAt held engine wanted (state_after limits start lines)
 
 -- neither count has fallen, and a fault is one of the object that it names
 pub record HasCauses {T : Type 0} (sink_before sink_now files_before files_now : ℕ) (result : Result T RunFault) : Type 0 where

@@ -1,20 +1,27 @@
 -- What a run says of its source, its files and its sink.
-use Rattle.std.specs.Prelude.{◌≡◌, Bool, false, ℕ, ◌+◌, ◌≤◌, ◌==◌, List, [], ◌∷◌, ◌++◌, length, take, Option, IfSome, if◌then◌else◌}
-use Rattle.std.specs.List.{list_any}
+use Rattle.std.specs.Prelude.{◌≡◌, Bool, false, ℕ, ◌+◌, ◌≤◌, ◌==◌, List, [], ◌∷◌, ◌++◌, length, take, drop, Contains, Option, Some, IfSome, ◌⊎◌, if◌then◌else◌}
 use Rattle.std.specs.Io.KnownBytes.{Appends, Consumes, IsAtEnd}
 use Rattle.outside.specs.Contents.{Contents}
-use Rattle.script_lang.specs.Answers.{is_refusal}
 use Rattle.script_lang.specs.Lines.{Line, lines}
 use Rattle.live_version.specs.Contents.{VersionContent}
 use Rattle.live_version.specs.StandsFor.{StandsFor}
 use Rattle.collection.specs.Engines.{EngineContent}
 use Rattle.query_run.specs.States.{State, opening, greatest_limits, Keeps}
-use Rattle.query_run.specs.Answers.{text_of_lines, answers, state_after, AllAnswered, output_by, has_refusal_by}
+use Rattle.query_run.specs.Images.{Images}
+use Rattle.query_run.specs.Answers.{text_of_lines, answers, state_after, AllAnswered, AreRead, output_by, has_refusal_by, names_kept_of}
 use Rattle.query_run.specs.declared.limits.Limits.{Limits}
 
--- where the words give an address, and it is known what the source has left and what the files hold
-abbrev pub WhereTold : Option ℕ → Option (List ℕ) → Option Contents → (ℕ → List ℕ → Contents → Type 0) → Type 0
-WhereTold first left held P = IfSome first (λ start. IfSome left (λ script. IfSome held (λ contents. P start script contents)))
+-- At the state before the first line and the script: where the words give an address, it is known what the source has left and what the
+-- files hold, and of each content that the lines open it is said rightly what it is an image of
+abbrev pub WhereTold : Limits → Option ℕ → Option (List ℕ) → Option Contents → (State → List ℕ → Type 0) → Type 0
+WhereTold limits first left held P = IfSome first (λ address. IfSome left (λ script. IfSome held (λ contents.
+    (images : Images) → AreRead limits (opening address contents images) (lines limits.line script) → P (opening address contents images) script)))
+
+-- the files hold this under every name but some
+pub record HoldsBut (names : List (List ℕ)) (files : Contents) (held : Option Contents) : Type 0 where
+  pub contents : Contents
+  pub is : held ≡ Some contents
+  pub same : (name : List ℕ) → (contents name ≡ files name) ⊎ Contains names name
 
 -- the sink got the beginning of a text, or all of it
 pub record GetsPart (old new : Option (List ℕ)) (text : List ℕ) : Type 0 where
@@ -23,33 +30,36 @@ pub record GetsPart (old new : Option (List ℕ)) (text : List ℕ) : Type 0 whe
   pub whole : text ≡ part ++ rest
   pub written : Appends old new part
 
--- every line of the script has an answer, and all answers were written; they have a refusal line or none
-pub record HasAnswered (limits : Limits) (first : ℕ) (contents : Contents) (script : List ℕ) (refusal : Bool) (old new : Option (List ℕ)) : Type 0 where
-  pub all : AllAnswered limits (opening first contents) (lines limits.line script)
-  pub written : Appends old new (output_by limits first contents script)
-  pub refusal_is : refusal ≡ has_refusal_by limits first contents script
+-- every line of the script has an answer, all answers were written, and the files hold what the lines leave; the answers have a refusal
+-- line or none
+pub record HasAnswered (limits : Limits) (start : State) (script : List ℕ) (refusal : Bool) (held : Option Contents) (old new : Option (List ℕ)) : Type 0 where
+  pub all : AllAnswered limits start (lines limits.line script)
+  pub written : Appends old new (output_by limits start script)
+  pub refusal_is : refusal ≡ has_refusal_by limits start script
+  pub files : held ≡ Some (state_after limits start (lines limits.line script)).files
 
 -- the same, the script is within its limit, and it was read to its end
-pub record IsAnsweredBy (limits : Limits) (first : ℕ) (contents : Contents) (script : List ℕ) (refusal : Bool) (left old new : Option (List ℕ)) : Type 0 where
+pub record IsAnsweredBy (limits : Limits) (start : State) (script : List ℕ) (refusal : Bool) (left : Option (List ℕ)) (held : Option Contents) (old new : Option (List ℕ)) : Type 0 where
   pub short : length script ≤ limits.script
   pub read : IsAtEnd left
-  pub answered : HasAnswered limits first contents script refusal old new
+  pub answered : HasAnswered limits start script refusal held old new
 
 -- the same by the limits of a run
-abbrev pub IsAnswered : ℕ → Contents → List ℕ → Bool → Option (List ℕ) → Option (List ℕ) → Option (List ℕ) → Type 0
+abbrev pub IsAnswered : State → List ℕ → Bool → Option (List ℕ) → Option Contents → Option (List ℕ) → Option (List ℕ) → Type 0
 IsAnswered = IsAnsweredBy greatest_limits
 
 -- the engine keeps the state after the whole script, and each of its lines is completed
-pub record IsLeftBy (limits : Limits) (first : ℕ) (contents : Contents) (script : List ℕ) (engine : EngineContent) (completed : ℕ) : Type 0 where
-  pub keeps : Keeps engine false (state_after limits (opening first contents) (lines limits.line script))
+pub record IsLeftBy (limits : Limits) (start : State) (script : List ℕ) (engine : EngineContent) (completed : ℕ) : Type 0 where
+  pub keeps : Keeps engine false (state_after limits start (lines limits.line script))
   pub each : completed ≡ length (lines limits.line script)
 
--- The first so many lines are completed: the version stands for the collection after them, and the sink got the beginning of the
--- answers to them and the line after them
-pub record IsStopped (limits : Limits) (start : State) (script : List Line) (completed : ℕ) (version : VersionContent) (old new : Option (List ℕ)) : Type 0 where
+-- The first so many lines are completed: the version stands for the collection after them, the sink got the beginning of the answers to
+-- them and the line after them, and the files hold what they leave, but for the name that the line after them saves
+pub record IsStopped (limits : Limits) (start : State) (script : List Line) (completed : ℕ) (version : VersionContent) (held : Option Contents) (old new : Option (List ℕ)) : Type 0 where
   pub within : completed ≤ length script
   pub stands : StandsFor version (state_after limits start (take completed script)).collection
   pub part : GetsPart old new (text_of_lines (answers limits start (take (completed + 1) script)))
+  pub files : HoldsBut (names_kept_of (take 1 (drop completed script))) (state_after limits start (take completed script)).files held
 
 -- the source handed over one byte more than so many, and no byte after that
 pub record HandsOverMore (most : ℕ) (old new : Option (List ℕ)) : Type 0 where

@@ -1,5 +1,5 @@
 -- The state of a script, and how an engine keeps it.
-use Rattle.std.specs.Prelude.{◌≡◌, ℕ, ◌≤◌, Bool, List, [], if◌then◌else◌}
+use Rattle.std.specs.Prelude.{◌≡◌, ℕ, ◌^◌, ◌≤◌, Bool, List, [], if◌then◌else◌}
 use Rattle.outside.specs.Contents.{Contents}
 use Rattle.gcl_model.specs.Limits.{most_line, most_file, most_script}
 use Rattle.gcl_model.specs.Collections.{File, Collection, empty_from}
@@ -8,30 +8,39 @@ use Rattle.live_version.specs.Contents.{ranges_of}
 use Rattle.live_version.specs.Changes.{empty_version}
 use Rattle.live_version.specs.StandsFor.{StandsFor}
 use Rattle.collection.specs.Engines.{EngineContent}
+use Rattle.query_run.specs.Images.{Images}
 use Rattle.query_run.specs.declared.limits.Limits.{Limits}
 
--- what the lines so far leave: the collection, the address ranges of the slots of its index, and what the files hold by name
+-- What the lines so far leave: the collection, the address ranges of the slots of its index, and what the files hold by name. What each
+-- content is an image of stays the same throughout
 pub record State : Type 0 where
   pub collection : Collection
   pub slots : List SlotRange
   pub files : Contents
+  pub images : Images
 
 -- before the first line: no file was added, and there is no slot
-abbrev pub opening : ℕ → Contents → State
-opening first contents = record { collection = empty_from first; slots = []; files = contents }
+abbrev pub opening : ℕ → Contents → Images → State
+opening first contents images = record { collection = empty_from first; slots = []; files = contents; images = images }
+
+-- how many bytes an image has at most
+abbrev pub most_image : ℕ
+most_image = 2 ^ 30
 
 -- the limits of a run
 abbrev pub greatest_limits : Limits
-greatest_limits = record { line = most_line; file = most_file; script = most_script }
+greatest_limits = record { line = most_line; file = most_file; script = most_script; image = most_image }
 
 -- each limit is at least 1, and none is above that of a run
 pub record AreLimits (limits : Limits) : Type 0 where
   pub some_line : 1 ≤ limits.line
   pub some_file : 1 ≤ limits.file
   pub some_script : 1 ≤ limits.script
+  pub some_image : 1 ≤ limits.image
   pub line : limits.line ≤ most_line
   pub file : limits.file ≤ most_file
   pub script : limits.script ≤ most_script
+  pub image : limits.image ≤ most_image
 
 -- the ranges once a merge that is wanted was made
 abbrev pub slots_soon : Bool → List SlotRange → List File → List SlotRange

@@ -1,13 +1,14 @@
 ghost use Rattle.std.specs.Prelude.{◌≡◌, ◌+◌, ◌≤◌, ◌<◌, true, false, [], ◌∷◌, IfOk, OnOk, OnErr};
 ghost use Rattle.gcl_model.specs.Collections.{text_of};
 ghost use Rattle.gcl_model.specs.Limits.{far};
+ghost use Rattle.image_file.specs.Images.{CanBeSaved};
 ghost use Rattle.collection.specs.Engines.{merge_end};
 ghost use Rattle.outside.specs.Causes.{HasFileCause};
 ghost use Rattle.script_lang.specs.Answers.{merging_line};
 ghost use Rattle.script_lang.specs.Commands.{IsNamed};
-ghost use Rattle.query_run.specs.States.{State, Keeps};
-ghost use Rattle.query_run.specs.Answers.{reply, answer, query_lines, names_loaded, names_of_line};
-ghost use Rattle.query_run.specs.Progress.{Says, Gives, IsAt, StopsWithin, wish};
+ghost use Rattle.query_run.specs.States.{State, Keeps, AreLimits};
+ghost use Rattle.query_run.specs.Answers.{reply, answer, query_lines, IsRead, IsReadBy, names_asked, names_kept, names_kept_of_line, names_of_line};
+ghost use Rattle.query_run.specs.Progress.{Says, Gives, HoldsAfter, HoldsSaved, IsAt, StopsWithin, wish};
 
 use crate::changes::{add, delete};
 use crate::limits::Limits;
@@ -15,6 +16,7 @@ use crate::listing::{count_slots, list_files};
 use crate::merging::merge_wanted;
 use crate::queries::{Asked, answer_query};
 use crate::refusals::refuse;
+use crate::saving::{open, save};
 use collection::Engine;
 use gcl_model::Bytes;
 use outside::{FileError, Files, Gate};
@@ -62,14 +64,20 @@ fn answer_command<R: Wait, F: Files>(
 ) -> Result<bool, FileError>
     requires named { IsNamed command }
     requires made { wanted.old ≡ false }
+    requires limits { AreLimits limits.now }
+    requires savable { CanBeSaved engine.old.version }
+    requires number { engine.old.version.number < merge_end }
     requires room { lines.old < far }
-    ensures reply { IfOk result (λ refusal. (state : State) → IsAt (F.held files.old) engine.old false state →
+    ensures reply { IfOk result (λ refusal. (state : State) → IsAt (F.held files.old) engine.old false state → IsReadBy state command →
         Gives (reply limits.now state command) engine.new wanted.new out.old.items out.new.items refusal) }
-    ensures stop { OnErr result ((state : State) → IsAt (F.held files.old) engine.old false state →
+    ensures stop { OnErr result ((state : State) → IsAt (F.held files.old) engine.old false state → IsReadBy state command →
         StopsWithin state (reply limits.now state command) lines.old lines.new engine.new) }
     ensures number { OnOk result (engine.new.version.number + wish wanted.new ≤ engine.old.version.number + 1) }
-    ensures quiet { names_loaded command ≡ [] → files.new ≡ files.old }
-    ensures same { F.held files.new ≡ F.held files.old }
+    ensures savable { OnOk result (CanBeSaved engine.new.version) }
+    ensures quiet { names_asked command ≡ [] → files.new ≡ files.old }
+    ensures unsaved { names_kept command ≡ [] → F.held files.new ≡ F.held files.old }
+    ensures saved { (state : State) → IsAt (F.held files.old) engine.old false state →
+        HoldsSaved limits.now state command lines.old lines.new (F.held files.new) result }
     ensures cause { HasFileCause (F.faults files.old) (F.faults files.new) result }
     ensures calm { OnOk result (F.faults files.new ≡ F.faults files.old) }
 {
@@ -97,7 +105,24 @@ fn answer_command<R: Wait, F: Files>(
         Command::Files => Ok(list_files(out, engine.version())?),
         Command::Merge => Ok(want_merge(out, wanted)?),
         Command::Shards => Ok(count_slots(out, engine.version())?),
-        Command::Save(_) | Command::Load(_) | Command::Wrong => Ok(refuse(out, &Refusal::Command)?),
+        Command::Save(name) => {
+            let refused = save(alloc, out, files, engine, lines, limits, name.as_slice())?;
+            Ok(refused)
+        }
+        Command::Load(name) => {
+            let refused = open(
+                rt,
+                alloc,
+                out,
+                files,
+                engine,
+                lines,
+                limits,
+                name.as_slice(),
+            )?;
+            Ok(refused)
+        }
+        Command::Wrong => Ok(refuse(out, &Refusal::Command)?),
     }
 }
 
@@ -115,15 +140,20 @@ fn answer_any<R: Wait, F: Files, G: Gate>(
     long: bool,
     line: &[u8],
 ) -> Result<bool, FileError>
-    requires number { engine.old.version.number < merge_end }
+    requires limits { AreLimits limits.now }
+    requires savable { CanBeSaved engine.old.version }
+    requires number { engine.old.version.number + wish wanted.old < merge_end }
     requires room { lines.old < far }
-    ensures reply { IfOk result (λ refusal. (state : State) → IsAt (F.held files.old) engine.old wanted.old state →
+    ensures reply { IfOk result (λ refusal. (state : State) → IsAt (F.held files.old) engine.old wanted.old state → IsRead state (record { long = long; bytes = line.now }) →
         Gives (answer limits.now state (record { long = long; bytes = line.now })) engine.new wanted.new out.old.items out.new.items refusal) }
-    ensures stop { OnErr result ((state : State) → IsAt (F.held files.old) engine.old wanted.old state →
+    ensures stop { OnErr result ((state : State) → IsAt (F.held files.old) engine.old wanted.old state → IsRead state (record { long = long; bytes = line.now }) →
         StopsWithin state (answer limits.now state (record { long = long; bytes = line.now })) lines.old lines.new engine.new) }
     ensures number { OnOk result (engine.new.version.number + wish wanted.new ≤ engine.old.version.number + wish wanted.old + 1) }
+    ensures savable { OnOk result (CanBeSaved engine.new.version) }
     ensures quiet { names_of_line (record { long = long; bytes = line.now }) ≡ [] → files.new ≡ files.old }
-    ensures same { F.held files.new ≡ F.held files.old }
+    ensures unsaved { names_kept_of_line (record { long = long; bytes = line.now }) ≡ [] → F.held files.new ≡ F.held files.old }
+    ensures files { (state : State) → IsAt (F.held files.old) engine.old wanted.old state →
+        HoldsAfter state (answer limits.now state (record { long = long; bytes = line.now })) (names_kept_of_line (record { long = long; bytes = line.now })) lines.old lines.new (F.held files.new) result }
     ensures cause { HasFileCause (F.faults files.old) (F.faults files.new) result }
     ensures calm { OnOk result (F.faults files.new ≡ F.faults files.old) }
 {
@@ -157,16 +187,21 @@ pub fn answer_line<R: Wait, F: Files, G: Gate>(
     long: bool,
     line: &[u8],
 ) -> Result<bool, FileError>
-    requires number { engine.old.version.number < merge_end }
+    requires limits { AreLimits limits.now }
+    requires savable { CanBeSaved engine.old.version }
+    requires number { engine.old.version.number + wish wanted.old < merge_end }
     requires room { lines.old < far }
-    ensures reply { IfOk result (λ refusal. (state : State) → IsAt (F.held files.old) engine.old wanted.old state →
+    ensures reply { IfOk result (λ refusal. (state : State) → IsAt (F.held files.old) engine.old wanted.old state → IsRead state (record { long = long; bytes = line.now }) →
         Gives (answer limits.now state (record { long = long; bytes = line.now })) engine.new wanted.new [] out.new.items refusal) }
-    ensures stop { OnErr result ((state : State) → IsAt (F.held files.old) engine.old wanted.old state →
+    ensures stop { OnErr result ((state : State) → IsAt (F.held files.old) engine.old wanted.old state → IsRead state (record { long = long; bytes = line.now }) →
         StopsWithin state (answer limits.now state (record { long = long; bytes = line.now })) lines.old lines.new engine.new) }
     ensures lines { OnOk result (lines.new ≡ lines.old + 1) }
     ensures number { OnOk result (engine.new.version.number + wish wanted.new ≤ engine.old.version.number + wish wanted.old + 1) }
+    ensures savable { OnOk result (CanBeSaved engine.new.version) }
     ensures quiet { names_of_line (record { long = long; bytes = line.now }) ≡ [] → files.new ≡ files.old }
-    ensures same { F.held files.new ≡ F.held files.old }
+    ensures unsaved { names_kept_of_line (record { long = long; bytes = line.now }) ≡ [] → F.held files.new ≡ F.held files.old }
+    ensures files { (state : State) → IsAt (F.held files.old) engine.old wanted.old state →
+        HoldsAfter state (answer limits.now state (record { long = long; bytes = line.now })) (names_kept_of_line (record { long = long; bytes = line.now })) lines.old lines.new (F.held files.new) result }
     ensures cause { HasFileCause (F.faults files.old) (F.faults files.new) result }
     ensures calm { OnOk result (F.faults files.new ≡ F.faults files.old) }
 {

@@ -1,9 +1,10 @@
-ghost use Rattle.std.specs.Prelude.{◌≡◌, ◌+◌, ◌≤◌, ◌<◌, true, false, Some, IfOk, OnOk, OnErr};
-ghost use Rattle.gcl_model.specs.Limits.{far};
+ghost use Rattle.std.specs.Prelude.{◌≡◌, ◌+◌, ◌≤◌, ◌<◌, true, false, Some, length, IfOk, OnOk, OnErr};
+ghost use Rattle.gcl_model.specs.Limits.{far, most_file};
 ghost use Rattle.gcl_model.specs.Names.{is_name};
 ghost use Rattle.outside.specs.Causes.{HasFileCause};
+ghost use Rattle.image_file.specs.Images.{CanBeSaved};
 ghost use Rattle.script_lang.specs.declared.commands.Command.TheVariants.{Add};
-ghost use Rattle.query_run.specs.States.{State, Keeps};
+ghost use Rattle.query_run.specs.States.{State, Keeps, AreLimits};
 ghost use Rattle.query_run.specs.Answers.{content_reply, del_reply, reply};
 ghost use Rattle.query_run.specs.Progress.{Follows, Gives, IsAt, StopsWithin};
 
@@ -26,12 +27,15 @@ fn add_content<R: Wait>(
     content: &[u8],
 ) -> Result<bool, AllocError>
     requires named { is_name name.now ≡ true }
+    requires short { length content.now ≤ most_file }
+    requires savable { CanBeSaved engine.old.version }
     requires room { lines.old < far }
     ensures reply { IfOk result (λ refusal. (state : State) → Keeps engine.old false state →
         Follows (content_reply state name.now content.now) engine.new false out.old.items out.new.items refusal) }
     ensures stop { OnErr result ((state : State) → Keeps engine.old false state →
         StopsWithin state (Some (content_reply state name.now content.now)) lines.old lines.new engine.new) }
     ensures number { OnOk result (engine.new.version.number ≤ engine.old.version.number + 1) }
+    ensures savable { OnOk result (CanBeSaved engine.new.version) }
 {
     match engine.add(rt, name, content) {
         Ok(added) => {
@@ -59,12 +63,15 @@ pub fn add<R: Wait, F: Files>(
     name: &[u8],
 ) -> Result<bool, FileError>
     requires named { is_name name.now ≡ true }
+    requires limits { AreLimits limits.now }
+    requires savable { CanBeSaved engine.old.version }
     requires room { lines.old < far }
     ensures reply { IfOk result (λ refusal. (state : State) → IsAt (F.held files.old) engine.old false state →
         Gives (reply limits.now state (Add name.now)) engine.new false out.old.items out.new.items refusal) }
     ensures stop { OnErr result ((state : State) → IsAt (F.held files.old) engine.old false state →
         StopsWithin state (reply limits.now state (Add name.now)) lines.old lines.new engine.new) }
     ensures number { OnOk result (engine.new.version.number ≤ engine.old.version.number + 1) }
+    ensures savable { OnOk result (CanBeSaved engine.new.version) }
     ensures same { F.held files.new ≡ F.held files.old }
     ensures cause { HasFileCause (F.faults files.old) (F.faults files.new) result }
     ensures calm { OnOk result (F.faults files.new ≡ F.faults files.old) }
@@ -90,12 +97,14 @@ pub fn delete<R: Wait>(
     lines: &mut u64,
     id: u64,
 ) -> Result<bool, AllocError>
+    requires savable { CanBeSaved engine.old.version }
     requires room { lines.old < far }
     ensures reply { IfOk result (λ refusal. (state : State) → Keeps engine.old false state →
         Follows (del_reply state id) engine.new false out.old.items out.new.items refusal) }
     ensures stop { OnErr result ((state : State) → Keeps engine.old false state →
         StopsWithin state (Some (del_reply state id)) lines.old lines.new engine.new) }
     ensures number { OnOk result (engine.new.version.number ≤ engine.old.version.number + 1) }
+    ensures savable { OnOk result (CanBeSaved engine.new.version) }
 {
     match engine.delete(rt, FileId(id)) {
         Ok(_receipt) => {

@@ -3,8 +3,9 @@
 //! Contracts see the words, the files, the source and the sink that are lent to `run`. Where these tell what they
 //! hold, the bytes written are the output of the script, which `specs/Answers.antt` defines: the answers to its lines,
 //! each in the state that the lines before it leave, and to a query the concordance list of its expression over the
-//! words of the surviving files, or its first members, or their number. Wherever a run ends, the engine's version stands
-//! for the collection after the lines that are completed. Every other status has its cause in a clause.
+//! words of the surviving files, or its first members, or their number. A file that a line saves holds the one image of the
+//! collection from then on. Wherever a run ends, the engine's version stands for the collection after the lines that are
+//! completed, and the files hold what these leave. Every other status has its cause in a clause.
 //!
 //! Over the file `a`, `to be or not to be`, the script `add a`, `find "to"` is answered `file 0 0 7`, `1 1`, `5 5`,
 //! `= 2`.
@@ -20,13 +21,14 @@ mod queries;
 mod read;
 mod refusals;
 mod run_fault;
+mod saving;
 mod script_run;
 mod serving;
 mod status;
 mod words;
 mod write;
 
-pub use limits::{Limits, SCRIPT_MOST};
+pub use limits::{IMAGE_MOST, Limits, SCRIPT_MOST};
 pub use script_run::run;
 pub use serving::serve;
 pub use status::Status;

@@ -4,6 +4,9 @@ ghost use Rattle.query_run.specs.States.{greatest_limits, AreLimits};
 /// The most bytes that the script of a run may have.
 pub const SCRIPT_MOST: u64 = 1 << 32;
 
+/// The most bytes that an image may have.
+pub const IMAGE_MOST: u64 = 1 << 30;
+
 /// How many bytes the parts of a run may have: each limit is at least 1, and at most that of `Limits::greatest`.
 #[derive(Clone, Copy, Debug, PartialEq, Eq)]
 pub struct Limits {
@@ -13,6 +16,8 @@ pub struct Limits {
     pub file: u64,
     /// The most bytes of a script: a longer one ends the run.
     pub script: u64,
+    /// The most bytes of an image: a longer one is neither kept nor opened.
+    pub image: u64,
 }
 
 impl Limits {
@@ -24,6 +29,7 @@ impl Limits {
             line: 65_536,
             file: 1 << 26,
             script: SCRIPT_MOST,
+            image: IMAGE_MOST,
         }
     }
 
@@ -38,5 +44,7 @@ impl Limits {
             && self.file <= most.file
             && 1 <= self.script
             && self.script <= most.script
+            && 1 <= self.image
+            && self.image <= most.image
     }
 }

@@ -1,4 +1,5 @@
 ghost use Rattle.std.specs.Prelude.{◌≡◌, ◌+◌, ◌≤◌, ◌<◌, false, OnOk, OnErr};
+ghost use Rattle.image_file.specs.Images.{CanBeSaved};
 ghost use Rattle.collection.specs.Engines.{merge_end};
 ghost use Rattle.query_run.specs.States.{State, Keeps};
 ghost use Rattle.query_run.specs.Progress.{wish};
@@ -19,6 +20,7 @@ pub fn merge_wanted<R: Wait, G: Gate>(
     ensures keeps { OnOk result ((state : State) → Keeps engine.old wanted.old state → Keeps engine.new wanted.new state) }
     ensures made { OnOk result (wanted.new ≡ false) }
     ensures number { OnOk result (engine.new.version.number ≤ engine.old.version.number + wish wanted.old) }
+    ensures savable { OnOk result (CanBeSaved engine.old.version → CanBeSaved engine.new.version) }
     ensures err { OnErr result (engine.new ≡ engine.old) }
 {
     if !*wanted {

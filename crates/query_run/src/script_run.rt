@@ -4,7 +4,8 @@ ghost use Rattle.gcl_model.specs.Limits.{most_line, most_script};
 ghost use Rattle.script_lang.specs.Lines.{lines};
 ghost use Rattle.query_run.specs.Words.{first_of};
 ghost use Rattle.query_run.specs.Statuses.{IsFinished, IsAllAnswered};
-ghost use Rattle.query_run.specs.Answers.{output, names_of};
+ghost use Rattle.query_run.specs.States.{greatest_limits};
+ghost use Rattle.query_run.specs.Answers.{output, names_kept_of, names_of};
 ghost use Rattle.query_run.specs.Runs.{WhereTold, GetsPart, IsAnswered, HandsOverMore, within};
 
 use crate::limits::Limits;
@@ -35,17 +36,18 @@ pub fn run<R: Threads + Wait + Sync, F: Files, S: Source, K: Sink, G: Gate + Syn
     ensures untouched { result ≡ Status.Usage →
         (source.new ≡ source.old) × (files.new ≡ files.old) × (sink.new ≡ sink.old) }
 
-    // The headline: where the source tells the script and the files tell what they hold.
-    ensures done { result ≡ Status.Done → WhereTold (first_of words.now) (S.left source.old) (F.held files.old) (λ first script contents.
-        IsAnswered first contents script false (S.left source.new) (K.written sink.old) (K.written sink.new)) }
-    ensures done_with_refusals { result ≡ Status.DoneWithRefusals → WhereTold (first_of words.now) (S.left source.old) (F.held files.old) (λ first script contents.
-        IsAnswered first contents script true (S.left source.new) (K.written sink.old) (K.written sink.new)) }
+    // The headline: where the source tells the script and the files tell what they hold, and of what the lines open it is said rightly what
+    // it is an image of.
+    ensures done { result ≡ Status.Done → WhereTold greatest_limits (first_of words.now) (S.left source.old) (F.held files.old) (λ start script.
+        IsAnswered start script false (S.left source.new) (F.held files.new) (K.written sink.old) (K.written sink.new)) }
+    ensures done_with_refusals { result ≡ Status.DoneWithRefusals → WhereTold greatest_limits (first_of words.now) (S.left source.old) (F.held files.old) (λ start script.
+        IsAnswered start script true (S.left source.new) (F.held files.new) (K.written sink.old) (K.written sink.new)) }
 
     // Whatever the status, the sink gets the beginning of the output.
-    ensures part { WhereTold (first_of words.now) (S.left source.old) (F.held files.old) (λ first script contents.
-        GetsPart (K.written sink.old) (K.written sink.new) (output first contents script)) }
-    ensures part_within { result ≡ Status.ScriptTooLong → WhereTold (first_of words.now) (S.left source.old) (F.held files.old) (λ first script contents.
-        GetsPart (K.written sink.old) (K.written sink.new) (output first contents (within most_script script))) }
+    ensures part { WhereTold greatest_limits (first_of words.now) (S.left source.old) (F.held files.old) (λ start script.
+        GetsPart (K.written sink.old) (K.written sink.new) (output start script)) }
+    ensures part_within { result ≡ Status.ScriptTooLong → WhereTold greatest_limits (first_of words.now) (S.left source.old) (F.held files.old) (λ start script.
+        GetsPart (K.written sink.old) (K.written sink.new) (output start (within most_script script))) }
 
     // Each other status has its cause.
     ensures read_fault { result ≡ Status.ReadFault → Rose (S.faults source.old) (S.faults source.new) }
@@ -64,9 +66,9 @@ pub fn run<R: Threads + Wait + Sync, F: Files, S: Source, K: Sink, G: Gate + Syn
     ensures sink_calm { IsAllAnswered result → K.faults sink.new ≡ K.faults sink.old }
     ensures files_calm { IsAllAnswered result → F.faults files.new ≡ F.faults files.old }
 
-    // No file is asked for that no line names.
+    // No file is asked for that no line names, and where no line saves none changes.
     ensures unasked { IfSome (S.left source.old) (λ script. names_of (lines most_line script) ≡ [] → files.new ≡ files.old) }
-    ensures same_files { F.held files.new ≡ F.held files.old }
+    ensures unsaved { IfSome (S.left source.old) (λ script. names_kept_of (lines most_line script) ≡ [] → F.held files.new ≡ F.held files.old) }
 {
     let Some(first) = first_of(words) else {
         return Status::Usage;

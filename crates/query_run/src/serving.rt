@@ -1,13 +1,15 @@
 ghost use Rattle.std.specs.Prelude.{◌≡◌, ◌+◌, ◌≤◌, ◌<◌, [], Some, true, false, ℕ, IfOk, OnOk, IfSome, IsSomeAnd, length};
 ghost use Rattle.gcl_model.specs.Limits.{far, most_script};
+ghost use Rattle.image_file.specs.Images.{CanBeSaved};
 ghost use Rattle.collection.specs.Engines.{merge_end};
 ghost use Rattle.outside.specs.Causes.{Rose};
 ghost use Rattle.outside.specs.Contents.{Contents};
 ghost use Rattle.script_lang.specs.Lines.{Line, lines};
 ghost use Rattle.query_run.specs.States.{State, opening, AreLimits, IsFresh};
 ghost use Rattle.query_run.specs.Statuses.{IsFinished, IsAllAnswered};
-ghost use Rattle.query_run.specs.Answers.{answer, names_of_line, names_of, output_by};
-ghost use Rattle.query_run.specs.Progress.{IsAt, HasWritten, StopsWithin, HasCauses, answer_text, wish};
+ghost use Rattle.query_run.specs.Images.{Images};
+ghost use Rattle.query_run.specs.Answers.{answer, AreRead, IsRead, names_kept_of, names_kept_of_line, names_of_line, names_of, output_by};
+ghost use Rattle.query_run.specs.Progress.{IsAt, HasWritten, HoldsAfter, StopsWithin, HasCauses, answer_text, wish};
 ghost use Rattle.query_run.specs.Runs.{WhereTold, GetsPart, IsAnsweredBy, HasAnswered, IsLeftBy, IsStopped, HandsOverMore, within};
 
 use crate::answers::answer_line;
@@ -39,18 +41,23 @@ fn serve_line<R: Wait, F: Files, K: Sink, G: Gate>(
     long: bool,
     line: &[u8],
 ) -> Result<bool, RunFault>
-    requires number { engine.old.version.number < merge_end }
+    requires limits { AreLimits limits.now }
+    requires savable { CanBeSaved engine.old.version }
+    requires number { engine.old.version.number + wish wanted.old < merge_end }
     requires room { completed.old < far }
-    ensures step { IfOk result (λ refusal. (state : State) → IsAt (F.held files.old) engine.old wanted.old state →
+    ensures step { IfOk result (λ refusal. (state : State) → IsAt (F.held files.old) engine.old wanted.old state → IsRead state (record { long = long; bytes = line.now }) →
         HasWritten limits.now state (record { long = long; bytes = line.now }) engine.new wanted.new refusal (K.written sink.old) (K.written sink.new)) }
-    ensures stop { (state : State) → IsAt (F.held files.old) engine.old wanted.old state →
+    ensures stop { (state : State) → IsAt (F.held files.old) engine.old wanted.old state → IsRead state (record { long = long; bytes = line.now }) →
         StopsWithin state (answer limits.now state (record { long = long; bytes = line.now })) completed.old completed.new engine.new }
-    ensures part { (state : State) → IsAt (F.held files.old) engine.old wanted.old state →
+    ensures part { (state : State) → IsAt (F.held files.old) engine.old wanted.old state → IsRead state (record { long = long; bytes = line.now }) →
         GetsPart (K.written sink.old) (K.written sink.new) (answer_text limits.now state (record { long = long; bytes = line.now })) }
     ensures completed { OnOk result (completed.new ≡ completed.old + 1) }
     ensures number { OnOk result (engine.new.version.number + wish wanted.new ≤ engine.old.version.number + wish wanted.old + 1) }
+    ensures savable { OnOk result (CanBeSaved engine.new.version) }
     ensures quiet { names_of_line (record { long = long; bytes = line.now }) ≡ [] → files.new ≡ files.old }
-    ensures same { F.held files.new ≡ F.held files.old }
+    ensures unsaved { names_kept_of_line (record { long = long; bytes = line.now }) ≡ [] → F.held files.new ≡ F.held files.old }
+    ensures files { (state : State) → IsAt (F.held files.old) engine.old wanted.old state →
+        HoldsAfter state (answer limits.now state (record { long = long; bytes = line.now })) (names_kept_of_line (record { long = long; bytes = line.now })) completed.old completed.new (F.held files.new) result }
     ensures causes { HasCauses (K.faults sink.old) (K.faults sink.new) (F.faults files.old) (F.faults files.new) result }
     ensures sink_calm { OnOk result (K.faults sink.new ≡ K.faults sink.old) }
     ensures files_calm { OnOk result (F.faults files.new ≡ F.faults files.old) }
@@ -75,19 +82,21 @@ fn serve_lines<R: Wait, F: Files, K: Sink, G: Gate>(
     script: &[u8],
 ) -> Result<bool, RunFault>
     requires opened { IsFresh engine.old completed.old }
+    requires limits { AreLimits limits.now }
     requires short { length script.now ≤ most_script }
-    ensures all { IfOk result (λ refusal. IfSome (F.held files.old) (λ contents.
-        HasAnswered limits.now engine.old.version.first contents script.now refusal (K.written sink.old) (K.written sink.new))) }
-    ensures left { OnOk result (IfSome (F.held files.old) (λ contents.
-        IsLeftBy limits.now engine.old.version.first contents script.now engine.new completed.new)) }
-    ensures stopped { IfSome (F.held files.old) (λ contents.
-        IsStopped limits.now (opening engine.old.version.first contents) (lines limits.now.line script.now) completed.new engine.new.version (K.written sink.old) (K.written sink.new)) }
+    ensures all { IfOk result (λ refusal. (contents : Contents) → (images : Images) → F.held files.old ≡ Some contents → AreRead limits.now (opening engine.old.version.first contents images) (lines limits.now.line script.now) →
+        HasAnswered limits.now (opening engine.old.version.first contents images) script.now refusal (F.held files.new) (K.written sink.old) (K.written sink.new)) }
+    ensures left { OnOk result ((contents : Contents) → (images : Images) → F.held files.old ≡ Some contents → AreRead limits.now (opening engine.old.version.first contents images) (lines limits.now.line script.now) →
+        IsLeftBy limits.now (opening engine.old.version.first contents images) script.now engine.new completed.new) }
+    ensures stopped { (contents : Contents) → (images : Images) → F.held files.old ≡ Some contents → AreRead limits.now (opening engine.old.version.first contents images) (lines limits.now.line script.now) →
+        IsStopped limits.now (opening engine.old.version.first contents images) (lines limits.now.line script.now) completed.new engine.new.version (F.held files.new) (K.written sink.old) (K.written sink.new) }
     ensures quiet { names_of (lines limits.now.line script.now) ≡ [] → files.new ≡ files.old }
-    ensures same { F.held files.new ≡ F.held files.old }
+    ensures unsaved { names_kept_of (lines limits.now.line script.now) ≡ [] → F.held files.new ≡ F.held files.old }
     ensures causes { HasCauses (K.faults sink.old) (K.faults sink.new) (F.faults files.old) (F.faults files.new) result }
     ensures sink_calm { OnOk result (K.faults sink.new ≡ K.faults sink.old) }
     ensures files_calm { OnOk result (F.faults files.new ≡ F.faults files.old) }
 {
+    let _version = engine.version();
     let mut out = Vec::new(alloc);
     let mut wanted = false;
     let mut refused = false;
@@ -130,21 +139,22 @@ pub fn serve<R: Threads + Wait + Sync, F: Files, S: Source, K: Sink, G: Gate + S
     requires limits { AreLimits limits.now }
     ensures never_usage { ¬ (result ≡ Status.Usage) }
 
-    // Where the source tells the script and the files tell what they hold, the bytes written are the output of the script.
-    ensures done { result ≡ Status.Done → WhereTold (Some opened.old.engine.version.first) (S.left source.old) (F.held files.old) (λ first script contents.
-        IsAnsweredBy limits.now first contents script false (S.left source.new) (K.written sink.old) (K.written sink.new)) }
-    ensures done_with_refusals { result ≡ Status.DoneWithRefusals → WhereTold (Some opened.old.engine.version.first) (S.left source.old) (F.held files.old) (λ first script contents.
-        IsAnsweredBy limits.now first contents script true (S.left source.new) (K.written sink.old) (K.written sink.new)) }
-    ensures left { IsAllAnswered result → WhereTold (Some opened.old.engine.version.first) (S.left source.old) (F.held files.old) (λ first script contents.
-        IsLeftBy limits.now first contents script opened.new.engine opened.new.lines) }
+    // Where the source tells the script and the files tell what they hold, the bytes written are the output of the script, and the files
+    // hold what its lines leave.
+    ensures done { result ≡ Status.Done → WhereTold limits.now (Some opened.old.engine.version.first) (S.left source.old) (F.held files.old) (λ start script.
+        IsAnsweredBy limits.now start script false (S.left source.new) (F.held files.new) (K.written sink.old) (K.written sink.new)) }
+    ensures done_with_refusals { result ≡ Status.DoneWithRefusals → WhereTold limits.now (Some opened.old.engine.version.first) (S.left source.old) (F.held files.old) (λ start script.
+        IsAnsweredBy limits.now start script true (S.left source.new) (F.held files.new) (K.written sink.old) (K.written sink.new)) }
+    ensures left { IsAllAnswered result → WhereTold limits.now (Some opened.old.engine.version.first) (S.left source.old) (F.held files.old) (λ start script.
+        IsLeftBy limits.now start script opened.new.engine opened.new.lines) }
 
-    // Whatever the status, some lines are completed, and the sink gets the beginning of the output.
-    ensures stopped { WhereTold (Some opened.old.engine.version.first) (S.left source.old) (F.held files.old) (λ first script contents.
-        IsStopped limits.now (opening first contents) (lines limits.now.line script) opened.new.lines opened.new.engine.version (K.written sink.old) (K.written sink.new)) }
-    ensures part { WhereTold (Some opened.old.engine.version.first) (S.left source.old) (F.held files.old) (λ first script contents.
-        GetsPart (K.written sink.old) (K.written sink.new) (output_by limits.now first contents script)) }
-    ensures part_within { result ≡ Status.ScriptTooLong → WhereTold (Some opened.old.engine.version.first) (S.left source.old) (F.held files.old) (λ first script contents.
-        GetsPart (K.written sink.old) (K.written sink.new) (output_by limits.now first contents (within limits.now.script script))) }
+    // Whatever the status, some lines are completed, the sink gets the beginning of the output, and the files hold what these lines leave.
+    ensures stopped { WhereTold limits.now (Some opened.old.engine.version.first) (S.left source.old) (F.held files.old) (λ start script.
+        IsStopped limits.now start (lines limits.now.line script) opened.new.lines opened.new.engine.version (F.held files.new) (K.written sink.old) (K.written sink.new)) }
+    ensures part { WhereTold limits.now (Some opened.old.engine.version.first) (S.left source.old) (F.held files.old) (λ start script.
+        GetsPart (K.written sink.old) (K.written sink.new) (output_by limits.now start script)) }
+    ensures part_within { result ≡ Status.ScriptTooLong → WhereTold limits.now (Some opened.old.engine.version.first) (S.left source.old) (F.held files.old) (λ start script.
+        GetsPart (K.written sink.old) (K.written sink.new) (output_by limits.now start (within limits.now.script script))) }
 
     // Each other status has its cause.
     ensures read_fault { result ≡ Status.ReadFault → Rose (S.faults source.old) (S.faults source.new) }
@@ -162,9 +172,9 @@ pub fn serve<R: Threads + Wait + Sync, F: Files, S: Source, K: Sink, G: Gate + S
     ensures sink_calm { IsAllAnswered result → K.faults sink.new ≡ K.faults sink.old }
     ensures files_calm { IsAllAnswered result → F.faults files.new ≡ F.faults files.old }
 
-    // No file is asked for that no line names.
+    // No file is asked for that no line names, and where no line saves none changes.
     ensures unasked { IfSome (S.left source.old) (λ script. names_of (lines limits.now.line script) ≡ [] → files.new ≡ files.old) }
-    ensures same_files { F.held files.new ≡ F.held files.old }
+    ensures unsaved { IfSome (S.left source.old) (λ script. names_kept_of (lines limits.now.line script) ≡ [] → F.held files.new ≡ F.held files.old) }
 {
     let script = match read_script(alloc, source, limits.script) {
         Ok(script) => script,

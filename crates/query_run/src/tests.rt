@@ -10,7 +10,12 @@ use std::sync::Wait;
 use std::test::Fail;
 use std::thread::Threads;
 
-const NAMES: [(&[u8], &[u8]); 5] = [
+// An image in version 1: one file `b` without words, with the id 1 and the addresses 8 and 9.
+const IMAGE: &[u8] =
+    b"GCLIMG01\0\0\0\0\0\0\0\0\x0a\0\0\0\0\0\0\0\x02\0\0\0\0\0\0\0\x01\0\0\0\0\0\0\0\x01\0\0\0\0\0\0\0\x08\0\0\0\0\0\0\0\x02\0\0\0\0\0\0\0\x01\0\0\0b\x02\0\0\0\0\0\0\0\x08\0\0\0</file!>\x01\0\0\0\0\0\0\0\x09\x07\0\0\0<file!>\x01\0\0\0\0\0\0\0\x08";
+
+const NAMES: [(&[u8], &[u8]); 6] = [
+    (b"v", IMAGE),
     (b"a", b"to be or not to be"),
     (b"b", b""),
     (b"t", b"<A HREF=\"x\">B</a><br/>caf\xc3\xa9 <3 <b"),
@@ -113,6 +118,19 @@ fn failing_at<'a>(source: &'a [u64], sink: &'a [u64], files: &'a [u64]) -> Plan<
     }
 }
 
+// The status of a run over these files, which it may change, and what was written.
+fn run_over<R: Threads + Wait + Sync + AllocGlobal>(
+    rt: &R,
+    files: &mut MemFiles,
+    script: &[u8],
+) -> Result<(Status, Vec<u8>), AllocError> {
+    let alloc = rt.alloc();
+    let mut source = SureSource::new(alloc, Bytes::copy_of(alloc, script)?);
+    let mut sink = SureSink::new(alloc);
+    let status = run(rt, alloc, &[], files, &mut source, &mut sink, &FreeGate);
+    Ok((status, sink.written().to_vec(alloc)?))
+}
+
 // The status of a run whose objects fail at these calls, and what was written.
 fn failing<R: Threads + Wait + Sync + AllocGlobal>(
     rt: &R,
@@ -189,7 +207,7 @@ fn lines_are_refused_and_the_run_goes_on(rt: HostRuntime) -> Result<(), Fail> {
             b"file 0 0 7\ngone 0\n= 0\n! no file 0\n",
         ),
         (
-            b"frob\ndel x\nadd\nmerge now\ntop \"to\"\nshards 1\nsave a\n",
+            b"frob\ndel x\nadd\nmerge now\ntop \"to\"\nshards 1\nsave\n",
             b"! command\n! command\n! command\n! command\n! command\n! command\n! command\n",
         ),
         (
@@ -491,6 +509,15 @@ fn a_query_sees_each_edit_before_it(rt: HostRuntime) -> Result<(), Fail> {
     Ok(())
 }
 
+fn limited(line: u64, file: u64, script: u64) -> Limits {
+    Limits {
+        line,
+        file,
+        script,
+        image: 200,
+    }
+}
+
 #[test]
 fn each_limit_is_exact(rt: HostRuntime) -> Result<(), Fail> {
     let cases: [(u64, u64, u64, &[u8], (Status, u64, &[u8])); 8] = [
@@ -542,12 +569,114 @@ fn each_limit_is_exact(rt: HostRuntime) -> Result<(), Fail> {
         (1, 1, 1, b"", (Status::Done, 0, b"")),
     ];
     for (line, file, script, text, (want, lines, output)) in cases {
-        let limits = Limits { line, file, script };
+        let limits = limited(line, file, script);
         assert!(rt; limits.are_allowed(), "{text:?}");
         let (status, completed, written) = served(&rt, &limits, text)?;
         assert_eq!(rt; written.as_slice(), output, "{text:?}");
         assert_eq!(rt; status, want, "{text:?}");
         assert_eq!(rt; completed, lines, "{text:?}");
+    }
+    Ok(())
+}
+
+#[test]
+fn what_was_saved_is_opened_by_a_later_run(rt: HostRuntime) -> Result<(), Fail> {
+    let alloc = rt.alloc();
+    let mut files = MemFiles::new(alloc, held(alloc)?, Vec::new(alloc));
+    let runs: [(&[u8], &[u8], Status); 9] = [
+        (
+            b"add a\nadd b\ndel 0\nsave i\n",
+            b"file 0 0 7\nfile 1 8 9\ngone 0\nsaved 74\n",
+            Status::Done,
+        ),
+        (
+            b"open i\nfiles\nadd b\nfind \"<file!>\"\n",
+            b"opened 1\n1 8 9 b\n= 1\nfile 2 10 11\n8 8\n10 10\n= 2\n",
+            Status::Done,
+        ),
+        (b"open v\nsave j\n", b"opened 1\nsaved 74\n", Status::Done),
+        (
+            b"open i\nopen i\n",
+            b"opened 1\n! not empty\n",
+            Status::DoneWithRefusals,
+        ),
+        (
+            b"add a\nopen missing\n",
+            b"file 0 0 7\n! not empty\n",
+            Status::DoneWithRefusals,
+        ),
+        (
+            b"open a\nopen b\nadd a\n",
+            b"! not an image\n! not an image\nfile 0 0 7\n",
+            Status::DoneWithRefusals,
+        ),
+        (
+            b"save e\nopen e\nopen e\nadd a\n",
+            b"saved 48\nopened 0\nopened 0\nfile 0 0 7\n",
+            Status::Done,
+        ),
+        (b"files\nopen missing\n", b"= 0\n", Status::FileFault),
+        (
+            b"add i\nadd v\n",
+            b"file 0 0 5\nfile 1 6 11\n",
+            Status::Done,
+        ),
+    ];
+    for (script, output, want) in runs {
+        let (status, written) = run_over(&rt, &mut files, script)?;
+        assert_eq!(rt; written.as_slice(), output, "{script:?}");
+        assert_eq!(rt; status, want, "{script:?}");
+    }
+    assert_eq!(rt; files.content(b"i"), files.content(b"j"));
+    Ok(())
+}
+
+#[test]
+fn an_image_says_nothing_of_merges(rt: HostRuntime) -> Result<(), Fail> {
+    let alloc = rt.alloc();
+    let mut files = MemFiles::new(alloc, held(alloc)?, Vec::new(alloc));
+    let script = b"add p\nadd b\nadd a\ndel 1\nsave i\nmerge\nsave j\nsave a\nadd a\n";
+    let (status, _) = run_over(&rt, &mut files, script)?;
+    assert_eq!(rt; status, Status::Done);
+    assert!(rt; files.content(b"i").is_some());
+    assert_eq!(rt; files.content(b"i"), files.content(b"j"));
+    assert_eq!(rt; files.content(b"i"), files.content(b"a"));
+    Ok(())
+}
+
+#[test]
+fn an_image_may_have_so_many_bytes(rt: HostRuntime) -> Result<(), Fail> {
+    let cases: [(u64, &[u8], &[u8]); 4] = [
+        (118, b"open v\nfiles\n", b"opened 1\n1 8 9 b\n= 1\n"),
+        (117, b"open v\nfiles\n", b"! file too long\n= 0\n"),
+        (48, b"save i\n", b"saved 48\n"),
+        (47, b"save i\nadd i\n", b"! file too long\nfile 0 0 1\n"),
+    ];
+    for (image, script, output) in cases {
+        let limits = Limits {
+            line: 100,
+            file: 100,
+            script: 100,
+            image,
+        };
+        assert!(rt; limits.are_allowed(), "{script:?}");
+        let (_, _, written) = served(&rt, &limits, script)?;
+        assert_eq!(rt; written.as_slice(), output, "{script:?}");
+    }
+    Ok(())
+}
+
+#[test]
+fn a_name_that_is_not_kept_or_opened_ends_the_run(rt: HostRuntime) -> Result<(), Fail> {
+    let cases: [(&[u8], &[u64], &[u8]); 3] = [
+        (b"add a\nsave i\nfiles\n", &[2], b"file 0 0 7\n"),
+        (b"save i\nfiles\n", &[1], b""),
+        (b"open v\nfiles\n", &[1], b""),
+    ];
+    for (script, fails, output) in cases {
+        let (status, written) = failing(&rt, script, &failing_at(&[], &[], fails))?;
+        assert_eq!(rt; status, Status::FileFault, "{script:?}");
+        assert_eq!(rt; written.as_slice(), output, "{script:?}");
     }
     Ok(())
 }

@@ -1,7 +1,7 @@
 use Rattle.std.proofs.Common.{◌≡◌, ◌∙◌, ap, rules}
 use Rattle.query_run.specs.Statuses.{number_of}
 use Rattle.query_run.specs.declared.status.Status.TheVariants.{Done, DoneWithRefusals, Usage, ReadFault, WriteFault, FileFault, ScriptTooLong}
-use Rattle.gclq.proofs.Numbers.{same_status, finished_number}
+use Rattle.gclq.proofs.Numbers.{same_status, finished_number, answered_status}
 use Rattle.gclq.proofs.session.answer.Goals as goal
 
 pub returns-clause-usage_only : goal.returns-clause-usage_only
@@ -36,3 +36,12 @@ returns-clause-usage_always g c none = c.exit.ensures ∙ ap number_of (c.run-st
 
 pub returns-clause-complete : goal.returns-clause-complete
 returns-clause-complete g c some source sink files short = finished_number c.run-status.result _ c.exit.ensures (c.run-status.ensures.complete some source sink files short)
+
+pub returns-clause-source_calm : goal.returns-clause-source_calm
+returns-clause-source_calm g c is = c.run-status.ensures.source_calm (answered_status c.run-status.result _ c.exit.ensures is)
+
+pub returns-clause-sink_calm : goal.returns-clause-sink_calm
+returns-clause-sink_calm g c is = c.run-status.ensures.sink_calm (answered_status c.run-status.result _ c.exit.ensures is)
+
+pub returns-clause-files_calm : goal.returns-clause-files_calm
+returns-clause-files_calm g c is = c.run-status.ensures.files_calm (answered_status c.run-status.result _ c.exit.ensures is)

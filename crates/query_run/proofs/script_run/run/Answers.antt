@@ -18,5 +18,5 @@ pub returns-clause-part_within : goal.returns-clause-part_within
 returns-clause-part_within g c = λ long.
     let first : Some c.in-Ok.opened.engine.version.first ≡ first_of c.args.words.now = ap (λ (e : EngineContent). Some e.version.first) c.in-Ok.ensures.history ∙ c.in-Some.ensures.value in
     by_words (first_of c.args.words.now) c.greatest-limits.result greatest_limits c.in-Ok.opened.engine.version.first (g.S.Source.left c.args.source.now) (g.F.Files.held c.args.files.now)
-    (λ limits start script contents. GetsPart (g.K.Sink.written c.args.sink.now) (g.K.Sink.written c.serve-status.new.sink) (output_by limits start contents (within limits.script script)))
+    (λ limits start script. GetsPart (g.K.Sink.written c.args.sink.now) (g.K.Sink.written c.serve-status.new.sink) (output_by limits start (within limits.script script)))
     first c.greatest-limits.ensures (c.serve-status.ensures.part_within long)

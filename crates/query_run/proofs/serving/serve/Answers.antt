@@ -1,10 +1,9 @@
 use Rattle.std.proofs.Common.{◌≡◌, ℕ, List, subst, rules}
 use Rattle.std.specs.Io.KnownBytes.{Consumes}
-use Rattle.script_lang.specs.Lines.{lines}
 use Rattle.query_run.specs.States.{opening}
 use Rattle.query_run.specs.Answers.{output_by}
-use Rattle.query_run.specs.Runs.{GetsPart, IsStopped}
-use Rattle.query_run.proofs.Told.{told_read, stopped_before, part_stopped, IfSome-map}
+use Rattle.query_run.specs.Runs.{GetsPart}
+use Rattle.query_run.proofs.Told.{told_read, stopped_before, part_stopped}
 use Rattle.query_run.proofs.serving.serve.Goals as goal
 
 pub returns-in-Err-TooLong-clause-stopped : goal.returns-in-Err-TooLong-clause-stopped
@@ -20,11 +19,10 @@ returns-in-Err-Write-clause-part g c =
     let new = g.K.Sink.written c.serve_lines-answered.new.sink in
     let value : c.in-Ok.script.items ≡ c.as_slice.result.now = search rules in
     let from = subst (λ (l : List ℕ). Consumes (g.S.Source.left c.args.source.now) (g.S.Source.left c.read_script.new.source) l) value c.in-Ok.ensures.read in
-    told_read first (g.S.Source.left c.args.source.now) (g.S.Source.left c.read_script.new.source) (g.F.Files.held c.args.files.now) bytes
-    (λ start script contents. GetsPart old new (output_by limits start contents script)) from c.in-Ok.ensures.end
-    (IfSome-map (λ contents. IsStopped limits (opening first contents) (lines limits.line bytes) c.serve_lines-answered.new.completed c.serve_lines-answered.new.engine.version old new)
-    (λ contents. GetsPart old new (output_by limits first contents bytes)) (g.F.Files.held c.args.files.now)
-    (λ contents stop. part_stopped limits first bytes contents c.serve_lines-answered.new.completed c.serve_lines-answered.new.engine old new stop) c.serve_lines-answered.ensures.stopped)
+    told_read limits first (g.S.Source.left c.args.source.now) (g.S.Source.left c.read_script.new.source) (g.F.Files.held c.args.files.now) bytes
+    (λ start script. GetsPart old new (output_by limits start script)) from c.in-Ok.ensures.end
+    (λ contents images held read. part_stopped limits (opening first contents images) bytes c.serve_lines-answered.new.completed c.serve_lines-answered.new.engine (g.F.Files.held c.serve_lines-answered.new.files) old new
+    (c.serve_lines-answered.ensures.stopped contents images held read))
 
 pub returns-in-Err-Files-clause-part : goal.returns-in-Err-Files-clause-part
 returns-in-Err-Files-clause-part g c =
@@ -35,11 +33,10 @@ returns-in-Err-Files-clause-part g c =
     let new = g.K.Sink.written c.serve_lines-answered.new.sink in
     let value : c.in-Ok.script.items ≡ c.as_slice.result.now = search rules in
     let from = subst (λ (l : List ℕ). Consumes (g.S.Source.left c.args.source.now) (g.S.Source.left c.read_script.new.source) l) value c.in-Ok.ensures.read in
-    told_read first (g.S.Source.left c.args.source.now) (g.S.Source.left c.read_script.new.source) (g.F.Files.held c.args.files.now) bytes
-    (λ start script contents. GetsPart old new (output_by limits start contents script)) from c.in-Ok.ensures.end
-    (IfSome-map (λ contents. IsStopped limits (opening first contents) (lines limits.line bytes) c.serve_lines-answered.new.completed c.serve_lines-answered.new.engine.version old new)
-    (λ contents. GetsPart old new (output_by limits first contents bytes)) (g.F.Files.held c.args.files.now)
-    (λ contents stop. part_stopped limits first bytes contents c.serve_lines-answered.new.completed c.serve_lines-answered.new.engine old new stop) c.serve_lines-answered.ensures.stopped)
+    told_read limits first (g.S.Source.left c.args.source.now) (g.S.Source.left c.read_script.new.source) (g.F.Files.held c.args.files.now) bytes
+    (λ start script. GetsPart old new (output_by limits start script)) from c.in-Ok.ensures.end
+    (λ contents images held read. part_stopped limits (opening first contents images) bytes c.serve_lines-answered.new.completed c.serve_lines-answered.new.engine (g.F.Files.held c.serve_lines-answered.new.files) old new
+    (c.serve_lines-answered.ensures.stopped contents images held read))
 
 pub returns-clause-part : goal.returns-clause-part
 returns-clause-part g c =
@@ -50,8 +47,7 @@ returns-clause-part g c =
     let new = g.K.Sink.written c.serve_lines-answered.new.sink in
     let value : c.in-Ok.script.items ≡ c.as_slice.result.now = search rules in
     let from = subst (λ (l : List ℕ). Consumes (g.S.Source.left c.args.source.now) (g.S.Source.left c.read_script.new.source) l) value c.in-Ok.ensures.read in
-    told_read first (g.S.Source.left c.args.source.now) (g.S.Source.left c.read_script.new.source) (g.F.Files.held c.args.files.now) bytes
-    (λ start script contents. GetsPart old new (output_by limits start contents script)) from c.in-Ok.ensures.end
-    (IfSome-map (λ contents. IsStopped limits (opening first contents) (lines limits.line bytes) c.serve_lines-answered.new.completed c.serve_lines-answered.new.engine.version old new)
-    (λ contents. GetsPart old new (output_by limits first contents bytes)) (g.F.Files.held c.args.files.now)
-    (λ contents stop. part_stopped limits first bytes contents c.serve_lines-answered.new.completed c.serve_lines-answered.new.engine old new stop) c.serve_lines-answered.ensures.stopped)
+    told_read limits first (g.S.Source.left c.args.source.now) (g.S.Source.left c.read_script.new.source) (g.F.Files.held c.args.files.now) bytes
+    (λ start script. GetsPart old new (output_by limits start script)) from c.in-Ok.ensures.end
+    (λ contents images held read. part_stopped limits (opening first contents images) bytes c.serve_lines-answered.new.completed c.serve_lines-answered.new.engine (g.F.Files.held c.serve_lines-answered.new.files) old new
+    (c.serve_lines-answered.ensures.stopped contents images held read))

@@ -1,8 +1,10 @@
 use Rattle.std.proofs.Common.{◌≡◌, ℕ, ◌+◌, ◌-◌, ◌≤◌, List, [], length, take, drop, Some}
 use Rattle.outside.specs.Contents.{Contents}
+use Rattle.image_file.specs.Images.{CanBeSaved}
 use Rattle.script_lang.specs.Lines.{lines}
 use Rattle.query_run.specs.States.{opening}
-use Rattle.query_run.specs.Answers.{names_of}
+use Rattle.query_run.specs.Images.{Images}
+use Rattle.query_run.specs.Answers.{AreRead, names_kept_of, names_of}
 use Rattle.query_run.specs.Progress.{HasCome, wish}
 use Rattle.query_run.proofs.serving.serve_lines.Given as goal
 
@@ -14,14 +16,16 @@ invariant-loop-cut g l = record {
   few : l.completed ≤ length (lines l.limits.line l.script);
   counted : l.completed ≤ l.at;
   numbers : l.engine.version.number + wish l.wanted ≤ l.completed;
-  same : g.F.Files.held l.files ≡ g.F.Files.held l.initial.files;
+  savable : CanBeSaved l.engine.version;
+  unsaved : names_kept_of (take l.completed (lines l.limits.line l.script)) ≡ [] → g.F.Files.held l.files ≡ g.F.Files.held l.initial.files;
   sink_later : g.K.Sink.faults l.initial.sink ≤ g.K.Sink.faults l.sink;
   files_later : g.F.Files.faults l.initial.files ≤ g.F.Files.faults l.files;
   sink_calm : g.K.Sink.faults l.sink ≡ g.K.Sink.faults l.initial.sink;
   files_calm : g.F.Files.faults l.files ≡ g.F.Files.faults l.initial.files;
   quiet : names_of (take l.completed (lines l.limits.line l.script)) ≡ [] → l.files ≡ l.initial.files;
-  come : (contents : Contents) → g.F.Files.held l.initial.files ≡ Some contents →
-      HasCome l.limits (opening l.initial.engine.version.first contents) (take l.completed (lines l.limits.line l.script)) l.engine l.wanted l.refused
+  come : (contents : Contents) → (images : Images) → g.F.Files.held l.initial.files ≡ Some contents →
+      AreRead l.limits (opening l.initial.engine.version.first contents images) (lines l.limits.line l.script) →
+      HasCome l.limits (opening l.initial.engine.version.first contents images) (take l.completed (lines l.limits.line l.script)) (g.F.Files.held l.files) l.engine l.wanted l.refused
       (g.K.Sink.written l.initial.sink) (g.K.Sink.written l.sink);
 }
 
