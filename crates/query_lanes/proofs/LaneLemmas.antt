@@ -1,0 +1,141 @@
+-- The answers of lanes are those over the engine's text.
+use Rattle.std.proofs.Common.{◌≡◌, ℕ, ◌+◌, ◌*◌, ◌-◌, ◌≤◌, ◌<◌, ◌⊎◌, inl, inr, List, [], ◌∷◌, ◌++◌, length, slice_get, slice_index_or, Option, Some, None, IfSome, refl, ap, sym, ◌∙◌, subst, arith, zero-add, length-append}
+use Rattle.std.proofs.lemmas.List.{get_or_append_left, get_or-append_right}
+use mathlib.Core.List.{IsPrefix}
+use Rattle.logbook.specs.Pages.{Book}
+use Rattle.live_version.specs.Contents.{VersionContent}
+use Rattle.manifest_publish.specs.Accounts.{ReaderContent, BeginWith}
+use Rattle.manifest_publish.proofs.HistoryLemmas.{latest-number}
+use Rattle.manifest_publish.proofs.PlaceLemmas.{prefix_get}
+use Rattle.manifest_publish.proofs.Prefixes.{prefix_length, prefix_shorter, prefix_trans, all_last}
+use Rattle.collection.specs.Engines.{EngineContent}
+use Rattle.query_lanes.specs.declared.asks.Ask.{Ask}
+use Rattle.query_lanes.specs.declared.work.Made.{Made}
+use Rattle.query_lanes.specs.declared.work.Work.{Work}
+use Rattle.query_lanes.specs.Answers.{answer_in}
+use Rattle.query_lanes.specs.Readers.{EachIsOf, IsLater}
+use Rattle.query_lanes.specs.Merges.{HasOneText}
+use Rattle.query_lanes.specs.Lanes.{IsMadeOn, AreMadeOn, IsRun, AreRun, IsTold, AreTold, IsSettled, AreSettled, IsTrusted, AreTrusted}
+use Rattle.query_lanes.proofs.ListLemmas.{get_more, place_in}
+use Rattle.query_lanes.proofs.MergeLemmas.{latest_at}
+
+-- an answer stays made while the reader sees more
+made_before : (ask : Ask) (before mid after : ReaderContent) (made : Made) → IsLater mid after → IsMadeOn ask before mid made → IsMadeOn ask before after made
+made_before ask before mid after made later m = record {
+  history = m.history;
+  version = m.version;
+  ends = m.ends;
+  from = m.from;
+  seen = prefix_trans m.history mid.seen after.seen m.seen later.seen;
+  number = m.number;
+  found = m.found;
+}
+
+-- an answer that was made later in a run
+made_after : (ask : Ask) (before mid after : ReaderContent) (made : Made) → IsLater before mid → IsMadeOn ask mid after made → IsMadeOn ask before after made
+made_after ask before mid after made later m = record {
+  history = m.history;
+  version = m.version;
+  ends = m.ends;
+  from = later.known m.history m.from;
+  seen = m.seen;
+  number = m.number;
+  found = m.found;
+}
+
+-- the answers of a lane stay made
+pub are_made_before : (asks : List Ask) (lanes at : ℕ) (before mid after : ReaderContent) (answers : List (Option Made))
+    → IsLater mid after → AreMadeOn asks lanes at before mid answers → AreMadeOn asks lanes at before after answers
+are_made_before asks lanes at before mid after answers later made k one ask here asked = made_before ask before mid after one later (made k one ask here asked)
+
+-- one answer more
+pub are_made_more : (asks : List Ask) (lanes at next : ℕ) (before mid after : ReaderContent) (answers : List (Option Made)) (ask : Ask) (some : Option Made)
+    → next ≡ at + length answers * lanes → slice_get asks next ≡ Some ask → IsLater before mid → IsLater mid after
+    → IfSome some (IsMadeOn ask mid after) → AreMadeOn asks lanes at before mid answers
+    → AreMadeOn asks lanes at before after (answers ++ some ∷ [])
+are_made_more asks lanes at next before mid after answers ask some place asked early later new made k one other here other_asked = one_more some new (get_more answers some k (Some one) here)
+  where
+    one_more : (some : Option Made) → IfSome some (IsMadeOn ask mid after)
+        → (slice_get answers k ≡ Some (Some one)) ⊎ ((k ≡ length answers) × (some ≡ Some one)) → IsMadeOn other before after one
+    one_more some new (inl old) = made_before other before mid after one later (made k one other old other_asked)
+    one_more None new (inr last) = absurd (cc (last.1))
+    one_more (Some x) new (inr last) =
+        let same : x ≡ one = cc (last.1) in
+        let here : at + k * lanes ≡ next = ap (λ (n : ℕ). at + n * lanes) last.0 ∙ sym place in
+        let there : slice_get asks next ≡ Some other = subst (λ (n : ℕ). slice_get asks n ≡ Some other) here other_asked in
+        let is : ask ≡ other = cc (asked, there) in
+        made_after other before mid after one early (subst (λ (a : Ask). IsMadeOn a mid after one) is (subst (λ (y : Made). IsMadeOn ask mid after y) same new))
+
+-- The heart: the reader of a lane was told of the engine's history before the batch, and has seen its history after it. So a version that it
+-- entered is one of the engine's where its number is not above the engine's, and not one before the batch
+pub trusted : (asks : List Ask) (lanes at : ℕ) (old new : EngineContent) (first told run settled : ReaderContent) (work work' : Work)
+    → HasOneText old new → IsTold old.history first told → IsRun asks lanes at told run work → IsSettled new.history run settled work work'
+    → IsTrusted asks lanes new at work'
+trusted asks lanes at old new first told run settled work work' text t r s is_settled k made ask here asked near =
+    let was : slice_get work.made.items k ≡ Some (Some made) = rw s.same at here in
+    let m : IsMadeOn ask told run made = r.made k made ask was asked in
+    let fronts : BeginWith (first.told ++ old.history ∷ []) m.history = subst (λ (l : List (List VersionContent)). BeginWith l m.history) t.told m.from.1 in
+    let since : IsPrefix old.history m.history = all_last (λ l. IsPrefix l m.history) first.told old.history fronts in
+    let far : length old.history ≤ length m.history = prefix_length old.history m.history since in
+    let count : m.version.number + 1 ≡ length m.history = latest-number m.history m.version m.ends.0 m.ends.1 in
+    let whole : new.version.number + 1 ≡ length new.history = latest-number new.history new.version text.ends.0 text.ends.1 in
+    let number : made.number ≡ m.version.number = m.number in
+    let seen : IsPrefix m.history settled.seen = prefix_trans m.history run.seen settled.seen m.seen (s.keeps is_settled) in
+    let begins : IsPrefix m.history new.history = prefix_shorter m.history new.history settled.seen seen (s.knows is_settled) (omega arith) in
+    let there : slice_get new.history m.version.number ≡ Some m.version = prefix_get m.history new.history m.version.number m.version begins (latest_at m.history m.version m.ends) in
+    m.found ∙ ap (λ text. answer_in text ask) (text.texts m.version.number m.version (omega arith) there)
+
+-- the same of all lanes
+pub all_trusted : (asks : List Ask) (lanes : ℕ) (old new : EngineContent) (first told run settled : List ReaderContent) (works works' : List Work)
+    → length works' ≡ lanes → HasOneText old new → AreTold old.history first told → AreRun asks lanes 0 told run works → AreSettled new.history run settled works works'
+    → AreTrusted asks new works'
+all_trusted asks lanes old new first told run settled works works' count text t r s i e lt =
+    let d : ReaderContent = slice_index_or first i (some_reader old) in
+    let same : length works' ≡ length told = s.works_are ∙ r.works_are in
+    let lt1 : i < length told = subst (λ (n : ℕ). i < n) same lt in
+    let lt0 : i < length first = subst (λ (n : ℕ). i < n) t.count lt1 in
+    let lt2 : i < length run = subst (λ (n : ℕ). i < n) (sym r.readers) lt1 in
+    subst (λ (n : ℕ). IsTrusted asks n new i (slice_index_or works' i e)) (sym count)
+    (trusted asks lanes i old new (slice_index_or first i d) (slice_index_or told i d) (slice_index_or run i d) (slice_index_or settled i d)
+    (slice_index_or works i e) (slice_index_or works' i e)
+    text (t.each i d lt0) (record { later = r.later i d lt1; made = subst (λ (n : ℕ). AreMadeOn asks lanes n (slice_index_or told i d) (slice_index_or run i d) (slice_index_or works i e).made.items) (zero-add i) (r.made i d e lt1) }) (s.each i d e lt2))
+  where
+    some_reader : EngineContent → ReaderContent
+    some_reader e = record { publisher = e.publisher; seen = []; told = []; kept = [] }
+
+-- enterings change no reader's publisher
+pub run_of : (asks : List Ask) (lanes from : ℕ) (publisher : Book) (before after : List ReaderContent) (works : List Work)
+    → AreRun asks lanes from before after works → EachIsOf publisher before → EachIsOf publisher after
+run_of asks lanes from publisher before after works r of i d lt =
+    let lt0 : i < length before = subst (λ (n : ℕ). i < n) r.readers lt in
+    (r.later i d lt0).publisher ∙ of i d lt0
+
+-- the runs of the lower lanes and of the upper ones
+pub runs_together : (asks : List Ask) (lanes from up : ℕ) (low high low' high' : List ReaderContent) (works works' : List Work)
+    → up ≡ from + length low → AreRun asks lanes from low low' works → AreRun asks lanes up high high' works'
+    → AreRun asks lanes from (low ++ high) (low' ++ high') (works ++ works')
+runs_together asks lanes from up low high low' high' works works' is a b = record {
+  readers = omega (arith, length-append low high, length-append low' high', a.readers, b.readers);
+  works_are = omega (arith, length-append low high, length-append works works', a.works_are, b.works_are);
+  later = λ i d lt. later_at i d (place_in low high i lt);
+  made = λ i d e lt. made_at i d e (place_in low high i lt);
+}
+  where
+    later_at : (i : ℕ) (d : ReaderContent) → (i < length low) ⊎ ((length low ≤ i) × (i - length low < length high)) → IsLater (slice_index_or (low ++ high) i d) (slice_index_or (low' ++ high') i d)
+    later_at i d (inl lt) =
+        let lt' : i < length low' = subst (λ (n : ℕ). i < n) (sym a.readers) lt in
+        rw (get_or_append_left low high d i lt, get_or_append_left low' high' d i lt') (a.later i d lt)
+    later_at i d (inr far) =
+        rw (get_or-append_right low high (length low) i d refl far.0, get_or-append_right low' high' (length low) i d a.readers far.0) (b.later (i - length low) d far.1)
+
+    made_at : (i : ℕ) (d : ReaderContent) (e : Work) → (i < length low) ⊎ ((length low ≤ i) × (i - length low < length high))
+        → AreMadeOn asks lanes (from + i) (slice_index_or (low ++ high) i d) (slice_index_or (low' ++ high') i d) (slice_index_or (works ++ works') i e).made.items
+    made_at i d e (inl lt) =
+        let lt' : i < length low' = subst (λ (n : ℕ). i < n) (sym a.readers) lt in
+        let lt'' : i < length works = subst (λ (n : ℕ). i < n) (sym a.works_are) lt in
+        rw (get_or_append_left low high d i lt, get_or_append_left low' high' d i lt', get_or_append_left works works' e i lt'') (a.made i d e lt)
+    made_at i d e (inr far) =
+        let le : length low ≤ i = far.0 in
+        let at : up + (i - length low) ≡ from + i = omega (arith, is) in
+        rw (get_or-append_right low high (length low) i d refl far.0, get_or-append_right low' high' (length low) i d a.readers far.0, get_or-append_right works works' (length low) i e a.works_are far.0)
+        (subst (λ (n : ℕ). AreMadeOn asks lanes n (slice_index_or high (i - length low) d) (slice_index_or high' (i - length low) d) (slice_index_or works' (i - length low) e).made.items) at (b.made (i - length low) d e far.1))

@@ -1,0 +1,8 @@
+pub mod ListLemmas
+pub mod ReaderLemmas
+pub mod MergeLemmas
+pub mod LaneLemmas
+pub mod EachLane
+pub mod Passes
+pub mod ShortLemmas
+mod Worked

@@ -1,0 +1,12 @@
+use Rattle.std.proofs.Common.{◌+◌, ◌≤◌, sym, subst}
+use Rattle.gcl_model.specs.FormOf.{form_of}
+use Rattle.live_version.specs.Contents.{VersionContent, version_text}
+use Rattle.reader_pass.specs.Members.{look_ups, access_most}
+use Rattle.query_lanes.proofs.Passes.{last_is}
+use Rattle.query_lanes.proofs.found.MemberCountQuestion.ask.Goals as goal
+
+pub returns-clause-cost : goal.returns-clause-cost
+returns-clause-cost g c =
+    let latest = c.version-version.ensures.1 in
+    subst (λ (v : VersionContent). c.pass_count.new.steps ≤ c.args.steps.now + look_ups (version_text v) (access_most v) (form_of c.args.self.now.expr.now) c.pass_count.result)
+    (sym (last_is c.args.self.now.pass.now.history c.version-version.result.now latest)) (c.pass_count.ensures.cost c.version-version.result.now latest)

@@ -1,0 +1,28 @@
+-- The answer to a query over a text.
+use Rattle.std.specs.Prelude.{List, length, take, Result, Ok, Err}
+use Rattle.gcl_model.specs.Extents.{Extent}
+use Rattle.gcl_model.specs.Texts.{Text}
+use Rattle.gcl_model.specs.FormOf.{form_of}
+use Rattle.gcl_model.specs.Meaning.{concordance}
+use Rattle.gcl_model.specs.declared.expr.Expr.{Expr}
+use Rattle.gcl_parser.specs.declared.fault.QueryFault.{QueryFault}
+use Rattle.query_lanes.specs.declared.asks.Asked.{Asked}
+use Rattle.query_lanes.specs.declared.asks.Asked.TheVariants.{All, First, Number}
+use Rattle.query_lanes.specs.declared.asks.Ask.{Ask}
+use Rattle.query_lanes.specs.declared.asks.Found.{Found}
+use Rattle.query_lanes.specs.declared.asks.Found.TheVariants.{List as Members, Number as Count, Refused}
+
+-- what is found in a list: all of it, its first so many members, or how many it has. In (1, 1), (5, 5) a query for the first one finds (1, 1)
+abbrev pub found_in : Asked → List Extent → Found
+found_in All list = Members list
+found_in (First most) list = Members (take most list)
+found_in Number list = Count (length list)
+
+-- what is found in the concordance list of an expression, or the fault for which there is none
+abbrev pub answer_by : Asked → Text → Result Expr QueryFault → Found
+answer_by asked text (Ok expr) = found_in asked (concordance text (form_of expr))
+answer_by asked text (Err fault) = Refused fault
+
+-- the answer to a query over a text: over "to be or not to be" from address 0 on, to `count "to"` it is the number 2
+abbrev pub answer_in : Text → Ask → Found
+answer_in text ask = answer_by ask.asked text ask.query

@@ -1,0 +1,5 @@
+pub mod WellFormedOnce
+pub mod Answers
+pub mod Readers
+pub mod Merges
+pub mod Lanes

@@ -1,0 +1,41 @@
+ghost use Rattle.std.specs.Prelude.{IfOk};
+ghost use Rattle.gcl_model.specs.FormOf.{form_of};
+ghost use Rattle.gcl_model.specs.WellFormed.{IsWellFormed};
+ghost use Rattle.query_lanes.specs.WellFormedOnce.{query-prop};
+
+use gcl_model::{Expr, IntervalList};
+use gcl_parser::QueryFault;
+
+/// What a query asks of the concordance list of its expression.
+#[derive(Clone, Copy, Debug, PartialEq, Eq)]
+pub enum Asked {
+    /// All members.
+    All,
+    /// So many members from the first on, or all where there are fewer.
+    First(u64),
+    /// How many members there are.
+    Number,
+}
+
+/// A query of a batch. One that is refused keeps its place among the others, and is answered by its fault.
+#[derive(Drop)]
+pub struct Ask {
+    /// Which query of the run it is, counted from 1: the gate is told of it by this number.
+    pub number: u64,
+    /// What it asks of the list.
+    pub asked: Asked,
+    /// Its expression, or why it has none.
+    pub query: Result<Expr, QueryFault>,
+    ghost well_formed: { IfOk query (λ expr. IsWellFormed (form_of expr)) } by { query-prop query },
+}
+
+/// The answer to a query.
+#[derive(Drop)]
+pub enum Found {
+    /// All members of its list, or the first of them.
+    List(IntervalList),
+    /// How many members its list has.
+    Number(u64),
+    /// It was refused.
+    Refused(QueryFault),
+}

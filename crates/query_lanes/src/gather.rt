@@ -1,0 +1,96 @@
+ghost use Rattle.std.specs.Prelude.{◌≡◌, ◌<◌, ℕ, length, map, slice_get, Some, IfOk, IfSome};
+ghost use Rattle.live_version.specs.Contents.{version_text};
+ghost use Rattle.query_lanes.specs.declared.asks.Ask.{Ask};
+ghost use Rattle.query_lanes.specs.declared.work.Made.{Made};
+ghost use Rattle.query_lanes.specs.Answers.{answer_in};
+ghost use Rattle.query_lanes.specs.Lanes.{AreTrusted};
+
+use crate::asks::{Ask, Found};
+use crate::found::find;
+use crate::work::{Made, Work};
+use collection::Engine;
+use std::alloc::{AllocError, Global};
+
+// Takes the answer at a place, if there is one.
+fn take_made(made: &mut [Option<Made>], k: usize) -> Option<Made>
+    ensures taken { IfSome result (λ one. slice_get made.old k ≡ Some (Some one)) }
+    ensures rest { (i : ℕ) (one : Made) → slice_get made.new i ≡ Some (Some one) → slice_get made.old i ≡ Some (Some one) }
+{
+    if k >= made.len() {
+        return None;
+    }
+    made[k].take()
+}
+
+// Takes the answer that a lane made to the query at `j`, where its version is one of the engine's.
+fn take_kept(engine: &Engine, works: &mut [Work], asks: &[Ask], j: usize) -> Option<Found>
+    requires trusted { AreTrusted asks.now engine.now works.old }
+    ensures trusted { AreTrusted asks.now engine.now works.new }
+    ensures found { (ask : Ask) → slice_get asks.now j ≡ Some ask → IfSome result (λ found. found ≡ answer_in (version_text engine.now.version) ask) }
+{
+    if works.is_empty() {
+        return None;
+    }
+    let lanes = works.len();
+    let work = &mut works[j % lanes];
+    if !work.is_settled {
+        return None;
+    }
+    let made = take_made(work.made.as_mut_slice(), j / lanes)?;
+    if made.number > engine.version().number() {
+        return None;
+    }
+    Some(made.found)
+}
+
+// Answers a query on the engine's own pass.
+fn answer_again(alloc: Global, engine: &Engine, ask: &Ask) -> Result<Found, AllocError>
+    ensures { IfOk result (λ found. found ≡ answer_in (version_text engine.now.version) ask.now) }
+{
+    match &ask.query {
+        Ok(expr) => {
+            let pass = engine.pass()?;
+            let found = find(alloc, &pass, ask.asked, expr)?;
+            Ok(found)
+        }
+        Err(fault) => Ok(Found::Refused(*fault)),
+    }
+}
+
+// The answer to the query at `j`.
+fn answer_at(
+    alloc: Global,
+    engine: &Engine,
+    works: &mut [Work],
+    asks: &[Ask],
+    j: usize,
+) -> Result<Found, AllocError>
+    requires place { j < length asks.now }
+    requires trusted { AreTrusted asks.now engine.now works.old }
+    ensures trusted { AreTrusted asks.now engine.now works.new }
+    ensures found { (ask : Ask) → slice_get asks.now j ≡ Some ask → IfOk result (λ found. found ≡ answer_in (version_text engine.now.version) ask) }
+{
+    if let Some(found) = take_kept(engine, works, asks, j) {
+        return Ok(found);
+    }
+    let found = answer_again(alloc, engine, &asks[j])?;
+    Ok(found)
+}
+
+/// The answers to all queries, in their order: those that the lanes made, where they count, and else made again.
+pub fn gather(
+    alloc: Global,
+    engine: &Engine,
+    works: &mut [Work],
+    asks: &[Ask],
+) -> Result<Vec<Found>, AllocError>
+    requires { AreTrusted asks.now engine.now works.old }
+    ensures { IfOk result (λ answers. answers.items ≡ map (answer_in (version_text engine.now.version)) asks.now) }
+{
+    let mut answers = Vec::with_capacity(alloc, asks.len())?;
+    for j in 0..asks.len() {
+        let found = answer_at(alloc, engine, works, asks, j)?;
+        answers.push(found)?;
+    }
+    Ok(answers)
+}

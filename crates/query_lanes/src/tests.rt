@@ -1,0 +1,233 @@
+ghost use Rattle.std.specs.Prelude.{◌≡◌, ◌≤◌, ◌<◌, length, IfOk};
+ghost use Rattle.gcl_model.specs.FormOf.{form_of};
+ghost use Rattle.gcl_model.specs.WellFormed.{IsWellFormed};
+ghost use Rattle.query_lanes.specs.Readers.{AreOf};
+
+use crate::{Ask, Asked, Found, Work, answer_batch};
+use address_space::is_name;
+use collection::{Engine, Opened};
+use gcl_model::Expr;
+use gcl_parser::{ParseFault, QueryFault, parse};
+use manifest_publish::Reader;
+use outside::{FreeGate, Gate};
+use std::alloc::{AllocError, Global};
+use std::sync::Wait;
+use std::sync::atomic::{AtomicBool, Ordering};
+use std::test::Fail;
+use std::thread::Threads;
+
+/// No test goes on from a greater number.
+const MOST: u64 = 1 << 61;
+
+/// Queries over `to be or not to be` from address 0 on, and what each finds: the first and last address of each member, their number, or the place of a
+/// fault.
+const TABLE: [(Asked, &[u8], &[u64]); 7] = [
+    (Asked::All, b"\"to\"", &[1, 1, 5, 5]),
+    (Asked::Number, b"\"be\"", &[2]),
+    (Asked::First(1), b"\"to be\"", &[1, 2]),
+    (Asked::All, b"\"to", &[0]),
+    (Asked::All, b"\"or\"..\"be\"", &[3, 6]),
+    (Asked::First(9), b"\"be\"", &[2, 2, 6, 6]),
+    (Asked::Number, b"\"nobody\"", &[0]),
+];
+
+fn query(alloc: Global, text: &[u8]) -> Result<Result<Expr, QueryFault>, AllocError>
+    ensures { IfOk result (λ query. IfOk query (λ expr. IsWellFormed (form_of expr))) }
+{
+    match parse(alloc, text) {
+        Ok(expr) => Ok(Ok(expr)),
+        Err(ParseFault::Query(fault)) => Ok(Err(fault)),
+        Err(ParseFault::NoMemory) => Err(AllocError),
+    }
+}
+
+/// The queries of the table, numbered from 1.
+fn asks(alloc: Global) -> Result<Vec<Ask>, AllocError> {
+    let mut asks = Vec::new(alloc);
+    for (i, (asked, text, _)) in TABLE.iter().enumerate() {
+        let query = query(alloc, text)?;
+        asks.push(Ask {
+            number: i as u64 + 1,
+            asked: *asked,
+            query,
+        })?;
+    }
+    Ok(asks)
+}
+
+/// The numbers of an answer, as the table has them.
+fn numbers(alloc: Global, found: &Found) -> Result<Vec<u64>, AllocError> {
+    let mut numbers = Vec::new(alloc);
+    match found {
+        Found::List(members) => {
+            for member in members.as_slice() {
+                numbers.push(member.start)?;
+                numbers.push(member.end)?;
+            }
+        }
+        Found::Number(count) => numbers.push(*count)?,
+        Found::Refused(fault) => numbers.push(fault.at)?,
+    }
+    Ok(numbers)
+}
+
+/// An engine of one file, and so many readers.
+fn opened<R: Wait>(rt: &R, alloc: Global, readers: usize) -> Result<Opened, AllocError>
+    requires { readers ≤ 16 }
+    ensures of { IfOk result (λ opened. AreOf opened.engine.publisher opened.readers.items) }
+    ensures few { IfOk result (λ opened. length opened.readers.items ≤ 16) }
+{
+    let Ok(opened) = Engine::open(rt, alloc, 0, readers) else {
+        return Err(AllocError);
+    };
+    Ok(opened)
+}
+
+fn added<R: Wait>(rt: &R, engine: &mut Engine) -> bool
+    ensures { engine.new.publisher ≡ engine.old.publisher }
+{
+    is_name(b"a") && engine.add(rt, b"a", b"to be or not to be").is_ok()
+}
+
+/// The answers to the table's queries, in order.
+fn answered<R: Threads + Wait + Sync, G: Gate + Sync>(
+    rt: &R,
+    alloc: Global,
+    gate: &G,
+    wanted: bool,
+    engine: &mut Engine,
+    readers: &mut [Reader],
+) -> Result<Vec<Found>, AllocError>
+    requires few { length readers.old ≤ 16 }
+    requires of { AreOf engine.old.publisher readers.old }
+    ensures { AreOf engine.new.publisher readers.new }
+{
+    if engine.version().number() >= MOST {
+        return Err(AllocError);
+    }
+    let asks = asks(alloc)?;
+    let mut works = Work::of_lanes(alloc, readers.len())?;
+    let answers = answer_batch(
+        rt,
+        alloc,
+        gate,
+        asks.as_slice(),
+        wanted,
+        engine,
+        works.as_mut_slice(),
+        readers,
+    )?;
+    Ok(answers)
+}
+
+/// Whether these are the answers that the table has.
+fn are_those_of_the_table(alloc: Global, answers: &[Found]) -> Result<bool, AllocError> {
+    if answers.len() != TABLE.len() {
+        return Ok(false);
+    }
+    for (found, (_, _, want)) in answers.iter().zip(TABLE.iter()) {
+        if numbers(alloc, found)?.as_slice() != *want {
+            return Ok(false);
+        }
+    }
+    Ok(true)
+}
+
+/// Whether a batch without a merge, one beside a merge, and one after it are answered as the table has it, with so many readers.
+fn answers_thrice<R: Threads + Wait + Sync>(
+    rt: &R,
+    alloc: Global,
+    engine: &mut Engine,
+    readers: &mut [Reader],
+) -> Result<bool, AllocError>
+    requires few { length readers.old ≤ 16 }
+    requires of { AreOf engine.old.publisher readers.old }
+{
+    for wanted in [false, true, false] {
+        let answers = answered(rt, alloc, &FreeGate, wanted, engine, readers)?;
+        if !are_those_of_the_table(alloc, answers.as_slice())? {
+            return Ok(false);
+        }
+    }
+    Ok(true)
+}
+
+fn batches_are_answered<R: Threads + Wait + Sync>(
+    rt: &R,
+    alloc: Global,
+    readers: usize,
+) -> Result<bool, AllocError>
+    requires { readers ≤ 16 }
+{
+    let Opened {
+        mut engine,
+        mut readers,
+        lines: _lines,
+    } = opened(rt, alloc, readers)?;
+    let answered = added(rt, &mut engine)
+        && answers_thrice(rt, alloc, &mut engine, readers.as_mut_slice()) == Ok(true);
+    engine.end(rt);
+    Ok(answered)
+}
+
+#[test]
+fn any_number_of_readers_gives_the_same_answers(rt: HostRuntime) -> Result<(), Fail> {
+    for readers in [0, 1, 4, 16] {
+        let answered = batches_are_answered(&rt, rt.alloc(), readers)?;
+        assert!(rt; answered, "{readers} readers");
+    }
+    Ok(())
+}
+
+/// Holds the publication until a query has begun, or until it has looked so often that none will.
+#[derive(Drop)]
+struct Meeting {
+    begun: AtomicBool,
+    met: AtomicBool,
+}
+
+impl Gate for Meeting {
+    fn before_query(&self, _n: u64) {
+        self.begun.store(true, Ordering::SeqCst);
+    }
+
+    fn after_query(&self, _n: u64, _version: u64) {}
+
+    fn before_publish(&self, _n: u64) {
+        for _ in 0..1u64 << 28 {
+            if self.begun.load(Ordering::SeqCst) {
+                self.met.store(true, Ordering::SeqCst);
+                return;
+            }
+        }
+    }
+
+    fn after_publish(&self, _n: u64) {}
+}
+
+/// Whether a merge that waits for a query met one, and the answers are those of the table.
+fn meets<R: Threads + Wait + Sync>(rt: &R, alloc: Global) -> Result<bool, AllocError> {
+    let Opened {
+        mut engine,
+        mut readers,
+        lines: _lines,
+    } = opened(rt, alloc, 2)?;
+    let gate = Meeting {
+        begun: AtomicBool::new(false),
+        met: AtomicBool::new(false),
+    };
+    let answered = added(rt, &mut engine)
+        && match answered(rt, alloc, &gate, true, &mut engine, readers.as_mut_slice()) {
+            Ok(answers) => are_those_of_the_table(alloc, answers.as_slice()) == Ok(true),
+            Err(_) => false,
+        };
+    engine.end(rt);
+    Ok(answered && gate.met.load(Ordering::SeqCst))
+}
+
+#[test]
+fn queries_are_answered_in_another_thread_than_the_merge(rt: HostRuntime) -> Result<(), Fail> {
+    let met = meets(&rt, rt.alloc())?;
+    assert!(rt; met);
+    Ok(())
+}
