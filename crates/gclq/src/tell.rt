@@ -31,7 +31,9 @@ pub fn tell<R: Eprint>(rt: &R, status: Status, words: &[Bytes], name: &[u8]) {
         ),
         Status::ReadFault => eprintln!(rt; "gclq: the script could not be read"),
         Status::WriteFault => eprintln!(rt; "gclq: the answers could not be written"),
-        Status::FileFault if name.is_empty() => eprintln!(rt; "gclq: a file could not be read or saved"),
+        Status::FileFault if name.is_empty() => eprintln!(rt;
+            "gclq: a file could not be read or saved"
+        ),
         Status::FileFault => eprintln!(rt; "gclq: a file could not be read or saved: {name}"),
         Status::NoMemory => eprintln!(rt; "gclq: out of memory"),
         Status::ScriptTooLong => eprintln!(rt;
