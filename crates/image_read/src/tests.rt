@@ -53,10 +53,10 @@ const FILES_TWO: &[u8] = b"\0\0\0\0\0\0\0\0\0\0\0\0\0\0\0\0\x02\0\0\0\0\0\0\0\x0
 const TERMS_TWO: &[u8] = b"\x02\0\0\0\0\0\0\0\
     \x08\0\0\0</file!>\x02\0\0\0\0\0\0\0\x01\x02\x07\0\0\0<file!>\x02\0\0\0\0\0\0\0\0\x02";
 
-const TWO_AT_ONE_PLACE: &[u8] = b"\0\0\0\0\0\0\0\0\0\0\0\0\0\0\0\0\x02\0\0\0\0\0\0\0\x01\0\0\0x\
+const SAME_ADDRESS: &[u8] = b"\0\0\0\0\0\0\0\0\0\0\0\0\0\0\0\0\x02\0\0\0\0\0\0\0\x01\0\0\0x\
     \x01\0\0\0\0\0\0\0\x01\0\0\0\0\0\0\0\x02\0\0\0\0\0\0\0\x01\0\0\0y";
 
-const TWO_OF_ONE_ID: &[u8] = b"\0\0\0\0\0\0\0\0\0\0\0\0\0\0\0\0\x02\0\0\0\0\0\0\0\x01\0\0\0x\
+const SAME_ID: &[u8] = b"\0\0\0\0\0\0\0\0\0\0\0\0\0\0\0\0\x02\0\0\0\0\0\0\0\x01\0\0\0x\
     \0\0\0\0\0\0\0\0\x02\0\0\0\0\0\0\0\x02\0\0\0\0\0\0\0\x01\0\0\0y";
 
 // An image without files has no terms.
@@ -70,7 +70,7 @@ const AT_END: &[u8] = b"GCLIMG02\
     \0\0\0\0\0\0\0\x01\0\0\0\0\0\0\0\x01\
     \0\0\0\0\0\0\0\0\0\0\0\0\0\0\0\0";
 
-const BEHIND_END: &[u8] = b"GCLIMG02\
+const BEYOND: &[u8] = b"GCLIMG02\
     \x01\0\0\0\0\0\0\x01\x01\0\0\0\0\0\0\x01\
     \0\0\0\0\0\0\0\0\0\0\0\0\0\0\0\0";
 
@@ -82,7 +82,7 @@ const NEW_AT_OLD_END: &[u8] = b"GCLIMG02\
     \0\0\0\0\0\0\x01\0\0\0\0\0\0\0\x01\0\
     \0\0\0\0\0\0\0\0\0\0\0\0\0\0\0\0";
 
-const OLD_BEHIND_END: &[u8] = b"GCLIMG01\
+const OLD_BEYOND: &[u8] = b"GCLIMG01\
     \x01\0\0\0\0\0\x01\0\x01\0\0\0\0\0\x01\0\
     \0\0\0\0\0\0\0\0\0\0\0\0\0\0\0\0";
 
@@ -109,23 +109,25 @@ const HEAD_WIDE: &[u8] = b"GCLIMG02\
 const FILE_WIDE: &[u8] = b"\x01\x08\xf6\xff\xff\xff\xff\xff\xff\x7f\x01b";
 
 // `b` with one token, which is none.
-const HEAD_OF_THREE: &[u8] = b"GCLIMG02\
+const HEAD_WITH_BE: &[u8] = b"GCLIMG02\
     \0\0\0\0\0\0\0\0\x0b\0\0\0\0\0\0\0\
     \x02\0\0\0\0\0\0\0\x01\0\0\0\0\0\0\0";
+
+const FILE_WITH_BE: &[u8] = b"\x01\x08\x01\x01b";
 
 const TERMS_WITH_BE: &[u8] = b"\x03\0\0\0\0\0\0\0\
     \x08</file!>\0\x0a\x07<file!>\0\x08\x02Be\0\x09";
 
 // Of two ids and an unused hole, and of none where there is a hole.
-const HEAD_OF_ONE_ID: &[u8] = b"GCLIMG02\
+const ONE_ID: &[u8] = b"GCLIMG02\
     \0\0\0\0\0\0\0\0\x0a\0\0\0\0\0\0\0\
     \x01\0\0\0\0\0\0\0\x01\0\0\0\0\0\0\0";
 
-const HEAD_OF_TWO_IDS: &[u8] = b"GCLIMG02\
+const TWO_IDS: &[u8] = b"GCLIMG02\
     \0\0\0\0\0\0\0\0\x02\0\0\0\0\0\0\0\
     \x02\0\0\0\0\0\0\0\x01\0\0\0\0\0\0\0";
 
-const TERMS_AT_START: &[u8] = b"\x02\0\0\0\0\0\0\0\
+const AT_START: &[u8] = b"\x02\0\0\0\0\0\0\0\
     \x08</file!>\0\x01\x07<file!>\0\0";
 
 // The terms of `b` with a fault each.
@@ -156,7 +158,6 @@ fn joined(alloc: Global, parts: Parts) -> Result<Vec<u8>, AllocError> {
 }
 
 /// The version that the bytes are an image of, and none where they are no image.
-#[tactic(auto, using(crate::proofs::Saved::read_saves))]
 fn read(alloc: Global, bytes: &[u8]) -> Result<Option<Version>, AllocError>
     ensures { IfOk result (λ found. IfSome found CanBeSaved) }
 {
@@ -212,58 +213,25 @@ fn what_is_read_is_written_as_version_two(rt: HostRuntime) -> Result<(), Fail> {
 fn what_is_laid_out_otherwise_is_no_image(rt: HostRuntime) -> Result<(), Fail> {
     let alloc = rt.alloc();
     let cases = [
-        (
-            "as many files as can be said",
-            [MANY_FILES, FILE_B, TERMS_B],
-        ),
-        ("as many terms as can be said", [HEAD_B, FILE_B, MANY_TERMS]),
-        ("a file of all addresses", [HEAD_WIDE, FILE_WIDE, TERMS_B]),
+        ("too many files", [MANY_FILES, FILE_B, TERMS_B]),
+        ("too many terms", [HEAD_B, FILE_B, MANY_TERMS]),
+        ("a file that is too wide", [HEAD_WIDE, FILE_WIDE, TERMS_B]),
         ("a padded number", [HEAD_B, b"\x81\0\x08\0\x01b", TERMS_B]),
         ("a byte behind the last term", [HEAD_B, FILE_B, LONGER]),
         ("terms that fall", [HEAD_B, FILE_B, FALLING]),
         ("an address without a term", [HEAD_B, FILE_B, WITHOUT_START]),
         ("an address twice under a term", [HEAD_B, FILE_B, TWICE]),
-        (
-            "an address under a term of another",
-            [HEAD_B, FILE_B, OUTSIDE],
-        ),
-        (
-            "a word at the start of a file",
-            [HEAD_B, FILE_B, OTHER_ROLE],
-        ),
-        (
-            "a term that is no token",
-            [HEAD_OF_THREE, b"\x01\x08\x01\x01b", TERMS_WITH_BE],
-        ),
-        (
-            "a name that is none",
-            [HEAD_B, b"\x01\x08\0\x01\x0a", TERMS_B],
-        ),
-        (
-            "a hole without a missing id",
-            [HEAD_OF_ONE_ID, b"\0\x08\0\x01b", TERMS_B],
-        ),
-        (
-            "a missing id without a hole",
-            [HEAD_OF_TWO_IDS, b"\0\0\0\x01b", TERMS_AT_START],
-        ),
-        (
-            "two files at one address",
-            [HEAD_TWO, TWO_AT_ONE_PLACE, TERMS_TWO],
-        ),
-        (
-            "two files with one id",
-            [HEAD_TWO, TWO_OF_ONE_ID, TERMS_TWO],
-        ),
+        ("an end that is none", [HEAD_B, FILE_B, OUTSIDE]),
+        ("a start that is a word", [HEAD_B, FILE_B, OTHER_ROLE]),
+        ("no token", [HEAD_WITH_BE, FILE_WITH_BE, TERMS_WITH_BE]),
+        ("no name", [HEAD_B, b"\x01\x08\0\x01\x0a", TERMS_B]),
+        ("a hole, but no id", [ONE_ID, b"\0\x08\0\x01b", TERMS_B]),
+        ("an id, but no hole", [TWO_IDS, b"\0\0\0\x01b", AT_START]),
+        ("two at one address", [HEAD_TWO, SAME_ADDRESS, TERMS_TWO]),
+        ("two with one id", [HEAD_TWO, SAME_ID, TERMS_TWO]),
         ("a first address behind the next", [TURNED, b"", NO_TERMS]),
-        (
-            "an address that version 1 has not",
-            [OLD_BEHIND_END, b"", NO_TERMS],
-        ),
-        (
-            "an address that version 2 has not",
-            [BEHIND_END, b"", NO_TERMS],
-        ),
+        ("the end of version 1", [OLD_BEYOND, b"", NO_TERMS]),
+        ("the end of version 2", [BEYOND, b"", NO_TERMS]),
         ("the mark of no version", [UNMARKED, b"", NO_TERMS]),
     ];
     for (what, parts) in cases {
@@ -293,7 +261,7 @@ fn no_front_part_of_an_image_is_one(rt: HostRuntime) -> Result<(), Fail> {
 #[test]
 fn a_changed_byte_is_refused_or_written_back(rt: HostRuntime) -> Result<(), Fail> {
     let alloc = rt.alloc();
-    let mut taken = 0;
+    let mut taken = false;
     for parts in [[HEAD_A, FILE_A, TERMS_A], [HEAD_B, FILE_B, TERMS_B]] {
         let mut bytes = joined(alloc, parts)?;
         for i in 0..bytes.len() {
@@ -305,11 +273,11 @@ fn a_changed_byte_is_refused_or_written_back(rt: HostRuntime) -> Result<(), Fail
                     bytes.as_slice(),
                     "at {i}"
                 );
-                taken += 1;
+                taken = true;
             }
             bytes[i] = byte;
         }
     }
-    assert!(rt; taken > 5);
+    assert!(rt; taken, "no changed byte is taken");
     Ok(())
 }

@@ -9,12 +9,15 @@ use gcl_model::{Expr, Leaves, Ledger, Span, Steps};
 use live_version::Version;
 use std::marker::Model;
 
+/// How many terms have fingers. Each is about a kilobyte.
+const MOST_TERMS: usize = 16;
+
 /// A version, with some terms that were found in it once. It is for one query: of two that run at a time, each has fingers of its own.
 #[derive(Drop)]
 pub struct Fingers<'a, J: Naming> {
     version: &'a Version,
     // a place that is not used yet is None, and no other one
-    terms: ArrayVec<Option<Term<'a, J>>, 16>,
+    terms: ArrayVec<Option<Term<'a, J>>, MOST_TERMS>,
 }
 
 impl<'a, J: Naming> Model for Fingers<'a, J> {

@@ -3,9 +3,9 @@
 //! Contracts see `Fingers` as the version that they are over: as `Leaves` they have its text, its span and its bound of
 //! look-ups. No contract sees which terms were found, or where a finger is, so no answer depends on it.
 //!
-//! The layer above adds the terms of an expression and then evaluates it. A look-up goes on from the place where the last one of
-//! its term ended, and a block of postings is unpacked once as long as the look-ups stay in it. A term that was not added is looked
-//! up by the version. Nothing takes memory: 16 terms have fingers, and whatever is added after them has none.
+//! The layer above makes them of an expression and then evaluates it. A look-up goes on from the place where the last one of its
+//! term ended, and a block of postings is unpacked once as long as the look-ups stay in it. A term that was not added is looked up by
+//! the version. Nothing takes memory: 16 terms have fingers, and whatever is added after them has none.
 //!
 //! Over one file `to be or not to be` from address 0 on, whose first word is at 1, the next `to` from 2 on is at 5.
 #![tactic(auto)]
