@@ -4,10 +4,11 @@
 //! over the collection that this version stands for. No call takes a handle, so none waits, and whatever is published
 //! meanwhile changes no answer.
 //!
-//! The layer above asks for the first members, from the first one or from an address on, or for their number. Each makes at most as many look-ups as the expression's cost
-//! for each member, and once more: it leaps, and never lists an operand. Each word is found in the version once, and has a finger. The number
-//! of a term's members, and of one of several terms, takes no look-up. Over one file
-//! `to be or not to be` from address 0 on, `"to be"` has the members (1, 2) and (5, 6), and two of them are found by at most three times its cost.
+//! The layer above asks for the first members, from the first one or from an address on, or for their number. Each makes at most as
+//! many look-ups as the expression's cost for each member, and once more: it leaps, and never lists an operand. Each word is found in
+//! the version once, and has a finger. The number of a term's members, and of one of several terms, takes no look-up. Over one file
+//! `to be or not to be` from address 0 on, `"to be"` has the members (1, 2) and (5, 6), and two of them are found by at most three
+//! times its cost.
 #![tactic(auto)]
 
 mod answers;
