@@ -1,4 +1,4 @@
-use Rattle.std.proofs.Common.{◌+◌, ◌^◌, slice_index_or, arith, le_refl}
+use Rattle.std.proofs.Common.{◌+◌, ◌^◌, slice_index_or, arith}
 use Rattle.posting_code.proofs.Rising.{rise_push}
 use Rattle.measure.proofs.packed.put_block.Goals as goal
 
