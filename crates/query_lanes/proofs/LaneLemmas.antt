@@ -2,7 +2,6 @@
 use Rattle.std.proofs.Common.{◌≡◌, ℕ, ◌+◌, ◌*◌, ◌-◌, ◌≤◌, ◌<◌, ◌⊎◌, inl, inr, List, [], ◌∷◌, ◌++◌, length, slice_get, slice_index_or, Option, Some, None, IfSome, refl, ap, sym, ◌∙◌, subst, arith, zero-add, length-append}
 use Rattle.std.proofs.lemmas.List.{get_or_append_left, get_or-append_right}
 use mathlib.Core.List.{IsPrefix}
-use Rattle.logbook.specs.Pages.{Book}
 use Rattle.live_version.specs.Contents.{VersionContent}
 use Rattle.manifest_publish.specs.Accounts.{ReaderContent, BeginWith}
 use Rattle.manifest_publish.proofs.HistoryLemmas.{latest-number}
@@ -13,7 +12,7 @@ use Rattle.query_lanes.specs.declared.asks.Ask.{Ask}
 use Rattle.query_lanes.specs.declared.work.Made.{Made}
 use Rattle.query_lanes.specs.declared.work.Work.{Work}
 use Rattle.query_lanes.specs.Answers.{answer_in}
-use Rattle.query_lanes.specs.Readers.{EachIsOf, IsLater}
+use Rattle.query_lanes.specs.Readers.{IsLater}
 use Rattle.query_lanes.specs.Merges.{HasOneText}
 use Rattle.query_lanes.specs.Lanes.{IsMadeOn, AreMadeOn, IsRun, AreRun, IsTold, AreTold, IsSettled, AreSettled, IsTrusted, AreTrusted}
 use Rattle.query_lanes.proofs.ListLemmas.{get_more, place_in}
@@ -102,13 +101,6 @@ all_trusted asks lanes old new first told run settled works works' count text t 
   where
     some_reader : EngineContent → ReaderContent
     some_reader e = record { publisher = e.publisher; seen = []; told = []; kept = [] }
-
--- enterings change no reader's publisher
-pub run_of : (asks : List Ask) (lanes from : ℕ) (publisher : Book) (before after : List ReaderContent) (works : List Work)
-    → AreRun asks lanes from before after works → EachIsOf publisher before → EachIsOf publisher after
-run_of asks lanes from publisher before after works r of i d lt =
-    let lt0 : i < length before = subst (λ (n : ℕ). i < n) r.readers lt in
-    (r.later i d lt0).publisher ∙ of i d lt0
 
 -- the runs of the lower lanes and of the upper ones
 pub runs_together : (asks : List Ask) (lanes from up : ℕ) (low high low' high' : List ReaderContent) (works works' : List Work)

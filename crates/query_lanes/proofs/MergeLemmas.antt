@@ -1,5 +1,5 @@
 -- A merge changes no text.
-use Rattle.std.proofs.Common.{◌≡◌, ℕ, ◌+◌, ◌≤◌, ◌⊎◌, inl, inr, Bool, true, false, List, [], ◌∷◌, ◌++◌, length, slice_get, Some, refl, ap, sym, ◌∙◌, subst, arith, length-append}
+use Rattle.std.proofs.Common.{◌≡◌, ℕ, ◌+◌, ◌≤◌, ◌⊎◌, inl, inr, List, [], ◌∷◌, ◌++◌, length, slice_get, Some, refl, ap, sym, ◌∙◌, subst, arith, length-append}
 use Rattle.std.proofs.lemmas.Option.{slice_get_within}
 use Rattle.gcl_model.specs.Collections.{Collection, text_of}
 use Rattle.live_version.specs.Contents.{VersionContent, version_text}
@@ -8,7 +8,7 @@ use Rattle.manifest_publish.specs.Accounts.{EndsWith}
 use Rattle.manifest_publish.proofs.HistoryLemmas.{latest-number}
 use Rattle.manifest_publish.proofs.PlaceLemmas.{each-stands}
 use Rattle.collection.specs.Engines.{EngineContent}
-use Rattle.query_lanes.specs.Merges.{IsMerged, IsMergedWhere, HasOneText}
+use Rattle.query_lanes.specs.Merges.{IsMerged, HasOneText}
 use Rattle.query_lanes.proofs.ListLemmas.{get_behind, get_more}
 
 -- the last version stands at the place of its number
@@ -39,10 +39,6 @@ kept_text history v w ends keeps =
     let stands = each-stands history v.number v ends.0 (latest_at history v ends) in
     same_text v stands.0 stands.1 ∙ sym (same_text w stands.0 (keeps stands.0 stands.1))
 
--- nothing was published
-pub unchanged_text : (e : EngineContent) → EndsWith e.history e.version → HasOneText e e
-unchanged_text e ends = record { ends = ends; texts = λ i v far here. ap version_text (last_is e.history e.version v i ends far here) }
-
 -- all slots were merged
 pub merged_text : (old new : EngineContent) → EndsWith old.history old.version → IsMerged old new → HasOneText old new
 merged_text old new ends merged =
@@ -55,17 +51,3 @@ merged_text old new ends merged =
     text_at : (i : ℕ) (v : VersionContent) → length old.history ≤ i + 1 → (slice_get old.history i ≡ Some v) ⊎ ((i ≡ length old.history) × (new.version ≡ v)) → version_text v ≡ version_text new.version
     text_at i v far (inl before) = ap version_text (last_is old.history old.version v i ends far before) ∙ kept_text old.history old.version new.version ends merged.1.change.stands
     text_at i v far (inr now) = ap version_text (sym now.1)
-
--- an engine that did not change stands for what it stood for
-pub same_keeps : (old new : EngineContent) → new ≡ old → Keeps old.version new.version
-same_keeps old new same = λ c stands. subst (λ (e : EngineContent). StandsFor e.version c) (sym same) stands
-
--- whether or not a merge is wanted, the engine stands for what it stood for
-pub where_keeps : (wanted : Bool) (old new : EngineContent) → IsMergedWhere wanted old new → Keeps old.version new.version
-where_keeps true old new merged = merged.1.change.stands
-where_keeps false old new same = same_keeps old new same
-
--- and its publisher is the same
-pub where_publisher : (wanted : Bool) (old new : EngineContent) → IsMergedWhere wanted old new → new.publisher ≡ old.publisher
-where_publisher true old new merged = merged.1.published.publisher
-where_publisher false old new same = ap (λ (e : EngineContent). e.publisher) same

@@ -1,6 +1,5 @@
 -- What a reader knows after some enterings.
-use Rattle.std.proofs.Common.{◌≡◌, zero, suc, inl, inr, List, [], ◌∷◌, ap, refl, sym, ◌∙◌, subst, arith}
-use Rattle.std.specs.List.{AllByRecursion}
+use Rattle.std.proofs.Common.{◌≡◌, suc, inl, inr, List, [], ◌∷◌, refl, sym, ◌∙◌, subst, arith}
 use mathlib.Core.List.{IsPrefix}
 use Rattle.logbook.specs.Pages.{Book}
 use Rattle.live_version.specs.Contents.{VersionContent}
@@ -40,22 +39,7 @@ pub later_refused : (before after : ReaderContent) → IsRefused before after �
 later_refused before after (inl same) = let Q : ReaderContent → Type 0 = λ r. IsLater before r in subst Q (sym same) (later_self before)
 later_refused before after (inr has) = let Q : ReaderContent → Type 0 = λ r. IsLater before r in subst Q (sym has.2) (later_seen before (reached before has.0) refl has.1.2)
 
--- its entering changed nothing
-pub later_same : (before after : ReaderContent) → after ≡ before → IsLater before after
-later_same before after same = later_refused before after (inl same)
-
--- readers that are all of a publisher are so at each place
-pub each_is_of : (publisher : Book) (readers : List ReaderContent) → AreOf publisher readers → EachIsOf publisher readers
-each_is_of publisher [] all i d lt = absurd (omega arith)
-each_is_of publisher (r ∷ readers) all zero d lt = all.0
-each_is_of publisher (r ∷ readers) all (suc i) d lt = each_is_of publisher readers all.1 i d (omega arith)
-
--- and the other way
+-- readers that are a publisher's at each place are all of it
 pub are_of : (publisher : Book) (readers : List ReaderContent) → EachIsOf publisher readers → AreOf publisher readers
 are_of publisher [] each = tt
 are_of publisher (r ∷ readers) each = (each 0 r (omega arith), are_of publisher readers (λ i d lt. each (suc i) d (omega arith)))
-
--- the readers of an engine that was just opened are its publisher's
-pub opened_of : (publisher : Book) (history : List VersionContent) (readers : List ReaderContent) → AllByRecursion (λ reader. reader ≡ with_pass publisher history) readers → AreOf publisher readers
-opened_of publisher history readers all =
-    all_weaker (λ reader. reader ≡ with_pass publisher history) (λ reader. reader.publisher ≡ publisher) readers (λ reader is. ap (λ (r : ReaderContent). r.publisher) is) all

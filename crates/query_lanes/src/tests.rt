@@ -9,10 +9,9 @@ use collection::{Engine, Opened};
 use gcl_model::Expr;
 use gcl_parser::{ParseFault, QueryFault, parse};
 use manifest_publish::Reader;
-use outside::{FreeGate, Gate};
+use outside::{FreeGate, Gate, TurnGate};
 use std::alloc::{AllocError, Global};
 use std::sync::Wait;
-use std::sync::atomic::{AtomicBool, Ordering};
 use std::test::Fail;
 use std::thread::Threads;
 
@@ -179,55 +178,33 @@ fn any_number_of_readers_gives_the_same_answers(rt: HostRuntime) -> Result<(), F
     Ok(())
 }
 
-/// Holds the publication until a query has begun, or until it has looked so often that none will.
-#[derive(Drop)]
-struct Meeting {
-    begun: AtomicBool,
-    met: AtomicBool,
-}
-
-impl Gate for Meeting {
-    fn before_query(&self, _n: u64) {
-        self.begun.store(true, Ordering::SeqCst);
-    }
-
-    fn after_query(&self, _n: u64, _version: u64) {}
-
-    fn before_publish(&self, _n: u64) {
-        for _ in 0..1u64 << 28 {
-            if self.begun.load(Ordering::SeqCst) {
-                self.met.store(true, Ordering::SeqCst);
-                return;
-            }
-        }
-    }
-
-    fn after_publish(&self, _n: u64) {}
-}
-
-/// Whether a merge that waits for a query met one, and the answers are those of the table.
-fn meets<R: Threads + Wait + Sync>(rt: &R, alloc: Global) -> Result<bool, AllocError> {
+/// On which versions the first two queries of a batch beside a merge were answered, where the merge waits for the second and the second
+/// for the merge, and all answers are those of the table.
+fn take_turns<R: Threads + Wait + Sync>(
+    rt: &R,
+    alloc: Global,
+) -> Result<Option<(u64, u64)>, AllocError> {
     let Opened {
         mut engine,
         mut readers,
         lines: _lines,
-    } = opened(rt, alloc, 2)?;
-    let gate = Meeting {
-        begun: AtomicBool::new(false),
-        met: AtomicBool::new(false),
-    };
+    } = opened(rt, alloc, 1)?;
+    let gate = TurnGate::new();
     let answered = added(rt, &mut engine)
         && match answered(rt, alloc, &gate, true, &mut engine, readers.as_mut_slice()) {
             Ok(answers) => are_those_of_the_table(alloc, answers.as_slice()) == Ok(true),
             Err(_) => false,
         };
     engine.end(rt);
-    Ok(answered && gate.met.load(Ordering::SeqCst))
+    if !answered || gate.ran_out() {
+        return Ok(None);
+    }
+    Ok(Some((gate.answered_on(1), gate.answered_on(2))))
 }
 
 #[test]
-fn queries_are_answered_in_another_thread_than_the_merge(rt: HostRuntime) -> Result<(), Fail> {
-    let met = meets(&rt, rt.alloc())?;
-    assert!(rt; met);
+fn a_merge_in_another_thread_comes_between_two_queries(rt: HostRuntime) -> Result<(), Fail> {
+    let versions = take_turns(&rt, rt.alloc())?;
+    assert_eq!(rt; versions, Some((1, 2)));
     Ok(())
 }

@@ -5,7 +5,6 @@ use Rattle.std.proofs.lemmas.Bool.Decides.{nat_tests}
 use Rattle.std.proofs.lemmas.List.{length-append, length-map}
 use Rattle.std.proofs.lemmas.List.Folds.{list_any-append}
 use Rattle.std.proofs.lemmas.Grind.{flat_map-append}
-use Rattle.outside.specs.Contents.{Contents, BeginsContent}
 use Rattle.gcl_model.specs.Extents.{Extent}
 use Rattle.gcl_model.specs.Forms.{Form}
 use Rattle.gcl_model.specs.Meaning.{concordance}
@@ -13,14 +12,14 @@ use Rattle.gcl_model.specs.Limits.{address_end}
 use Rattle.gcl_model.specs.Texts.{Text}
 use Rattle.gcl_model.specs.Tokens.{tokens_of}
 use Rattle.gcl_model.specs.Slots.{SlotRange, slot_range, slots_after_add, slots_after_merge}
-use Rattle.gcl_model.specs.Collections.{Collection, width_of, text_of, with_file, without_file, has_file}
+use Rattle.gcl_model.specs.Collections.{Collection, width_of, text_of, without_file, has_file}
 use Rattle.address_space.specs.Runs.{FileEntry}
 use Rattle.live_version.specs.Contents.{SlotContent, VersionContent, ranges_of, files_of, version_text}
 use Rattle.live_version.specs.Changes.{file_with_id}
 use Rattle.live_version.specs.StandsFor.{StandsFor, entry_of}
 use Rattle.live_version.proofs.PartLaws.{has_text, has_files}
 use Rattle.collection.specs.Engines.{EngineContent}
-use Rattle.collection.specs.Changes.{IsAdd, IsDelete, IsMerge}
+use Rattle.collection.specs.Changes.{IsAdd}
 use Rattle.collection.specs.declared.engine.Added.{Added}
 use Rattle.script_lang.specs.Answers.{file_line, gone_line, interval_line, total_line, shards_line, merging_line, is_refusal}
 use Rattle.script_lang.specs.declared.commands.Command.TheVariants.{Add}
@@ -31,8 +30,8 @@ use Rattle.gcl_parser.specs.Refusal.{refused}
 use Rattle.gcl_parser.specs.QueryForm.{query_form}
 use Rattle.gcl_parser.proofs.QueryForms.{query_forms_are_of_queries}
 use Rattle.script_lang.proofs.AnswerLemmas.{interval_line-plain, total_line-plain, record_line-plain}
-use Rattle.query_run.specs.States.{State, Keeps, slots_soon}
-use Rattle.query_run.specs.Answers.{Reply, text_of_lines, refusal_lines, unchanged, last_address, state_with_file, state_without_file, state_merged, content_reply, add_reply, del_reply, list_lines, record_lines, files_lines, asked_lines, query_lines, lines_by, reply, after_reply}
+use Rattle.query_run.specs.States.{State, Keeps}
+use Rattle.query_run.specs.Answers.{Reply, text_of_lines, refusal_lines, unchanged, last_address, state_with_file, state_without_file, state_merged, content_reply, del_reply, list_lines, record_lines, files_lines, asked_lines, query_lines, lines_by, reply}
 use Rattle.query_run.specs.Progress.{Says, Follows, Gives, StopsWithin}
 use Rattle.query_run.specs.declared.limits.Limits.{Limits}
 use Rattle.query_run.specs.declared.queries.Asked.{Asked}

@@ -1,11 +1,11 @@
 -- The replies to saving and opening, by what an engine and the files do.
-use Rattle.std.proofs.Common.{◌≡◌, ℕ, ◌+◌, ◌^◌, ◌≤◌, ◌<◌, inl, inr, Bool, true, false, List, [], ◌∷◌, ◌++◌, map, length, bytes_eq, nat_lt, Option, None, Some, IfSome, refl, sym, ap, ◌∙◌, subst, arith}
+use Rattle.std.proofs.Common.{◌≡◌, ℕ, ◌+◌, ◌≤◌, ◌<◌, inl, inr, Bool, true, false, List, [], ◌∷◌, ◌++◌, length, bytes_eq, nat_lt, Option, None, Some, IfSome, refl, sym, ap, ◌∙◌, subst, arith}
 use Rattle.std.specs.Option.{option_map}
 use Rattle.std.proofs.lemmas.Bool.{cases_Bool}
 use Rattle.std.proofs.lemmas.Bool.Decides.{nat_tests}
 use Rattle.std.proofs.lemmas.List.{length-append, length-map}
 use Rattle.std.proofs.lemmas.Slice.Eq.{bytes_eq-Decides}
-use Rattle.std.specs.Prelude.{Contains, Result, Ok, Err, OnErr}
+use Rattle.std.specs.Prelude.{Result, Ok, Err, OnErr}
 use Rattle.outside.specs.Contents.{Contents, BeginsContent, ChangesOnly, changed_at}
 use Rattle.gcl_model.specs.Limits.{most_file}
 use Rattle.gcl_model.specs.Tokens.{tokens_of}
@@ -24,11 +24,10 @@ use Rattle.script_lang.specs.declared.commands.Command.TheVariants.{Save, Load}
 use Rattle.script_lang.specs.declared.refusals.Refusal.TheVariants.{TooLong, NotEmpty, NotImage}
 use Rattle.query_run.specs.Images.{image_of, IsReading}
 use Rattle.query_run.specs.States.{State, Keeps, IsFresh}
-use Rattle.query_run.specs.Answers.{Reply, unchanged, refusal_lines, state_keeping, state_opened, bytes_reply, reading_reply, image_reply, open_reply, reply, after_reply, IsReadBy}
+use Rattle.query_run.specs.Answers.{Reply, unchanged, refusal_lines, state_keeping, bytes_reply, reading_reply, image_reply, reply, after_reply, IsReadBy}
 use Rattle.query_run.specs.Progress.{Says, Follows, Gives, HoldsWithin, IsAt, StopsWithin}
-use Rattle.query_run.specs.Runs.{HoldsBut}
 use Rattle.query_run.specs.declared.limits.Limits.{Limits}
-use Rattle.query_run.proofs.ImageLemmas.{reads, reads_none, spelled_short, tokens_short}
+use Rattle.query_run.proofs.ImageLemmas.{reads, spelled_short, tokens_short}
 use Rattle.query_run.proofs.Replies.{one_line, gives, tells, refused_follows}
 
 -- bytes that are too many are refused, and others are kept

@@ -1,10 +1,9 @@
 -- Answers to lists of lines that are put together, and how far a script has come.
-use Rattle.std.proofs.Common.{◌≡◌, ℕ, ◌+◌, ◌-◌, ◌≤◌, ◌<◌, ◌⊎◌, inl, inr, Bool, true, false, nat_lt, List, [], ◌∷◌, ◌++◌, length, take, drop, zero, suc, refl, sym, ap, ◌∙◌, append_assoc, append-nil, Option, Some, None, IsSome, IfSome, IsSomeAnd, length-append, subst, arith, take-add, take_all}
+use Rattle.std.proofs.Common.{◌≡◌, ℕ, ◌+◌, ◌-◌, ◌≤◌, inl, inr, Bool, true, false, nat_lt, List, [], ◌∷◌, ◌++◌, length, take, drop, zero, suc, refl, sym, ap, ◌∙◌, append_assoc, append-nil, Option, Some, None, IsSome, IfSome, IsSomeAnd, length-append, subst, arith, take-add, take_all}
 use Rattle.std.proofs.lemmas.List.{take-take, take-append-drop, length-drop, drop-drop}
-use Rattle.std.specs.Prelude.{◌||◌, Result, Err, if◌then◌else◌}
+use Rattle.std.specs.Prelude.{◌||◌, Err, if◌then◌else◌}
 use Rattle.std.specs.Option.{option_map}
-use Rattle.std.specs.List.{list_any}
-use Rattle.std.specs.Io.KnownBytes.{Appends, Consumes, IsAtEnd}
+use Rattle.std.specs.Io.KnownBytes.{Consumes, IsAtEnd}
 use Rattle.std.proofs.lemmas.List.Folds.{list_any-append}
 use Rattle.std.proofs.lemmas.Grind.{flat_map-append}
 use Rattle.outside.specs.Contents.{Contents}
@@ -14,7 +13,7 @@ use Rattle.gcl_model.specs.Tokens.{tokens_of}
 use Rattle.gcl_model.specs.Collections.{Collection, empty_from, has_file, width_of}
 use Rattle.live_version.specs.Contents.{VersionContent, ranges_of}
 use Rattle.script_lang.specs.Lines.{Line, lines}
-use Rattle.script_lang.specs.Answers.{is_refusal, file_line, gone_line, opened_line}
+use Rattle.script_lang.specs.Answers.{file_line, gone_line}
 use Rattle.script_lang.specs.Commands.{command_of}
 use Rattle.script_lang.specs.declared.commands.Command.{Command}
 use Rattle.script_lang.specs.declared.commands.Command.TheVariants.{Blank, Add, Del, Find, Count, Top, Files, Merge, Shards, Save, Load, Wrong}
@@ -23,8 +22,8 @@ use Rattle.live_version.specs.StandsFor.{StandsFor}
 use Rattle.collection.specs.Engines.{EngineContent}
 use Rattle.query_run.specs.States.{State, opening, Keeps, IsFresh}
 use Rattle.query_run.specs.Images.{Images}
-use Rattle.query_run.specs.Answers.{Reply, text_of_lines, answer, after_reply, state_after, with_later, answers, AllAnswered, AreRead, IsRead, names_of, names_of_line, names_kept, names_kept_of, names_kept_of_line, unchanged, refusal_lines, content_reply, add_reply, image_reply, open_reply, reading_reply, last_address, state_with_file, state_without_file, state_opened, reply}
-use Rattle.query_run.specs.Progress.{lines_of, answer_text, AreAnswered, HasCome, HasWritten, HoldsAfter, HoldsSaved, HoldsWithin, IsAt, StopsWithin}
+use Rattle.query_run.specs.Answers.{Reply, text_of_lines, answer, after_reply, state_after, with_later, answers, AllAnswered, AreRead, IsRead, names_of, names_of_line, names_kept, names_kept_of, names_kept_of_line, unchanged, refusal_lines, content_reply, add_reply, image_reply, open_reply, reading_reply, last_address, state_with_file, state_without_file, reply}
+use Rattle.query_run.specs.Progress.{lines_of, answer_text, AreAnswered, HasCome, HasWritten, HoldsSaved, HoldsWithin, IsAt, StopsWithin}
 use Rattle.query_run.specs.Runs.{GetsPart, HasAnswered, HoldsBut, IsLeftBy, IsStopped, HandsOverMore}
 use Rattle.query_run.specs.declared.limits.Limits.{Limits}
 use Rattle.query_run.proofs.Writing.{Appends-trans, Appends-none}

@@ -1,14 +1,13 @@
 -- Where it is known what the source has left and what the files hold, and of what the lines open it is said rightly what it is an image of.
-use Rattle.std.proofs.Common.{◌≡◌, ℕ, ◌+◌, ◌≤◌, inl, Bool, List, [], length, take, drop, refl, sym, ap, subst, ◌∙◌, Option, Some, None, arith}
-use Rattle.std.specs.Io.KnownBytes.{Appends, Consumes, IsAtEnd}
+use Rattle.std.proofs.Common.{◌≡◌, ℕ, ◌+◌, ◌≤◌, inl, Bool, List, [], length, take, refl, sym, subst, Option, Some, None, arith}
+use Rattle.std.specs.Io.KnownBytes.{Consumes, IsAtEnd}
 use Rattle.outside.specs.Contents.{Contents}
-use Rattle.live_version.specs.StandsFor.{StandsFor}
 use Rattle.collection.specs.Engines.{EngineContent}
-use Rattle.script_lang.specs.Lines.{Line, lines}
+use Rattle.script_lang.specs.Lines.{lines}
 use Rattle.query_run.specs.Images.{Images}
-use Rattle.query_run.specs.States.{State, opening, Keeps, IsFresh}
-use Rattle.query_run.specs.Answers.{answers, text_of_lines, output_by, state_after, AreRead, names_kept_of}
-use Rattle.query_run.specs.Runs.{WhereTold, GetsPart, HasAnswered, HoldsBut, IsAnsweredBy, IsLeftBy, IsStopped}
+use Rattle.query_run.specs.States.{State, opening, IsFresh}
+use Rattle.query_run.specs.Answers.{answers, text_of_lines, output_by, AreRead}
+use Rattle.query_run.specs.Runs.{WhereTold, GetsPart, HasAnswered, IsAnsweredBy, IsStopped}
 use Rattle.query_run.specs.declared.limits.Limits.{Limits}
 use Rattle.query_run.proofs.Scripts.{fresh_keeps, part_of_all, all_read}
 use Rattle.query_run.proofs.Writing.{Appends-none}

@@ -1,4 +1,4 @@
-use Rattle.std.proofs.Common.{◌≡◌, ℕ, ◌+◌, ◌-◌, ◌≤◌, List, [], length, take, drop, Some}
+use Rattle.std.proofs.Common.{◌≡◌, ◌+◌, ◌-◌, ◌≤◌, [], length, take, drop, Some}
 use Rattle.outside.specs.Contents.{Contents}
 use Rattle.image_file.specs.Images.{CanBeSaved}
 use Rattle.script_lang.specs.Lines.{lines}

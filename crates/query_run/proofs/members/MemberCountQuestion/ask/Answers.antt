@@ -1,4 +1,4 @@
-use Rattle.std.proofs.Common.{◌≡◌, ◌+◌, ◌≤◌, sym, subst}
+use Rattle.std.proofs.Common.{◌+◌, ◌≤◌, sym, subst}
 use Rattle.gcl_model.specs.FormOf.{form_of}
 use Rattle.live_version.specs.Contents.{VersionContent, version_text}
 use Rattle.reader_pass.specs.Members.{look_ups, access_most}
