@@ -15,6 +15,7 @@ mod files;
 mod gate;
 mod sink;
 mod source;
+mod turn_gate;
 
 pub use fail_list::FailList;
 pub use faults::{Failed, FileError, WriteError};
@@ -22,6 +23,7 @@ pub use files::{Files, Loaded, MemFiles, SureFiles};
 pub use gate::{FreeGate, Gate};
 pub use sink::{MemSink, Sink, SureSink};
 pub use source::{MemSource, Source, SureSource};
+pub use turn_gate::TurnGate;
 
 #[cfg(test)]
 mod tests;

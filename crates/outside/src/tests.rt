@@ -1,6 +1,6 @@
 use crate::{
-    FileError, Files, Loaded, MemFiles, MemSink, MemSource, Sink, Source, SureFiles, SureSink,
-    SureSource,
+    FileError, Files, Gate, Loaded, MemFiles, MemSink, MemSource, Sink, Source, SureFiles,
+    SureSink, SureSource, TurnGate,
 };
 use gcl_model::Bytes;
 use std::alloc::{AllocError, Global};
@@ -136,5 +136,30 @@ fn a_sure_name_that_is_not_held_has_no_bytes(rt: HostRuntime) -> Result<(), Fail
         (Ok(Loaded::Long), b"or no".as_slice())
     );
     assert_eq!(rt; files.content(b"a"), Some(b"to be".as_slice()));
+    Ok(())
+}
+
+#[test]
+fn a_publication_that_no_query_follows_runs_out_of_looks(rt: HostRuntime) -> Result<(), Fail> {
+    let gate = TurnGate::new();
+    assert!(rt; !gate.ran_out());
+    gate.before_publish(1);
+    assert!(rt; gate.ran_out());
+    Ok(())
+}
+
+#[test]
+fn a_query_after_the_publication_is_not_held(rt: HostRuntime) -> Result<(), Fail> {
+    let gate = TurnGate::new();
+    gate.before_query(1);
+    gate.after_query(1, 4);
+    gate.after_publish(5);
+    gate.before_query(2);
+    gate.after_query(2, 5);
+    gate.before_publish(6);
+    assert_eq!(rt;
+        (gate.answered_on(1), gate.answered_on(2), gate.ran_out()),
+        (4, 5, false)
+    );
     Ok(())
 }
