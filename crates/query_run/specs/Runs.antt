@@ -109,3 +109,9 @@ pub record IsSummed (made : Made) (start : State) (refusal : Bool) (old new : Op
   pub all : AllAnswered greatest_limits start (lines most_line (made_text made.start made.count))
   pub written : Appends old new (made_summary made start)
   pub refusal_is : refusal ≡ has_refusal_by greatest_limits start (made_text made.start made.count)
+
+-- every line of the made script has an answer, and what was written so far are the answers; they have a refusal line or none
+pub record AreTold (made : Made) (start : State) (refusal : Bool) (written : Option (List ℕ)) : Type 0 where
+  pub all : AllAnswered greatest_limits start (lines most_line (made_text made.start made.count))
+  pub written_is : written ≡ Some (output start (made_text made.start made.count))
+  pub refusal_is : refusal ≡ has_refusal_by greatest_limits start (made_text made.start made.count)

@@ -6,7 +6,7 @@ ghost use Rattle.outside.specs.Causes.{Rose};
 ghost use Rattle.gcl_model.specs.Limits.{address_end};
 ghost use Rattle.command_words.specs.Grammar.{most_made};
 ghost use Rattle.query_run.specs.Statuses.{IsAllAnswered, IsMadeEnd};
-ghost use Rattle.query_run.specs.Runs.{WhereMade, GetsPart, IsSummed, made_summary};
+ghost use Rattle.query_run.specs.Runs.{WhereMade, GetsPart, IsSummed, AreTold, made_summary};
 
 use crate::run_fault::RunFault;
 use crate::script_run::run_script;
@@ -37,22 +37,57 @@ pub fn run_made<R: Threads + Wait + Sync, K: Sink, G: Gate + Sync>(
     ensures write_fault { result ≡ Status.WriteFault → Rose (K.faults sink.old) (K.faults sink.new) }
     ensures calm { IsAllAnswered result → K.faults sink.new ≡ K.faults sink.old }
 {
-    let Ok(script) = made_script(alloc, made.start, made.count) else {
+    let Some(answers) = answer_made(rt, alloc, first, made, gate) else {
         return Status::NoMemory;
     };
-    let mut files = MadeFiles::new(alloc, made.start, made.count);
-    let mut source = SureSource::new(alloc, script.text);
-    let mut summary = SummarySink::new();
-    let status = run_script(rt, alloc, first, &mut files, &mut source, &mut summary, gate);
-    if status != Status::Done && status != Status::DoneWithRefusals {
-        // objects that never fail leave want of memory alone
-        return Status::NoMemory;
-    }
-    match write_summary(alloc, &summary, made, script.lines, sink) {
-        Ok(()) => status,
+    match write_summary(alloc, &answers.told, made, answers.lines, sink) {
+        Ok(()) if answers.refused => Status::DoneWithRefusals,
+        Ok(()) => Status::Done,
         Err(RunFault::Write) => Status::WriteFault,
         Err(_) => Status::NoMemory,
     }
+}
+
+// The answers to a made script, as far as a summary tells of them.
+#[derive(Drop)]
+struct MadeAnswers {
+    told: SummarySink,
+    // whether one of them is a refusal
+    refused: bool,
+    // how many lines the script has
+    lines: u64,
+}
+
+// Answers the script of a made corpus. None comes for want of memory alone, since the objects never fail.
+fn answer_made<R: Threads + Wait + Sync, G: Gate + Sync>(
+    rt: &R,
+    alloc: Global,
+    first: u64,
+    made: Made,
+    gate: &G,
+) -> Option<MadeAnswers>
+    requires in_range { first ≤ address_end }
+    requires few { made.count ≤ most_made }
+    ensures answers { IfSome result (λ answers. WhereMade first made (λ start. AreTold made start answers.refused (⟦<SummarySink as Sink>⟧.written answers.told))) }
+    ensures lines { IfSome result (λ answers. answers.lines ≡ length (made_lines made.start made.count)) }
+{
+    let script = made_script(alloc, made.start, made.count).ok()?;
+    let mut files = MadeFiles::new(alloc, made.start, made.count);
+    let mut source = SureSource::new(alloc, script.text);
+    let mut told = SummarySink::new();
+    let status = run_script(
+        rt, alloc, first, &mut files, &mut source, &mut told, gate,
+    );
+    let refused = match status {
+        Status::Done => false,
+        Status::DoneWithRefusals => true,
+        _ => return None,
+    };
+    Some(MadeAnswers {
+        told,
+        refused,
+        lines: script.lines,
+    })
 }
 
 // Writes what was told of the answers.
