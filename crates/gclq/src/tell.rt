@@ -10,7 +10,8 @@ use query_run::{SCRIPT_MOST, Status};
 use std::process::ExitCode;
 
 /// The words that the program takes.
-pub const USAGE: &str = "usage: gclq [--first ADDRESS] [--readers NUMBER] [--made NUMBER --count NUMBER]";
+pub const USAGE: &str =
+    "usage: gclq [--first ADDRESS] [--readers NUMBER] [--made NUMBER --count NUMBER]";
 
 /// One line on standard error for each status from 2 on, with the word or the name that it is about.
 pub fn tell<R: Eprint>(rt: &R, status: Status, words: &[Bytes], name: &[u8]) {

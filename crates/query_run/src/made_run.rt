@@ -75,9 +75,7 @@ fn answer_made<R: Threads + Wait + Sync, G: Gate + Sync>(
     let mut files = MadeFiles::new(alloc, made.start, made.count);
     let mut source = SureSource::new(alloc, script.text);
     let mut told = SummarySink::new();
-    let status = run_script(
-        rt, alloc, first, &mut files, &mut source, &mut told, gate,
-    );
+    let status = run_script(rt, alloc, first, &mut files, &mut source, &mut told, gate);
     let refused = match status {
         Status::Done => false,
         Status::DoneWithRefusals => true,

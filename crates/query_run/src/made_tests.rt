@@ -26,7 +26,15 @@ fn told<R: Threads + Wait + Sync + AllocGlobal>(
     let mut source = SureSource::new(alloc, Bytes::new(alloc));
     let mut sink = SureSink::new(alloc);
     let words = words.as_slice();
-    let status = run(rt, alloc, words, &mut files, &mut source, &mut sink, &FreeGate);
+    let status = run(
+        rt,
+        alloc,
+        words,
+        &mut files,
+        &mut source,
+        &mut sink,
+        &FreeGate,
+    );
     Ok((status, sink.written().to_vec(alloc)?))
 }
 
@@ -46,7 +54,15 @@ fn summed<R: Threads + Wait + Sync + AllocGlobal>(
     let mut source = SureSource::new(alloc, script.text);
     let mut sink = SureSink::new(alloc);
     let words = words.as_slice();
-    let _ = run(rt, alloc, words, &mut files, &mut source, &mut sink, &FreeGate);
+    let _ = run(
+        rt,
+        alloc,
+        words,
+        &mut files,
+        &mut source,
+        &mut sink,
+        &FreeGate,
+    );
     let mut summary = SummarySink::new();
     summary.write(sink.written())?;
     let mut out = Vec::new(alloc);
@@ -84,7 +100,13 @@ fn the_five_lines_are_those_of_the_whole_output_for_every_number_of_readers(
 ) -> Result<(), Fail> {
     let want = summed(&rt, &[b"--first=3"], 7, 500)?;
     for readers in [b"1".as_slice(), b"4", b"16"] {
-        let words = [b"--made=7".as_slice(), b"--count=500", b"--first=3", b"--readers", readers];
+        let words = [
+            b"--made=7".as_slice(),
+            b"--count=500",
+            b"--first=3",
+            b"--readers",
+            readers,
+        ];
         let (status, written) = told(&rt, &words)?;
         assert_eq!(rt; written.as_slice(), want.as_slice(), "{readers:?}");
         assert_eq!(rt; status, Status::DoneWithRefusals, "{readers:?}");
