@@ -10,7 +10,7 @@ use Rattle.query_run.proofs.script_run.run_script.Goals as goal
 pub unreachable-requires : goal.unreachable-requires
 unreachable-requires g c =
     let over : address_end < c.args.first = ((c.in-Err-BadFirst.ensures.bad_first c.in-Err-BadFirst.field-0-0).0 (rw c.in-Err-BadFirst.field-0-is refl)).1 in
-    let within : c.args.first ≤ address_end = c.requires in
+    let within : c.args.first ≤ address_end = c.requires.in_range in
     omega (arith, over, within)
 
 pub returns-clause-part_within : goal.returns-clause-part_within
