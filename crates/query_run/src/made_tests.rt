@@ -1,3 +1,5 @@
+ghost use Rattle.std.specs.Prelude.{◌≤◌};
+
 use crate::{Status, run};
 use gcl_model::Bytes;
 use made_corpus::{MadeFiles, SummarySink, made_script};
