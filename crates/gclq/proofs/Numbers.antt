@@ -1,5 +1,5 @@
 -- A status is known by its number.
-use Rattle.std.proofs.Common.{◌≡◌, ℕ, eqb, cond, refl, sym, subst, ap, ◌∙◌, inl, inr}
+use Rattle.std.proofs.Common.{◌≡◌, ℕ, eqb, cond, refl, sym, subst, ap, ◌∙◌, ◌⊎◌, inl, inr}
 use Rattle.query_run.specs.Statuses.{number_of, IsFinished}
 use Rattle.query_run.specs.declared.status.Status.{Status}
 use Rattle.query_run.specs.declared.status.Status.TheVariants.{Done, DoneWithRefusals, Usage, ReadFault, WriteFault, FileFault, NoMemory, ScriptTooLong}
@@ -42,3 +42,8 @@ finished_number ScriptTooLong n p is = absurd is
 pub answered_status : (s : Status) (n : ℕ) → n ≡ number_of s → E.IsAllAnswered n → S.IsAllAnswered s
 answered_status s n p (inl zero) = subst S.IsAllAnswered (sym (same_status s Done n p zero)) tt
 answered_status s n p (inr one) = subst S.IsAllAnswered (sym (same_status s DoneWithRefusals n p one)) tt
+
+-- where the words are outside the grammar, the status is known by its number, or memory was wanted
+pub usage_number : (s : Status) (n : ℕ) → n ≡ number_of s → (s ≡ Usage) ⊎ (s ≡ NoMemory) → (n ≡ 2) ⊎ (n ≡ 6)
+usage_number s n p (inl usage) = inl (p ∙ ap number_of usage)
+usage_number s n p (inr none) = inr (p ∙ ap number_of none)

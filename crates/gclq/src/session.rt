@@ -2,11 +2,12 @@ ghost use Rattle.std.specs.Prelude.{◌≡◌, ◌≤◌, ◌⊎◌, [], false, 
 ghost use Rattle.std.specs.Process.{exit_status};
 ghost use Rattle.outside.specs.Causes.{Rose};
 ghost use Rattle.gcl_model.specs.Limits.{most_line, most_script};
+ghost use Rattle.command_words.specs.Grammar.{options_of};
 ghost use Rattle.query_run.specs.Words.{first_of};
 ghost use Rattle.script_lang.specs.Lines.{lines};
 ghost use Rattle.query_run.specs.States.{greatest_limits};
 ghost use Rattle.query_run.specs.Answers.{names_of, names_kept_of, output};
-ghost use Rattle.query_run.specs.Runs.{WhereTold, GetsPart, IsAnswered, HandsOverMore, within};
+ghost use Rattle.query_run.specs.Runs.{WhereTold, WhereMadeBy, GetsPart, IsAnswered, IsSummed, HandsOverMore, made_summary, within};
 ghost use Rattle.gclq.specs.Exits.{IsEnd, IsAllAnswered};
 
 use crate::fault_name::FaultName;
@@ -28,9 +29,9 @@ pub fn answer<R: Threads + Wait + Sync + Eprint, F: FaultName, S: Source, K: Sin
     source: &mut S,
     sink: &mut K,
 ) -> ExitCode
-    // 2 exactly where the words are outside the grammar, and then nothing is touched.
-    ensures usage_only { exit_status result ≡ 2 → first_of words.now ≡ None }
-    ensures usage_always { first_of words.now ≡ None → exit_status result ≡ 2 }
+    // 2 exactly where the words are outside the grammar, but for want of memory, and then nothing is touched.
+    ensures usage_only { exit_status result ≡ 2 → options_of words.now ≡ None }
+    ensures usage_always { options_of words.now ≡ None → (exit_status result ≡ 2) ⊎ (exit_status result ≡ 6) }
     ensures untouched { exit_status result ≡ 2 → (source.new ≡ source.old) × (files.new ≡ files.old) × (sink.new ≡ sink.old) }
 
     // 0 where every line was answered and no answer is a refusal, 1 where one is.
@@ -53,7 +54,7 @@ pub fn answer<R: Threads + Wait + Sync + Eprint, F: FaultName, S: Source, K: Sin
 
     // Where the words are in the grammar, no object failed and the script is within the limit, all is answered, or
     // memory is wanted.
-    ensures complete { IsSome (first_of words.now) → ¬ Rose (S.faults source.old) (S.faults source.new) → ¬ Rose (K.faults sink.old) (K.faults sink.new) →
+    ensures complete { IsSome (options_of words.now) → ¬ Rose (S.faults source.old) (S.faults source.new) → ¬ Rose (K.faults sink.old) (K.faults sink.new) →
         ¬ Rose (F.faults files.old) (F.faults files.new) → IsSomeAnd (S.left source.old) (λ script. length script ≤ most_script) →
         IsEnd (exit_status result) }
 
@@ -65,6 +66,12 @@ pub fn answer<R: Threads + Wait + Sync + Eprint, F: FaultName, S: Source, K: Sin
     // No file is asked for that no line names, and where no line saves none changes.
     ensures unasked { IfSome (S.left source.old) (λ script. names_of (lines most_line script) ≡ [] → files.new ≡ files.old) }
     ensures unsaved { IfSome (S.left source.old) (λ script. names_kept_of (lines most_line script) ≡ [] → F.held files.new ≡ F.held files.old) }
+
+    // Over a made corpus the sink gets the summary of the output, or the beginning of the summary, and no other object is touched.
+    ensures summed { exit_status result ≡ 0 → WhereMadeBy (options_of words.now) (λ made start. IsSummed made start false (K.written sink.old) (K.written sink.new)) }
+    ensures summed_with_refusals { exit_status result ≡ 1 → WhereMadeBy (options_of words.now) (λ made start. IsSummed made start true (K.written sink.old) (K.written sink.new)) }
+    ensures part_summed { WhereMadeBy (options_of words.now) (λ made start. GetsPart (K.written sink.old) (K.written sink.new) (made_summary made start)) }
+    ensures untouched_by_made { IfSome (options_of words.now) (λ options. IsSome options.made → (source.new ≡ source.old) × (files.new ≡ files.old)) }
 {
     let status = run(rt, alloc, words, files, source, sink, &FreeGate);
     tell(rt, status, words, files.fault_name());

@@ -4,31 +4,25 @@ ghost use Rattle.gclq.specs.Exits.{word_status};
 ghost use Rattle.query_run.specs.Statuses.{number_of};
 
 use crate::words::WordFault;
+use command_words::wrong_word;
 use gcl_model::Bytes;
 use query_run::{SCRIPT_MOST, Status};
 use std::process::ExitCode;
 
-// The word at which the command line leaves the grammar.
-fn wrong_word(words: &[Bytes]) -> &[u8] {
-    match words {
-        [] => b"",
-        [word] => word.as_slice(),
-        [option, value] if option.as_slice() == b"--first".as_slice() => value.as_slice(),
-        [option, _, next, ..] if option.as_slice() == b"--first".as_slice() => next.as_slice(),
-        [option, next, ..] if option.as_slice().starts_with(b"--first=") => next.as_slice(),
-        [option, ..] => option.as_slice(),
-    }
-}
+/// The words that the program takes.
+pub const USAGE: &str =
+    "usage: gclq [--first ADDRESS] [--readers NUMBER] [--made NUMBER --count NUMBER]";
 
 /// One line on standard error for each status from 2 on, with the word or the name that it is about.
 pub fn tell<R: Eprint>(rt: &R, status: Status, words: &[Bytes], name: &[u8]) {
-    let word = str::from_utf8(wrong_word(words)).unwrap_or("");
+    let word = wrong_word(words).and_then(|word: &[u8]| str::from_utf8(word).ok());
     let name = str::from_utf8(name).unwrap_or("");
     let _ = match status {
         Status::Done | Status::DoneWithRefusals => Ok(()),
-        Status::Usage => eprintln!(rt;
-            "gclq: unexpected word `{word}`; usage: gclq [--first ADDRESS]"
-        ),
+        Status::Usage => match word {
+            Some(word) => eprintln!(rt; "gclq: unexpected word `{word}`; {USAGE}"),
+            None => eprintln!(rt; "gclq: a word comes twice, or its pair is missing; {USAGE}"),
+        },
         Status::ReadFault => eprintln!(rt; "gclq: the script could not be read"),
         Status::WriteFault => eprintln!(rt; "gclq: the answers could not be written"),
         Status::FileFault if name.is_empty() => eprintln!(rt;
@@ -55,7 +49,7 @@ pub fn refuse<R: Eprint>(rt: &R, fault: WordFault) -> ExitCode
 {
     match fault {
         WordFault::NotText => {
-            let _ = eprintln!(rt; "gclq: a word is not UTF-8; usage: gclq [--first ADDRESS]");
+            let _ = eprintln!(rt; "gclq: a word is not UTF-8; {USAGE}");
             exit(Status::Usage)
         }
         WordFault::NoMemory => {

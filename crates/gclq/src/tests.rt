@@ -32,7 +32,7 @@ struct Case<'a> {
     status: u8,
 }
 
-const CASES: [Case<'static>; 7] = [
+const CASES: [Case<'static>; 8] = [
     Case {
         name: "all is answered",
         words: &[],
@@ -56,6 +56,14 @@ const CASES: [Case<'static>; 7] = [
         fails: (&[], &[]),
         output: b"",
         status: 2,
+    },
+    Case {
+        name: "a made corpus takes the place of the script",
+        words: &[b"--made", b"0", b"--count", b"1"],
+        script: b"add b\n",
+        fails: (&[1], &[]),
+        output: b"made 0 1\nlines 4\nrefused 0\nbytes 24\nsum 1177\n",
+        status: 0,
     },
     Case {
         name: "the first read fails",

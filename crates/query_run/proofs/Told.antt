@@ -1,5 +1,5 @@
 -- Where it is known what the source has left and what the files hold, and of what the lines open it is said rightly what it is an image of.
-use Rattle.std.proofs.Common.{◌≡◌, ℕ, ◌+◌, ◌≤◌, inl, Bool, List, [], length, take, refl, sym, subst, Option, Some, None, arith}
+use Rattle.std.proofs.Common.{◌≡◌, ℕ, ◌+◌, ◌≤◌, inl, Bool, List, [], length, take, refl, sym, subst, Option, Some, None, IfSome, arith}
 use Rattle.std.specs.Io.KnownBytes.{Consumes, IsAtEnd}
 use Rattle.outside.specs.Contents.{Contents}
 use Rattle.collection.specs.Engines.{EngineContent}
@@ -7,8 +7,10 @@ use Rattle.script_lang.specs.Lines.{lines}
 use Rattle.query_run.specs.Images.{Images}
 use Rattle.query_run.specs.States.{State, opening, IsFresh}
 use Rattle.query_run.specs.Answers.{answers, text_of_lines, output_by, AreRead}
-use Rattle.query_run.specs.Runs.{WhereTold, GetsPart, HasAnswered, IsAnsweredBy, IsStopped}
+use Rattle.query_run.specs.Runs.{WhereTold, WhereMade, WhereMadeBy, GetsPart, HasAnswered, IsAnsweredBy, IsStopped, made_opening, made_summary}
 use Rattle.query_run.specs.declared.limits.Limits.{Limits}
+use Rattle.command_words.specs.declared.options.Made.{Made}
+use Rattle.command_words.specs.declared.options.Options.{Options}
 use Rattle.query_run.proofs.Scripts.{fresh_keeps, part_of_all, all_read}
 use Rattle.query_run.proofs.Writing.{Appends-none}
 
@@ -78,3 +80,17 @@ pub by_words : (o : Option ℕ) (limits limits' : Limits) (first : ℕ) (left : 
     WhereTold limits (Some first) left held (P limits) → WhereTold limits' o left held (P limits')
 by_words o limits limits' first left held P is same h =
     subst (λ (w : Option ℕ). WhereTold limits' w left held (P limits')) is (subst (λ (l : Limits). WhereTold l (Some first) left held (P l)) same h)
+
+-- nothing is a part of the summary of a made run
+made_before : (first : ℕ) (made : Option Made) (sink : Option (List ℕ)) → IfSome made (λ (m : Made). WhereMade first m (λ start. GetsPart sink sink (made_summary m start)))
+made_before first None sink = tt
+made_before first (Some made) sink = λ images read. record { part = []; rest = made_summary made (made_opening first made images); whole = refl; written = Appends-none sink }
+
+pub nothing_of_made : (options : Option Options) (sink : Option (List ℕ)) → WhereMadeBy options (λ made start. GetsPart sink sink (made_summary made start))
+nothing_of_made None sink = tt
+nothing_of_made (Some options) sink = made_before options.first options.made sink
+
+-- what is as it was is so at each script
+pub kept_at : {X : Type 0} (left : Option (List ℕ)) (P : List ℕ → Type 0) (x : X) → IfSome left (λ script. P script → x ≡ x)
+kept_at None P x = tt
+kept_at (Some script) P x = λ p. refl

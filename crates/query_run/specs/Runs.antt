@@ -8,8 +8,14 @@ use Rattle.live_version.specs.StandsFor.{StandsFor}
 use Rattle.collection.specs.Engines.{EngineContent}
 use Rattle.query_run.specs.States.{State, opening, greatest_limits, Keeps}
 use Rattle.query_run.specs.Images.{Images}
-use Rattle.query_run.specs.Answers.{text_of_lines, answers, state_after, AllAnswered, AreRead, output_by, has_refusal_by, names_kept_of}
+use Rattle.query_run.specs.Answers.{text_of_lines, answers, state_after, AllAnswered, AreRead, output_by, output, has_refusal_by, names_kept_of}
 use Rattle.query_run.specs.declared.limits.Limits.{Limits}
+use Rattle.gcl_model.specs.Limits.{most_line}
+use Rattle.made_corpus.specs.MadeFiles.{made_files}
+use Rattle.made_corpus.specs.MadeLines.{made_text}
+use Rattle.made_corpus.specs.Summary.{summary}
+use Rattle.command_words.specs.declared.options.Made.{Made}
+use Rattle.command_words.specs.declared.options.Options.{Options}
 
 -- At the state before the first line and the script: where the words give an address, it is known what the source has left and what the
 -- files hold, and of each content that the lines open it is said rightly what it is an image of
@@ -80,3 +86,32 @@ ended (b ∷ rest) = if b == 10 then 10 ∷ ended rest else before_any b (ended 
 -- of a script that is too long, the lines that end within the limit
 abbrev pub within : ℕ → List ℕ → List ℕ
 within most script = ended (take most script)
+
+-- the state before the first line of a made script: only the made names have bytes
+abbrev pub made_opening : ℕ → Made → Images → State
+made_opening first made images = opening first (made_files made.start made.count) images
+
+-- At the state before the first line of the made script, where of each content that its lines open it is said rightly what it is an image of: they
+-- open none
+abbrev pub WhereMade : ℕ → Made → (State → Type 0) → Type 0
+WhereMade first made P = (images : Images) → AreRead greatest_limits (made_opening first made images) (lines most_line (made_text made.start made.count)) → P (made_opening first made images)
+
+-- where the words ask for a made corpus
+abbrev pub WhereMadeBy : Option Options → (Made → State → Type 0) → Type 0
+WhereMadeBy options P = IfSome options (λ (o : Options). IfSome o.made (λ (made : Made). WhereMade o.first made (P made)))
+
+-- what is told of a made run in place of its output
+abbrev pub made_summary : Made → State → List ℕ
+made_summary made start = summary made.start made.count (output start (made_text made.start made.count))
+
+-- every line of the made script has an answer, and the summary of the answers was written; they have a refusal line or none
+pub record IsSummed (made : Made) (start : State) (refusal : Bool) (old new : Option (List ℕ)) : Type 0 where
+  pub all : AllAnswered greatest_limits start (lines most_line (made_text made.start made.count))
+  pub written : Appends old new (made_summary made start)
+  pub refusal_is : refusal ≡ has_refusal_by greatest_limits start (made_text made.start made.count)
+
+-- every line of the made script has an answer, and what was written so far are the answers; they have a refusal line or none
+pub record AreTold (made : Made) (start : State) (refusal : Bool) (written : Option (List ℕ)) : Type 0 where
+  pub all : AllAnswered greatest_limits start (lines most_line (made_text made.start made.count))
+  pub written_is : written ≡ Some (output start (made_text made.start made.count))
+  pub refusal_is : refusal ≡ has_refusal_by greatest_limits start (made_text made.start made.count)

@@ -1,29 +1,16 @@
--- The words of the command line.
-use Rattle.std.specs.Prelude.{ℕ, nat_le, nat_eq, List, [], ◌∷◌, drop, codes, bytes_eq, Option, None, Some, if◌then◌else◌}
+-- What the words of the command line ask for.
+use Rattle.std.specs.Prelude.{ℕ, List, Option, None, Some}
 use Rattle.std.specs.Option.{option_and_then}
-use Rattle.std.specs.List.{starts_with}
-use Rattle.gcl_model.specs.Limits.{address_end}
-use Rattle.script_lang.specs.Numbers.{number_of}
+use Rattle.command_words.specs.Grammar.{options_of}
+use Rattle.command_words.specs.declared.options.Made.{Made}
+use Rattle.command_words.specs.declared.options.Options.{Options}
 
--- a number that is an address or the end of the addresses
-abbrev pub address_from : ℕ → Option ℕ
-address_from n = if nat_le n address_end then Some n else None
+-- the first address, where no corpus is to be made
+abbrev pub unless_made : Option Made → ℕ → Option ℕ
+unless_made None first = Some first
+unless_made (Some made) first = None
 
--- 1 to 18 digits that write such a number: of "007" it is 7
-abbrev pub address_of : List ℕ → Option ℕ
-address_of text = option_and_then address_from (number_of text)
-
--- `--first=A`
-abbrev pub joined_first : List ℕ → Option ℕ
-joined_first word = if starts_with nat_eq word (codes "--first=") then address_of (drop 8 word) else None
-
--- `--first A`
-abbrev pub spaced_first : List ℕ → List ℕ → Option ℕ
-spaced_first word value = if bytes_eq word (codes "--first") then address_of value else None
-
--- the first address of the collection: 0 without the option, None where the words are outside the grammar
+-- the first address of a run over the script of the source: 0 without the option, and None where the words are outside the grammar or ask
+-- for a made corpus
 abbrev pub first_of : List (List ℕ) → Option ℕ
-first_of [] = Some 0
-first_of (word ∷ []) = joined_first word
-first_of (word ∷ value ∷ []) = spaced_first word value
-first_of (word ∷ value ∷ next ∷ words) = None
+first_of words = option_and_then (λ (o : Options). unless_made o.made o.first) (options_of words)

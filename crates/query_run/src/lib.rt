@@ -15,6 +15,7 @@ mod answers;
 mod changes;
 mod limits;
 mod listing;
+mod made_run;
 mod members;
 mod merging;
 mod queries;
@@ -25,14 +26,16 @@ mod saving;
 mod script_run;
 mod serving;
 mod status;
-mod words;
+mod top;
 mod write;
 
 pub use limits::{IMAGE_MOST, Limits, SCRIPT_MOST};
-pub use script_run::run;
 pub use serving::serve;
 pub use status::Status;
+pub use top::run;
 
+#[cfg(test)]
+mod made_tests;
 #[cfg(test)]
 mod plain_tests;
 #[cfg(test)]

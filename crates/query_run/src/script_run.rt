@@ -1,8 +1,7 @@
-ghost use Rattle.std.specs.Prelude.{◌≡◌, ◌≤◌, true, false, [], Option, None, IfSome, IsSome, IsSomeAnd, length};
+ghost use Rattle.std.specs.Prelude.{◌≡◌, ◌≤◌, true, false, [], Some, IfSome, IsSomeAnd, length};
 ghost use Rattle.outside.specs.Causes.{Rose};
-ghost use Rattle.gcl_model.specs.Limits.{most_line, most_script};
+ghost use Rattle.gcl_model.specs.Limits.{address_end, most_line, most_script};
 ghost use Rattle.script_lang.specs.Lines.{lines};
-ghost use Rattle.query_run.specs.Words.{first_of};
 ghost use Rattle.query_run.specs.Statuses.{IsFinished, IsAllAnswered};
 ghost use Rattle.query_run.specs.States.{greatest_limits};
 ghost use Rattle.query_run.specs.Answers.{output, names_kept_of, names_of};
@@ -11,42 +10,36 @@ ghost use Rattle.query_run.specs.Runs.{WhereTold, GetsPart, IsAnswered, HandsOve
 use crate::limits::Limits;
 use crate::serving::serve;
 use crate::status::Status;
-use crate::words::first_of;
 use collection::{Engine, OpenFault, Opened};
-use gcl_model::Bytes;
 use outside::{Files, Gate, Sink, Source};
 use std::alloc::Global;
 use std::sync::Wait;
 use std::thread::Threads;
 
-/// Reads a script from the source, and writes the answers to its lines to the sink. The words are `--first A` or
-/// `--first=A`, the first address, and nothing else.
-pub fn run<R: Threads + Wait + Sync, F: Files, S: Source, K: Sink, G: Gate + Sync>(
+/// Opens an engine that begins at this address, answers the script of the source on it, and ends it.
+pub fn run_script<R: Threads + Wait + Sync, F: Files, S: Source, K: Sink, G: Gate + Sync>(
     rt: &R,
     alloc: Global,
-    words: &[Bytes],
+    first: u64,
     files: &mut F,
     source: &mut S,
     sink: &mut K,
     gate: &G,
 ) -> Status
-    // Usage exactly where the words are outside the grammar, and then nothing is touched.
-    ensures usage_only { result ≡ Status.Usage → first_of words.now ≡ None }
-    ensures usage_always { first_of words.now ≡ None → result ≡ Status.Usage }
-    ensures untouched { result ≡ Status.Usage →
-        (source.new ≡ source.old) × (files.new ≡ files.old) × (sink.new ≡ sink.old) }
+    requires in_range { first ≤ address_end }
+    ensures never_usage { ¬ (result ≡ Status.Usage) }
 
-    // The headline: where the source tells the script and the files tell what they hold, and of what the lines open it is said rightly what
+    // Where the source tells the script and the files tell what they hold, and of what the lines open it is said rightly what
     // it is an image of.
-    ensures done { result ≡ Status.Done → WhereTold greatest_limits (first_of words.now) (S.left source.old) (F.held files.old) (λ start script.
+    ensures done { result ≡ Status.Done → WhereTold greatest_limits (Some first) (S.left source.old) (F.held files.old) (λ start script.
         IsAnswered start script false (S.left source.new) (F.held files.new) (K.written sink.old) (K.written sink.new)) }
-    ensures done_with_refusals { result ≡ Status.DoneWithRefusals → WhereTold greatest_limits (first_of words.now) (S.left source.old) (F.held files.old) (λ start script.
+    ensures done_with_refusals { result ≡ Status.DoneWithRefusals → WhereTold greatest_limits (Some first) (S.left source.old) (F.held files.old) (λ start script.
         IsAnswered start script true (S.left source.new) (F.held files.new) (K.written sink.old) (K.written sink.new)) }
 
     // Whatever the status, the sink gets the beginning of the output.
-    ensures part { WhereTold greatest_limits (first_of words.now) (S.left source.old) (F.held files.old) (λ start script.
+    ensures part { WhereTold greatest_limits (Some first) (S.left source.old) (F.held files.old) (λ start script.
         GetsPart (K.written sink.old) (K.written sink.new) (output start script)) }
-    ensures part_within { result ≡ Status.ScriptTooLong → WhereTold greatest_limits (first_of words.now) (S.left source.old) (F.held files.old) (λ start script.
+    ensures part_within { result ≡ Status.ScriptTooLong → WhereTold greatest_limits (Some first) (S.left source.old) (F.held files.old) (λ start script.
         GetsPart (K.written sink.old) (K.written sink.new) (output start (within most_script script))) }
 
     // Each other status has its cause.
@@ -55,9 +48,8 @@ pub fn run<R: Threads + Wait + Sync, F: Files, S: Source, K: Sink, G: Gate + Syn
     ensures file_fault { result ≡ Status.FileFault → Rose (F.faults files.old) (F.faults files.new) }
     ensures too_long { result ≡ Status.ScriptTooLong → HandsOverMore most_script (S.left source.old) (S.left source.new) }
 
-    // Where the words are in the grammar, no object failed and the script is within the limit, all is answered, or
-    // memory is wanted.
-    ensures complete { IsSome (first_of words.now) → ¬ Rose (S.faults source.old) (S.faults source.new) → ¬ Rose (K.faults sink.old) (K.faults sink.new) →
+    // Where no object failed and the script is within the limit, all is answered, or memory is wanted.
+    ensures complete { ¬ Rose (S.faults source.old) (S.faults source.new) → ¬ Rose (K.faults sink.old) (K.faults sink.new) →
         ¬ Rose (F.faults files.old) (F.faults files.new) → IsSomeAnd (S.left source.old) (λ script. length script ≤ most_script) →
         IsFinished result }
 
@@ -70,13 +62,10 @@ pub fn run<R: Threads + Wait + Sync, F: Files, S: Source, K: Sink, G: Gate + Syn
     ensures unasked { IfSome (S.left source.old) (λ script. names_of (lines most_line script) ≡ [] → files.new ≡ files.old) }
     ensures unsaved { IfSome (S.left source.old) (λ script. names_kept_of (lines most_line script) ≡ [] → F.held files.new ≡ F.held files.old) }
 {
-    let Some(first) = first_of(words) else {
-        return Status::Usage;
-    };
     let mut opened = match Engine::open(rt, alloc, first, 0) {
         Ok(opened) => opened,
         Err(OpenFault::NoMemory) => return Status::NoMemory,
-        // the words give no address above the end
+        // the address is not above the end
         Err(OpenFault::BadFirst(_)) => unreachable!(),
     };
     let limits = Limits::greatest();

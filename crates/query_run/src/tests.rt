@@ -341,7 +341,7 @@ fn a_text_that_is_no_query_is_refused_at_its_place(rt: HostRuntime) -> Result<()
 
 #[test]
 fn words_give_the_first_address(rt: HostRuntime) -> Result<(), Fail> {
-    let cases: [(&[&[u8]], &[u8], Status); 10] = [
+    let cases: [(&[&[u8]], &[u8], Status); 12] = [
         (
             &[b"--first", b"7"],
             b"file 0 7 14\nfile 1 15 16\n",
@@ -364,6 +364,12 @@ fn words_give_the_first_address(rt: HostRuntime) -> Result<(), Fail> {
         ),
         (&[b"--first", b"72057594037927937"], b"", Status::Usage),
         (&[b"--first", b"1", b"--first", b"1"], b"", Status::Usage),
+        (
+            &[b"--readers=16", b"--first", b"7"],
+            b"file 0 7 14\nfile 1 15 16\n",
+            Status::Done,
+        ),
+        (&[b"--readers=17"], b"", Status::Usage),
         (&[b"--first"], b"", Status::Usage),
         (&[b"--first="], b"", Status::Usage),
         (&[b"--"], b"", Status::Usage),

@@ -1,7 +1,7 @@
 use Rattle.std.proofs.Common.{◌≡◌, ◌∙◌, ap, rules}
 use Rattle.query_run.specs.Statuses.{number_of}
 use Rattle.query_run.specs.declared.status.Status.TheVariants.{Done, DoneWithRefusals, Usage, ReadFault, WriteFault, FileFault, ScriptTooLong}
-use Rattle.gclq.proofs.Numbers.{same_status, finished_number, answered_status}
+use Rattle.gclq.proofs.Numbers.{same_status, finished_number, answered_status, usage_number}
 use Rattle.gclq.proofs.session.answer.Goals as goal
 
 pub returns-clause-usage_only : goal.returns-clause-usage_only
@@ -32,7 +32,13 @@ pub returns-clause-too_long : goal.returns-clause-too_long
 returns-clause-too_long g c is = c.run-status.ensures.too_long (same_status c.run-status.result ScriptTooLong _ c.exit.ensures is)
 
 pub returns-clause-usage_always : goal.returns-clause-usage_always
-returns-clause-usage_always g c none = c.exit.ensures ∙ ap number_of (c.run-status.ensures.usage_always none)
+returns-clause-usage_always g c none = usage_number c.run-status.result _ c.exit.ensures (c.run-status.ensures.usage_always none)
+
+pub returns-clause-summed : goal.returns-clause-summed
+returns-clause-summed g c is = c.run-status.ensures.summed (same_status c.run-status.result Done _ c.exit.ensures is)
+
+pub returns-clause-summed_with_refusals : goal.returns-clause-summed_with_refusals
+returns-clause-summed_with_refusals g c is = c.run-status.ensures.summed_with_refusals (same_status c.run-status.result DoneWithRefusals _ c.exit.ensures is)
 
 pub returns-clause-complete : goal.returns-clause-complete
 returns-clause-complete g c some source sink files short = finished_number c.run-status.result _ c.exit.ensures (c.run-status.ensures.complete some source sink files short)

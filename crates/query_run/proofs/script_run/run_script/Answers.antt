@@ -2,21 +2,20 @@ use Rattle.std.proofs.Common.{◌≡◌, ◌<◌, ◌≤◌, Some, refl, ap, ◌
 use Rattle.gcl_model.specs.Limits.{address_end}
 use Rattle.collection.specs.Engines.{EngineContent}
 use Rattle.query_run.specs.States.{greatest_limits}
-use Rattle.query_run.specs.Words.{first_of}
 use Rattle.query_run.specs.Answers.{output_by}
 use Rattle.query_run.specs.Runs.{GetsPart, within}
 use Rattle.query_run.proofs.Told.{by_words}
-use Rattle.query_run.proofs.script_run.run.Goals as goal
+use Rattle.query_run.proofs.script_run.run_script.Goals as goal
 
 pub unreachable-requires : goal.unreachable-requires
 unreachable-requires g c =
-    let over : address_end < c.in-Some.first = ((c.in-Err-BadFirst.ensures.bad_first c.in-Err-BadFirst.field-0-0).0 (rw c.in-Err-BadFirst.field-0-is refl)).1 in
-    let within : c.in-Some.first ≤ address_end = c.in-Some.ensures.in_range in
+    let over : address_end < c.args.first = ((c.in-Err-BadFirst.ensures.bad_first c.in-Err-BadFirst.field-0-0).0 (rw c.in-Err-BadFirst.field-0-is refl)).1 in
+    let within : c.args.first ≤ address_end = c.requires.in_range in
     omega (arith, over, within)
 
 pub returns-clause-part_within : goal.returns-clause-part_within
 returns-clause-part_within g c = λ long.
-    let first : Some c.in-Ok.opened.engine.version.first ≡ first_of c.args.words.now = ap (λ (e : EngineContent). Some e.version.first) c.in-Ok.ensures.history ∙ c.in-Some.ensures.value in
-    by_words (first_of c.args.words.now) c.greatest-limits.result greatest_limits c.in-Ok.opened.engine.version.first (g.S.Source.left c.args.source.now) (g.F.Files.held c.args.files.now)
+    let first : Some c.in-Ok.opened.engine.version.first ≡ Some c.args.first = ap (λ (e : EngineContent). Some e.version.first) c.in-Ok.ensures.history in
+    by_words (Some c.args.first) c.greatest-limits.result greatest_limits c.in-Ok.opened.engine.version.first (g.S.Source.left c.args.source.now) (g.F.Files.held c.args.files.now)
     (λ limits start script. GetsPart (g.K.Sink.written c.args.sink.now) (g.K.Sink.written c.serve-status.new.sink) (output_by limits start (within limits.script script)))
     first c.greatest-limits.ensures (c.serve-status.ensures.part_within long)

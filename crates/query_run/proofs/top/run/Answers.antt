@@ -1,0 +1,22 @@
+use Rattle.std.proofs.Common.{◌≡◌, []}
+use Rattle.gcl_model.specs.Limits.{most_line}
+use Rattle.script_lang.specs.Lines.{lines}
+use Rattle.command_words.specs.Grammar.{options_of}
+use Rattle.query_run.specs.States.{greatest_limits}
+use Rattle.query_run.specs.Words.{first_of}
+use Rattle.query_run.specs.Answers.{output, names_of, names_kept_of}
+use Rattle.query_run.proofs.Told.{nothing_of, nothing_of_made, kept_at}
+use Rattle.query_run.proofs.top.run.Goals as goal
+
+pub returns-in-Err-clause-part : goal.returns-in-Err-clause-part
+returns-in-Err-clause-part g c = nothing_of greatest_limits (first_of c.args.words.now) (g.S.Source.left c.args.source.now) (g.F.Files.held c.args.files.now) (g.K.Sink.written c.args.sink.now) output
+
+pub returns-in-Err-clause-part_summed : goal.returns-in-Err-clause-part_summed
+returns-in-Err-clause-part_summed g c = nothing_of_made (options_of c.args.words.now) (g.K.Sink.written c.args.sink.now)
+
+-- a made run asks for no file of the caller's
+pub returns-in-Some-clause-unasked : goal.returns-in-Some-clause-unasked
+returns-in-Some-clause-unasked g c = kept_at (g.S.Source.left c.args.source.now) (λ script. names_of (lines most_line script) ≡ []) c.args.files.now
+
+pub returns-in-Some-clause-unsaved : goal.returns-in-Some-clause-unsaved
+returns-in-Some-clause-unsaved g c = kept_at (g.S.Source.left c.args.source.now) (λ script. names_kept_of (lines most_line script) ≡ []) (g.F.Files.held c.args.files.now)

@@ -1,0 +1,88 @@
+ghost use Rattle.std.specs.Prelude.{◌≡◌, ◌≤◌, ◌⊎◌, true, false, [], None, IfSome, IsSome, IsSomeAnd, length};
+ghost use Rattle.outside.specs.Causes.{Rose};
+ghost use Rattle.gcl_model.specs.Limits.{most_line, most_script};
+ghost use Rattle.script_lang.specs.Lines.{lines};
+ghost use Rattle.command_words.specs.Grammar.{options_of};
+ghost use Rattle.query_run.specs.Words.{first_of};
+ghost use Rattle.query_run.specs.Statuses.{IsFinished, IsAllAnswered};
+ghost use Rattle.query_run.specs.States.{greatest_limits};
+ghost use Rattle.query_run.specs.Answers.{output, names_kept_of, names_of};
+ghost use Rattle.query_run.specs.Runs.{WhereTold, WhereMadeBy, GetsPart, IsAnswered, IsSummed, HandsOverMore, made_summary, within};
+
+use crate::made_run::run_made;
+use crate::script_run::run_script;
+use crate::status::Status;
+use command_words::options_of;
+use gcl_model::Bytes;
+use outside::{Files, Gate, Sink, Source};
+use std::alloc::{AllocError, Global};
+use std::sync::Wait;
+use std::thread::Threads;
+
+/// Reads a script from the source, and writes the answers to its lines to the sink; or, where the words ask for a made corpus, answers its script over
+/// its files and writes the summary. The words are those of `command_words`: `--first A`, `--readers N`, `--made X` and `--count C`.
+pub fn run<R: Threads + Wait + Sync, F: Files, S: Source, K: Sink, G: Gate + Sync>(
+    rt: &R,
+    alloc: Global,
+    words: &[Bytes],
+    files: &mut F,
+    source: &mut S,
+    sink: &mut K,
+    gate: &G,
+) -> Status
+    // Usage exactly where the words are outside the grammar, but for want of memory, and then nothing is touched.
+    ensures usage_only { result ≡ Status.Usage → options_of words.now ≡ None }
+    ensures usage_always { options_of words.now ≡ None → (result ≡ Status.Usage) ⊎ (result ≡ Status.NoMemory) }
+    ensures untouched { result ≡ Status.Usage →
+        (source.new ≡ source.old) × (files.new ≡ files.old) × (sink.new ≡ sink.old) }
+
+    // The headline: where the source tells the script and the files tell what they hold, and of what the lines open it is said rightly what
+    // it is an image of.
+    ensures done { result ≡ Status.Done → WhereTold greatest_limits (first_of words.now) (S.left source.old) (F.held files.old) (λ start script.
+        IsAnswered start script false (S.left source.new) (F.held files.new) (K.written sink.old) (K.written sink.new)) }
+    ensures done_with_refusals { result ≡ Status.DoneWithRefusals → WhereTold greatest_limits (first_of words.now) (S.left source.old) (F.held files.old) (λ start script.
+        IsAnswered start script true (S.left source.new) (F.held files.new) (K.written sink.old) (K.written sink.new)) }
+
+    // Whatever the status, the sink gets the beginning of the output.
+    ensures part { WhereTold greatest_limits (first_of words.now) (S.left source.old) (F.held files.old) (λ start script.
+        GetsPart (K.written sink.old) (K.written sink.new) (output start script)) }
+    ensures part_within { result ≡ Status.ScriptTooLong → WhereTold greatest_limits (first_of words.now) (S.left source.old) (F.held files.old) (λ start script.
+        GetsPart (K.written sink.old) (K.written sink.new) (output start (within most_script script))) }
+
+    // Each other status has its cause.
+    ensures read_fault { result ≡ Status.ReadFault → Rose (S.faults source.old) (S.faults source.new) }
+    ensures write_fault { result ≡ Status.WriteFault → Rose (K.faults sink.old) (K.faults sink.new) }
+    ensures file_fault { result ≡ Status.FileFault → Rose (F.faults files.old) (F.faults files.new) }
+    ensures too_long { result ≡ Status.ScriptTooLong → HandsOverMore most_script (S.left source.old) (S.left source.new) }
+
+    // Where the words are in the grammar, no object failed and the script is within the limit, all is answered, or
+    // memory is wanted.
+    ensures complete { IsSome (options_of words.now) → ¬ Rose (S.faults source.old) (S.faults source.new) → ¬ Rose (K.faults sink.old) (K.faults sink.new) →
+        ¬ Rose (F.faults files.old) (F.faults files.new) → IsSomeAnd (S.left source.old) (λ script. length script ≤ most_script) →
+        IsFinished result }
+
+    // Where all is answered no object failed.
+    ensures source_calm { IsAllAnswered result → S.faults source.new ≡ S.faults source.old }
+    ensures sink_calm { IsAllAnswered result → K.faults sink.new ≡ K.faults sink.old }
+    ensures files_calm { IsAllAnswered result → F.faults files.new ≡ F.faults files.old }
+
+    // No file is asked for that no line names, and where no line saves none changes.
+    ensures unasked { IfSome (S.left source.old) (λ script. names_of (lines most_line script) ≡ [] → files.new ≡ files.old) }
+    ensures unsaved { IfSome (S.left source.old) (λ script. names_kept_of (lines most_line script) ≡ [] → F.held files.new ≡ F.held files.old) }
+
+    // Over a made corpus the sink gets the summary of the output, or the beginning of the summary, and no other object is touched.
+    ensures summed { result ≡ Status.Done → WhereMadeBy (options_of words.now) (λ made start. IsSummed made start false (K.written sink.old) (K.written sink.new)) }
+    ensures summed_with_refusals { result ≡ Status.DoneWithRefusals → WhereMadeBy (options_of words.now) (λ made start. IsSummed made start true (K.written sink.old) (K.written sink.new)) }
+    ensures part_summed { WhereMadeBy (options_of words.now) (λ made start. GetsPart (K.written sink.old) (K.written sink.new) (made_summary made start)) }
+    ensures untouched_by_made { IfSome (options_of words.now) (λ options. IsSome options.made → (source.new ≡ source.old) × (files.new ≡ files.old)) }
+{
+    let options = match options_of(alloc, words) {
+        Ok(Some(options)) => options,
+        Ok(None) => return Status::Usage,
+        Err(AllocError) => return Status::NoMemory,
+    };
+    match options.made {
+        None => run_script(rt, alloc, options.first, files, source, sink, gate),
+        Some(made) => run_made(rt, alloc, options.first, made, sink, gate),
+    }
+}
