@@ -1,6 +1,6 @@
 -- Quoted texts and widths by the run of bytes between their ends.
-use Rattle.std.proofs.Common.{◌≡◌, ◌⊎◌, inl, inr, ℕ, ◌+◌, ◌-◌, ◌<◌, ◌≤◌, Bool, true, false, cond, List, [], ◌∷◌, length, drop, take, get_or, refl, ap, sym, subst, ◌∙◌, arith, length-drop}
-use Rattle.std.proofs.lemmas.Bool.{and_from, cases_lt, cond-true, cond-false, not_from_true, not_from_false, false_from_ne_true}
+use Rattle.std.proofs.Common.{◌≡◌, ℕ, ◌+◌, ◌-◌, ◌<◌, ◌≤◌, Bool, true, false, cond, List, [], ◌∷◌, length, drop, take, get_or, refl, ap, sym, subst, ◌∙◌, arith, length-drop}
+use Rattle.std.proofs.lemmas.Bool.{and_from, cond-true, cond-false, not_from_true, not_from_false, false_from_ne_true}
 use Rattle.std.proofs.Math.Seq.{take-length}
 use Rattle.std.proofs.lemmas.List.{drop_all, drop-drop, drop_more}
 use Rattle.std.proofs.lemmas.List.Sums.{prefix_len_is, take_while-cons}
@@ -10,6 +10,7 @@ use Rattle.std.specs.Char.{is_ascii_digit}
 use Rattle.std.specs.Str.Parse.{digits_value}
 use Rattle.memchr.specs.Find.{Nowhere, NoneBefore, Passes, is_byte}
 use Rattle.gcl_model.specs.Tokens.{starts_with_byte}
+use Rattle.word_tokens.proofs.PartLemmas.{starts_with_byte-some}
 use Rattle.gcl_parser.specs.declared.fault.QueryKind.TheVariants.{OpenQuote, BadWidth}
 use Rattle.gcl_parser.specs.declared.fault.QueryKind.{QueryKind}
 use Rattle.gcl_parser.specs.declared.token.Token.{Token}
@@ -35,14 +36,6 @@ closed q token kind content bytes n is starts =
     cond-true (starts_with_byte q (drop (length content) bytes)) (one_token token (length content + 2)) (broken_piece kind)
     (ap (λ m. starts_with_byte q (drop m bytes)) is ∙ starts)
     ∙ ap (λ m. one_token token (m + 2)) is
-
--- what begins with a byte has one
-begins : (q k : ℕ) (xs : List ℕ) → starts_with_byte q (drop k xs) ≡ true → k < length xs
-begins q k xs is = go (cases_lt k (length xs))
-  where
-    go : (k < length xs) ⊎ (length xs ≤ k) → k < length xs
-    go (inl lt) = lt
-    go (inr le) = absurd (let nothing : starts_with_byte q (drop k xs) ≡ false = ap (λ ys. starts_with_byte q ys) (drop_all k xs le) in cc)
 
 starts_at : (bytes : List ℕ) (k : ℕ) → k < length bytes → is_byte 34 (get_or bytes k 0) ≡ true → starts_with_byte 34 (drop k bytes) ≡ true
 starts_at bytes k lt is = ap (λ xs. starts_with_byte 34 xs) (drop_more bytes k 0 lt) ∙ is
@@ -120,7 +113,7 @@ width_behind text from size n is same starts =
     let len : length digits ≡ size = sym (is ∙ ap (λ xs. length (take_while is_ascii_digit xs)) (rest_is text from)) in
     let taken : digits ≡ take n bytes = ap (λ m. take m bytes) (sym (length-prefix_len is_ascii_digit bytes) ∙ len ∙ sym same) in
     record {
-      short = begins 93 (from + size) text starts;
+      short = starts_with_byte-some 93 text (from + size) starts;
       piece = closed 93 (width_token (digits_value 10 digits)) BadWidth digits bytes size len (ap (λ xs. starts_with_byte 93 xs) (drop-drop size from text) ∙ starts)
           ∙ ap (λ xs. one_token (width_token (digits_value 10 xs)) (size + 2)) taken;
     }

@@ -31,7 +31,8 @@ ends_with_byte-some : (c : ℕ) (bytes : List ℕ) → ends_with_byte c bytes �
 ends_with_byte-some c [] e = absurd cc
 ends_with_byte-some c (b ∷ bytes) e = omega arith
 
-starts_with_byte-some : (c : ℕ) (bytes : List ℕ) (k : ℕ) → starts_with_byte c (drop k bytes) ≡ true → k < length bytes
+-- what goes on with a byte at a place has that place
+pub starts_with_byte-some : (c : ℕ) (bytes : List ℕ) (k : ℕ) → starts_with_byte c (drop k bytes) ≡ true → k < length bytes
 starts_with_byte-some c bytes k e = elim (cases_lt k (length bytes)) [
   | inl below ↦ below
   | inr past ↦ let none : starts_with_byte c (drop k bytes) ≡ false = ap (starts_with_byte c) (drop_of_length-le bytes past) in absurd cc
