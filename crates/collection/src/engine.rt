@@ -1,6 +1,6 @@
 ghost use Rattle.std.specs.Prelude.{◌≡◌, ◌↔◌, ◌+◌, ◌<◌, ◌≤◌, [], ◌∷◌, ℕ, length, IfOk, IsErrOf, OnOk, OnErr};
 ghost use Rattle.std.specs.List.{AllByRecursion};
-ghost use Rattle.gcl_model.specs.Limits.{address_end};
+ghost use Rattle.gcl_model.specs.Limits.{address_end, most_readers};
 ghost use Rattle.live_version.specs.Changes.{empty_version};
 ghost use Rattle.manifest_publish.specs.Accounts.{with_pass, VouchesFor};
 ghost use Rattle.collection.specs.Engines.{IsEngine, IsPublication, engine_content, published, with_version};
@@ -65,7 +65,7 @@ impl Engine {
         first: u64,
         readers: usize,
     ) -> Result<Opened, OpenFault>
-        requires { readers ≤ 16 }
+        requires { readers ≤ most_readers }
         ensures history { IfOk result (λ opened. opened.engine ≡ engine_content opened.engine.publisher (empty_version first ∷ [])) }
         ensures readers { IfOk result (λ opened. AllByRecursion (λ reader. reader ≡ with_pass opened.engine.publisher (empty_version first ∷ [])) opened.readers.items) }
         ensures few { IfOk result (λ opened. length opened.readers.items ≤ readers) }

@@ -1,10 +1,10 @@
 -- The numbers of options lie within the limits.
 use Rattle.std.proofs.Common.{◌≡◌, ◌&&◌, ◌≤◌, ℕ, Bool, true, false, List, Option, Some, None, IfSome, option_map, option_and_then, unwrap_or, cond, refl, codes, nat_le, leb-true}
-use Rattle.gcl_model.specs.Limits.{address_end}
+use Rattle.gcl_model.specs.Limits.{address_end, most_made, most_readers}
 use Rattle.script_lang.specs.Numbers.{number_of}
 use Rattle.command_words.specs.declared.options.Made.{Made}
 use Rattle.command_words.specs.declared.options.Options.{Options}
-use Rattle.command_words.specs.Grammar.{Given, IsWithinLimits, are_options, made_from, most_made, most_readers, number_within, options_from, options_in, options_of, pairs_of, value_of}
+use Rattle.command_words.specs.Grammar.{Given, IsWithinLimits, are_options, made_from, number_within, options_from, options_in, options_of, pairs_of, value_of}
 
 -- from the least to the most
 Within : ℕ → ℕ → ℕ → Type 0

@@ -4,9 +4,9 @@ use Rattle.std.proofs.lemmas.Slice.Eq.{bytes_eq-Decides}
 use Rattle.std.proofs.lemmas.Bool.{not-true}
 use Rattle.command_words.specs.declared.options.Made.{Made}
 use Rattle.command_words.specs.declared.options.Options.{Options}
-use Rattle.command_words.specs.Grammar.{Given, is_joined, parted, pairs_of, is_option_name, is_given, are_options, value_of, number_within, made_from, options_from, options_in, most_readers}
+use Rattle.command_words.specs.Grammar.{Given, is_joined, parted, pairs_of, is_option_name, is_given, are_options, value_of, number_within, made_from, options_from, options_in}
 use Rattle.script_lang.specs.Numbers.{is_number, number_of}
-use Rattle.gcl_model.specs.Limits.{address_end}
+use Rattle.gcl_model.specs.Limits.{address_end, most_readers}
 use Rattle.command_words.proofs.Cases.{both, neither, refuted}
 
 -- ---- words and pairs

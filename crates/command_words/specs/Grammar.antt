@@ -2,18 +2,10 @@
 use Rattle.std.specs.Prelude.{ℕ, ◌≤◌, ◌==◌, ◌&&◌, Bool, true, not, nat_le, List, [], ◌∷◌, codes, bytes_eq, Option, Some, None, IfSome, option_map, unwrap_or, find, if◌then◌else◌}
 use Rattle.std.specs.Option.{option_and_then}
 use Rattle.std.specs.List.{list_any, before_first, after_first}
-use Rattle.gcl_model.specs.Limits.{address_end}
+use Rattle.gcl_model.specs.Limits.{address_end, most_made, most_readers}
 use Rattle.script_lang.specs.Numbers.{number_of}
 use Rattle.command_words.specs.declared.options.Made.{Made}
 use Rattle.command_words.specs.declared.options.Options.{Options}
-
--- how many readers a run has at most
-abbrev pub most_readers : ℕ
-most_readers = 16
-
--- how many files a made corpus has at most
-abbrev pub most_made : ℕ
-most_made = 10000
 
 -- ---- the words as pairs of a name and a value
 

@@ -44,3 +44,19 @@ most_operands = 256
 -- how many brackets of a query are open at once at most
 abbrev pub most_brackets : ℕ
 most_brackets = 12
+
+-- how many bytes an image has at most
+abbrev pub most_image : ℕ
+most_image = 2 ^ 30
+
+-- how many queries are answered together at most
+abbrev pub most_batch : ℕ
+most_batch = 64
+
+-- how many readers a run has at most
+abbrev pub most_readers : ℕ
+most_readers = 16
+
+-- how many files a made corpus has at most
+abbrev pub most_made : ℕ
+most_made = 10000

@@ -2,6 +2,7 @@ ghost use Rattle.std.specs.Prelude.{◌≡◌, ◌≤◌, ◌∷◌, Some, OnOk,
 ghost use Rattle.std.specs.Option.{option_copied};
 ghost use Rattle.outside.specs.Causes.{HasFileCause, CountsFileFault};
 ghost use Rattle.outside.specs.Contents.{IsKept, content_of};
+ghost use Rattle.gcl_model.specs.Limits.{most_made};
 ghost use Rattle.made_corpus.specs.MadeFiles.{made_files, kept_over};
 
 use crate::items::put_content;
@@ -55,7 +56,7 @@ pub struct MadeFiles {
 impl MadeFiles {
     /// So many files, made from this number. It takes no memory.
     pub fn new(alloc: Global, start: u64, count: u64) -> Self
-        requires { count ≤ 10000 }
+        requires { count ≤ most_made }
         ensures held { ⟦<MadeFiles as Files>⟧.held result ≡ Some (made_files start count) }
     {
         MadeFiles {

@@ -1,4 +1,5 @@
 ghost use Rattle.std.specs.Prelude.{◌≡◌, ◌≤◌, IfOk, length};
+ghost use Rattle.gcl_model.specs.Limits.{most_made};
 ghost use Rattle.made_corpus.specs.MadeLines.{made_lines, made_text};
 
 use crate::draws::Draws;
@@ -20,7 +21,7 @@ pub struct MadeScript {
 
 /// The script over so many files, made from this number.
 pub fn made_script(alloc: Global, start: u64, count: u64) -> Result<MadeScript, AllocError>
-    requires { count ≤ 10000 }
+    requires { count ≤ most_made }
     ensures text { IfOk result (λ script. script.text ≡ made_text start count) }
     ensures lines { IfOk result (λ script. script.lines ≡ length (made_lines start count)) }
 {

@@ -1,6 +1,7 @@
 //! The writer's end of `left_right`, under the rule that says whose versions it shows.
 ghost use Rattle.std.specs.Prelude.{◌≡◌, ◌≤◌, ◌<◌, [], length, vec_capacity, IfOk, IfSome};
 ghost use Rattle.std.specs.List.{AllByRecursion};
+ghost use Rattle.gcl_model.specs.Limits.{most_readers};
 ghost use Rattle.manifest_publish.specs.Accounts.{EndsWith, with_pass};
 ghost use Rattle.manifest_publish.specs.Log.{head_of};
 ghost use Rattle.manifest_publish.specs.Seats.{known};
@@ -44,7 +45,7 @@ impl Press {
         readers: usize,
     ) -> Result<Press, AllocError>
         requires history { EndsWith mark.now.history opening.now.value }
-        requires readers { readers ≤ 16 }
+        requires readers { readers ≤ most_readers }
         ensures { IfOk result (λ press. press ≡ mark.now.publisher) }
     {
         let first = Shown::begun(opening, mark)?;

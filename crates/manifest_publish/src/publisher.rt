@@ -1,5 +1,6 @@
 ghost use Rattle.std.specs.Prelude.{◌≡◌, ◌≤◌, [], ◌∷◌, ◌++◌, length, IfOk, IfSome, OnOk, OnErr};
 ghost use Rattle.std.specs.List.{AllByRecursion};
+ghost use Rattle.gcl_model.specs.Limits.{most_readers};
 ghost use Rattle.manifest_publish.specs.Histories.{IsOpening, IsLawful};
 ghost use Rattle.manifest_publish.specs.Accounts.{Account, account, EndsWith, VouchesFor, with_pass};
 ghost use Rattle.manifest_publish.specs.Log.{head_of};
@@ -44,7 +45,7 @@ impl Publisher {
         readers: usize,
     ) -> Result<(Publisher, Vec<Reader>), AllocError>
         requires opening { IsOpening opening.value }
-        requires readers { readers ≤ 16 }
+        requires readers { readers ≤ most_readers }
         ensures history { IfOk result (λ made. made.0.history ≡ opening.value ∷ []) }
         ensures readers { IfOk result (λ made. AllByRecursion (λ reader. reader ≡ with_pass made.0.publisher (opening.value ∷ [])) made.1.items) }
         ensures few { IfOk result (λ made. length made.1.items ≤ readers) }

@@ -3,8 +3,7 @@ ghost use Rattle.std.specs.Io.KnownBytes.{Appends};
 ghost use Rattle.made_corpus.specs.MadeLines.{made_lines};
 ghost use Rattle.made_corpus.specs.Summary.{summary};
 ghost use Rattle.outside.specs.Causes.{Rose};
-ghost use Rattle.gcl_model.specs.Limits.{address_end};
-ghost use Rattle.command_words.specs.Grammar.{most_made};
+ghost use Rattle.gcl_model.specs.Limits.{address_end, most_made};
 ghost use Rattle.query_run.specs.Statuses.{IsAllAnswered, IsMadeEnd};
 ghost use Rattle.query_run.specs.Runs.{WhereMade, GetsPart, IsSummed, AreTold, made_summary};
 
