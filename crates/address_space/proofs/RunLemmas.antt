@@ -1,17 +1,12 @@
 -- A run of files grows at its end.
 use Rattle.std.proofs.Common.{List, [], ◌∷◌, ◌++◌, arith, IfSome}
-use Rattle.std.specs.List.{AllByRecursion}
 use Rattle.address_space.specs.Runs.{FileEntry, IsPlaced, Precedes, IsFileRun, last_file}
+use Rattle.gcl_model.proofs.Lists.{all_append}
 
 Precedes-trans : (a b c : FileEntry) → Precedes a b → Precedes b c → Precedes a c
 Precedes-trans a b c p q = record { ids = omega arith; addresses = omega arith }
 
 -- what the last file of a list precedes, the file before the list precedes too
-AllByRecursion-push : (file new : FileEntry) (files : List FileEntry) → AllByRecursion (Precedes file) files → Precedes file new →
-    AllByRecursion (Precedes file) (files ++ new ∷ [])
-AllByRecursion-push file new [] all here = (here, tt)
-AllByRecursion-push file new (next ∷ files) all here = (all.0, AllByRecursion-push file new files all.1 here)
-
 precedes_last : (file new : FileEntry) (files : List FileEntry) → IfSome (last_file (file ∷ files)) (λ last. Precedes last new) → IsFileRun (file ∷ files) → Precedes file new
 precedes_last file new [] last run = last
 precedes_last file new (next ∷ files) last run = Precedes-trans file next new run.1.0 (precedes_last next new files last run.2)
@@ -23,4 +18,4 @@ last_of_rest file new (next ∷ files) last = last
 pub IsFileRun-push : (files : List FileEntry) (new : FileEntry) → IsFileRun files → IsPlaced new → IfSome (last_file files) (λ last. Precedes last new) → IsFileRun (files ++ new ∷ [])
 IsFileRun-push [] new run placed last = (placed, tt, tt)
 IsFileRun-push (file ∷ files) new run placed last =
-    (run.0, AllByRecursion-push file new files run.1 (precedes_last file new files last run), IsFileRun-push files new run.2 placed (last_of_rest file new files last))
+    (run.0, all_append (Precedes file) files (new ∷ []) run.1 (precedes_last file new files last run, tt), IsFileRun-push files new run.2 placed (last_of_rest file new files last))

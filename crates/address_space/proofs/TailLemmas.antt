@@ -40,7 +40,7 @@ settled_tail range ranges (before ∷ earlier) whole m e count =
     by_test false n more = unjoined range ranges (before ∷ earlier) whole m e (omega arith)
 
 -- the last slot and those before it
-tail_count-last : (ranges : List SlotRange) (range : SlotRange) → tail_count (ranges ++ range ∷ []) ≡ joined_count range (reverse ranges)
+pub tail_count-last : (ranges : List SlotRange) (range : SlotRange) → tail_count (ranges ++ range ∷ []) ≡ joined_count range (reverse ranges)
 tail_count-last ranges range =
     let back : reverse (ranges ++ range ∷ []) ≡ range ∷ reverse ranges = reverse-append ranges (range ∷ []) in
     rw back refl

@@ -11,7 +11,7 @@ use Rattle.gcl_model.specs.Laws.{AreTiers, AddingKeepsTiers, MergingKeepsTiers, 
 use Rattle.address_space.proofs.CollectionLemmas.{up_to}
 
 -- ranges that rise from a later address on rise from an earlier one
-ranges_earlier : (low later end : ℕ) (ranges : List SlotRange) → low ≤ later → AreRangesWithin later end ranges → AreRangesWithin low end ranges
+pub ranges_earlier : (low later end : ℕ) (ranges : List SlotRange) → low ≤ later → AreRangesWithin later end ranges → AreRangesWithin low end ranges
 ranges_earlier low later end [] le h = tt
 ranges_earlier low later end (range ∷ ranges) le h = (let first : later ≤ range.first = h.0 in omega arith, h.1, h.2, h.3)
 

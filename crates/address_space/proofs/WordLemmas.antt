@@ -1,10 +1,11 @@
 -- The words of a sound collection: where they stand, and which token each address has.
-use Rattle.std.proofs.Common.{◌≡◌, ℕ, zero, suc, ◌+◌, ◌-◌, ◌<◌, ◌≤◌, Bool, true, false, ◌&&◌, ◌||◌, cond, eqb, leb, bytes_eq, List, [], ◌∷◌, ◌++◌, length, Option, Some, None, refl, sym, ap, ◌∙◌, arith, inl, inr, ◌⊎◌, ◌↔◌, length-append}
+use Rattle.std.proofs.Common.{◌≡◌, ℕ, suc, ◌+◌, ◌-◌, ◌<◌, ◌≤◌, Bool, true, false, ◌&&◌, ◌||◌, cond, eqb, leb, bytes_eq, List, [], ◌∷◌, ◌++◌, length, Option, Some, None, refl, sym, ap, ◌∙◌, arith, inl, inr, ◌⊎◌, ◌↔◌, length-append}
 use Rattle.std.specs.List.{flat_map, list_any, slice_get}
 use Rattle.std.specs.Option.{option_or}
 use Rattle.std.specs.Cmp.Lexicographic.{bytes_decides}
 use Rattle.std.proofs.lemmas.Bool.{cases_lt, cases_order, eq-eqb, false_from_ne_true, false≢true, le-leb, lt-leb, ne_eqb}
 use Rattle.std.proofs.lemmas.List.Folds.{list_any-append}
+use Rattle.std.proofs.lemmas.Option.{slice_get_within}
 use Rattle.gcl_model.specs.Texts.{Word, AreRisingBelow, holds, is_word}
 use Rattle.gcl_model.specs.Collections.{File, Collection, AreFilesFrom, file_end, width_of, with_boundaries, word_of_file, word_of_files, words_from}
 use Rattle.gcl_model.specs.Laws.{WordsAreText, WordsAreAtAddresses}
@@ -54,15 +55,10 @@ place-later base token tokens p (inl above) =
     place-from base (token ∷ tokens) p (omega arith) ∙ ap (slice_get (token ∷ tokens)) n ∙ sym (place-from (base + 1) tokens p (omega arith))
 place-later base token tokens p (inr below) = place-before base (token ∷ tokens) p below ∙ sym (place-before (base + 1) tokens p (omega arith))
 
-slice_get-some : (tokens : List (List ℕ)) (i : ℕ) (token : List ℕ) → slice_get tokens i ≡ Some token → i < length tokens
-slice_get-some [] i token e = absurd cc
-slice_get-some (t ∷ tokens) zero token e = omega arith
-slice_get-some (t ∷ tokens) (suc i) token e = let h : i < length tokens = slice_get-some tokens i token e in omega arith
-
 place-within : (base : ℕ) (tokens : List (List ℕ)) (p : ℕ) (token : List ℕ) → place base tokens p ≡ Some token → p < base + length tokens
 place-within base tokens p token e = elim (cases_lt p base) [
   | inl below ↦ omega arith
-  | inr le ↦ let h : p - base < length tokens = slice_get-some tokens (p - base) token (sym (place-from base tokens p le) ∙ e) in omega arith
+  | inr le ↦ let h : p - base < length tokens = slice_get_within tokens (p - base) token (sym (place-from base tokens p le) ∙ e) in omega arith
 ]
 
 nowhere : (t : Bool) (token : List ℕ) → cond t None None ≡ Some token → ⊥

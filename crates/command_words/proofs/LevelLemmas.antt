@@ -1,5 +1,6 @@
 -- What clap's parse of the program's command comes to.
 use Rattle.std.proofs.Common.{◌≡◌, ◌∙◌, ◌∷◌, ◌&&◌, Bool, true, false, List, [], map, Option, Some, None, IsNone, is_some, inl, inr, option_and_then, refl, sym, ap, subst, codes, bytes_eq, not, drop, true≢false, fold}
+use Rattle.std.proofs.lemmas.Bool.{and_parts}
 use Rattle.clap.specs.Faults.{check_fault, default_fault, defaults_fault, entered_fault, fault_of, is_simple_and_free}
 use Rattle.clap.specs.Kinds.{HasKind, IsAmong, Kinds, or_else}
 use Rattle.clap.specs.Values.{kind_of}
@@ -13,7 +14,6 @@ use Rattle.clap.specs.Walk.{Row, Text, finished, first_of, has_row, idle, nothin
 use Rattle.command_words.specs.declared.options.Options.{Options}
 use Rattle.command_words.specs.Grammar.{Given, are_options, is_given, is_option_name, options_from, options_in, options_of, pairs_of, value_of}
 use Rattle.command_words.specs.Program.{HasNoEnd, program}
-use Rattle.command_words.proofs.Cases.{both}
 use Rattle.command_words.proofs.PairLemmas.{each_name}
 use Rattle.command_words.proofs.ProgramLemmas.{rule, shape, shape-IsProgram}
 use Rattle.command_words.proofs.TurnLemmas.{HasFault, faults, hold, last_rows, row, stand}
@@ -96,11 +96,11 @@ parse_reads words plain =
 -- the value of an option's row is the text given for it
 value_row : (name : Text) (pairs : List Given) → are_options pairs ≡ true → first_of name (map row pairs) ≡ value_of (45 ∷ 45 ∷ name) pairs
 value_row name [] options = refl
-value_row name (given ∷ rest) options = go (bytes_eq given.0 (45 ∷ 45 ∷ name)) refl (value_row name rest (both _ _ options).1)
+value_row name (given ∷ rest) options = go (bytes_eq given.0 (45 ∷ 45 ∷ name)) refl (value_row name rest (and_parts _ _ options).1)
   where
     same : bytes_eq (drop 2 given.0) name ≡ bytes_eq given.0 (45 ∷ 45 ∷ name)
     same = each_name (λ full. bytes_eq (drop 2 full) name ≡ bytes_eq full (45 ∷ 45 ∷ name)) refl refl refl refl given.0
-        (both (is_option_name given.0) (not (is_given given.0 rest)) (both (is_option_name given.0 && not (is_given given.0 rest)) (are_options rest) options).0).0
+        (and_parts (is_option_name given.0) (not (is_given given.0 rest)) (and_parts (is_option_name given.0 && not (is_given given.0 rest)) (are_options rest) options).0).0
 
     go : (b : Bool) → bytes_eq given.0 (45 ∷ 45 ∷ name) ≡ b → first_of name (map row rest) ≡ value_of (45 ∷ 45 ∷ name) rest
         → first_of name (map row (given ∷ rest)) ≡ value_of (45 ∷ 45 ∷ name) (given ∷ rest)

@@ -1,5 +1,4 @@
 mod Worked
-pub mod Cases
 pub mod PairLemmas
 pub mod ProgramLemmas
 pub mod TurnLemmas

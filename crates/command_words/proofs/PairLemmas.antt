@@ -1,13 +1,13 @@
 -- What the grammar says of pairs of names and values.
-use Rattle.std.proofs.Common.{◌≡◌, ◌∙◌, ◌∷◌, ◌++◌, ◌&&◌, ◌||◌, not, ℕ, Bool, true, false, List, [], Option, Some, None, option_map, option_and_then, unwrap_or, refl, sym, ap, ap₂, subst, codes, bytes_eq, nat_eq, eqb-true, true≢false, suc, take, drop, arith, ◌+◌}
+use Rattle.std.proofs.Common.{◌≡◌, ◌∙◌, ◌∷◌, ◌++◌, ◌&&◌, ◌||◌, not, ℕ, Bool, true, false, List, [], Option, Some, None, option_map, option_and_then, unwrap_or, refl, sym, ap, ap₂, subst, codes, bytes_eq, nat_eq, eqb-true, true≢false, suc, drop, arith, ◌+◌}
 use Rattle.std.proofs.lemmas.Slice.Eq.{bytes_eq-Decides}
-use Rattle.std.proofs.lemmas.Bool.{not-true}
+use Rattle.std.proofs.lemmas.Bool.{not-true, and_parts, or_parts, false_from_ne_true}
 use Rattle.command_words.specs.declared.options.Made.{Made}
 use Rattle.command_words.specs.declared.options.Options.{Options}
 use Rattle.command_words.specs.Grammar.{Given, is_joined, parted, pairs_of, is_option_name, is_given, are_options, value_of, number_within, made_from, options_from, options_in}
 use Rattle.script_lang.specs.Numbers.{is_number, number_of}
 use Rattle.gcl_model.specs.Limits.{address_end, most_readers}
-use Rattle.command_words.proofs.Cases.{both, neither, refuted}
+use Rattle.gcl_model.proofs.Lists.{take_past}
 
 -- ---- words and pairs
 
@@ -25,12 +25,6 @@ pairs_of-spaced word next rest spaced = rw spaced refl
 pub pairs_of-last : (word : List ℕ) → is_joined word ≡ false → pairs_of (word ∷ []) ≡ None
 pairs_of-last word spaced = rw spaced refl
 
--- one byte more at the front
-take-more : (b : ℕ) (rest : List ℕ) (n : ℕ) → take (1 + n) (b ∷ rest) ≡ b ∷ take n rest
-take-more b rest n =
-    let more : 1 + n ≡ suc n = omega arith in
-    ap (λ k. take k (b ∷ rest)) more
-
 drop-more : (b : ℕ) (rest : List ℕ) (n : ℕ) → drop (1 + n + 1) (b ∷ rest) ≡ drop (n + 1) rest
 drop-more b rest n =
     let more : 1 + n + 1 ≡ suc (n + 1) = omega arith in
@@ -38,7 +32,7 @@ drop-more b rest n =
 
 -- a byte that is no `=` stands at the front of the first part
 pub parted-more : (b : ℕ) (rest : List ℕ) → nat_eq b 61 ≡ false → parted (b ∷ rest) ≡ (b ∷ (parted rest).0, (parted rest).1)
-parted-more b rest other = rw other (ap₂ (λ (x y : List ℕ). (x, y)) (take-more b rest _) (drop-more b rest _))
+parted-more b rest other = rw other (ap₂ (λ (x y : List ℕ). (x, y)) (take_past b rest _) (drop-more b rest _))
 
 -- a joined word is its two parts with `=` between them
 pub parted-joins : (word : List ℕ) → is_joined word ≡ true → word ≡ (parted word).0 ++ 61 ∷ (parted word).1
@@ -106,16 +100,16 @@ pub record StandsIn (pairs : List Given) (given : Given) : Type 0 where
 -- each of them stands so
 pub stands_in : (front : List Given) (given : Given) (rest : List Given) → are_options (front ++ given ∷ rest) ≡ true → StandsIn (front ++ given ∷ rest) given
 stands_in [] given rest options = record {
-  known = (both _ _ (both _ _ options).0).0;
+  known = (and_parts _ _ (and_parts _ _ options).0).0;
   value = rw (bytes_eq-refl given.0) refl;
 }
-stands_in (x ∷ front) given rest options = go (bytes_eq x.0 given.0) refl (stands_in front given rest (both _ _ options).1)
+stands_in (x ∷ front) given rest options = go (bytes_eq x.0 given.0) refl (stands_in front given rest (and_parts _ _ options).1)
   where
     go : (b : Bool) → bytes_eq x.0 given.0 ≡ b → StandsIn (front ++ given ∷ rest) given → StandsIn (x ∷ front ++ given ∷ rest) given
     go true same below =
         let name : x.0 ≡ given.0 = (bytes_eq-Decides x.0 given.0).0 same in
         let twice : is_given x.0 (front ++ given ∷ rest) ≡ true = rw name (is_given-here front given rest) in
-        absurd (true≢false (sym (both _ _ (both _ _ options).0).1 ∙ ap not twice))
+        absurd (true≢false (sym (and_parts _ _ (and_parts _ _ options).0).1 ∙ ap not twice))
     go false same below = record { known = below.known; value = rw same below.value }
 
 -- two pairs of one name are no options
@@ -221,17 +215,17 @@ pub one_more : (front : List Given) (given : Given) → are_options front ≡ tr
     → are_options (front ++ given ∷ []) ≡ true
 one_more [] given options known new = rw known refl
 one_more (x ∷ front) given options known new =
-    let head : (is_option_name x.0 ≡ true) × (not (is_given x.0 front) ≡ true) = both _ _ (both _ _ options).0 in
-    let apart = neither (bytes_eq x.0 given.0) _ new in
-    let below : are_options (front ++ given ∷ []) ≡ true = one_more front given (both _ _ options).1 known apart.1 in
+    let head : (is_option_name x.0 ≡ true) × (not (is_given x.0 front) ≡ true) = and_parts _ _ (and_parts _ _ options).0 in
+    let apart = or_parts (bytes_eq x.0 given.0) _ new in
+    let below : are_options (front ++ given ∷ []) ≡ true = one_more front given (and_parts _ _ options).1 known apart.1 in
     let still : is_given x.0 (front ++ given ∷ []) ≡ false = absent x.0 given front (not-true (is_given x.0 front) head.1) (unturned apart.0) in
     rw (head.0, still, below) refl
   where
     unturned : bytes_eq x.0 given.0 ≡ false → bytes_eq given.0 x.0 ≡ false
-    unturned other = refuted (bytes_eq given.0 x.0) (λ same. true≢false (sym (bytes_eq-turned given.0 x.0 same) ∙ other))
+    unturned other = false_from_ne_true (bytes_eq given.0 x.0) (λ same. true≢false (sym (bytes_eq-turned given.0 x.0 same) ∙ other))
 
     absent : (name : List ℕ) (last : Given) (xs : List Given) → is_given name xs ≡ false → bytes_eq last.0 name ≡ false → is_given name (xs ++ last ∷ []) ≡ false
     absent name last [] none other = rw other refl
     absent name last (y ∷ ys) none other =
-        let parts : (bytes_eq y.0 name ≡ false) × (is_given name ys ≡ false) = neither (bytes_eq y.0 name) _ none in
+        let parts : (bytes_eq y.0 name ≡ false) × (is_given name ys ≡ false) = or_parts (bytes_eq y.0 name) _ none in
         rw (parts.0, absent name last ys parts.1 other) refl

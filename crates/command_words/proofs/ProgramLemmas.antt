@@ -1,10 +1,10 @@
 -- What clap reads of the program's command.
 use Rattle.std.proofs.Common.{◌≡◌, ◌∷◌, ℕ, true, false, drop, Some, None, refl, codes, bytes_eq}
+use Rattle.std.proofs.lemmas.Bool.{or_parts}
 use Rattle.clap.specs.Simple.{Shape, built, filled}
 use Rattle.clap.specs.Walk.{Rule, Text, arg_by_id, arg_by_index, arg_by_long, arg_by_short}
 use Rattle.command_words.specs.Grammar.{is_option_name}
 use Rattle.command_words.specs.Program.{option_rule, program}
-use Rattle.command_words.proofs.Cases.{neither}
 use Rattle.command_words.proofs.PairLemmas.{each_name}
 
 -- an option of the command once it is built
@@ -27,10 +27,10 @@ pub record IsProgram (s : Shape) : Type 0 where
 -- a name of no option finds no argument
 pub shape-by_no_long : (name : Text) → is_option_name (45 ∷ 45 ∷ name) ≡ false → arg_by_long shape.rules name ≡ None
 shape-by_no_long name unknown =
-    let first = neither (bytes_eq (codes "first") name) _ unknown in
-    let readers = neither (bytes_eq (codes "readers") name) _ first.1 in
-    let made = neither (bytes_eq (codes "made") name) _ readers.1 in
-    let count = neither (bytes_eq (codes "count") name) _ made.1 in
+    let first = or_parts (bytes_eq (codes "first") name) _ unknown in
+    let readers = or_parts (bytes_eq (codes "readers") name) _ first.1 in
+    let made = or_parts (bytes_eq (codes "made") name) _ readers.1 in
+    let count = or_parts (bytes_eq (codes "count") name) _ made.1 in
     rw (first.0, readers.0, made.0, count.0) refl
 
 -- the command is such a one

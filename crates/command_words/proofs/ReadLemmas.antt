@@ -9,8 +9,8 @@ use Rattle.clap.specs.Faults.{settle_fault, turn_fault, use_fault, walk_fault}
 use Rattle.clap.specs.declared.error.kind.ErrorKind.TheVariants as kind
 use Rattle.command_words.specs.Grammar.{Given, is_joined, is_option_name, are_options, options_in, pairs_of, parted}
 use Rattle.script_lang.specs.Numbers.{is_number}
-use Rattle.std.proofs.lemmas.Bool.{not-true}
-use Rattle.command_words.proofs.Cases.{both, some≢none}
+use Rattle.std.proofs.lemmas.Bool.{not-true, and_parts}
+use Rattle.std.proofs.lemmas.Option.{none-some}
 use Rattle.command_words.proofs.PairLemmas.{bad_name, bad_repeat, bad_value, one_more, pairs_of-joined, pairs_of-last, pairs_of-spaced}
 use Rattle.command_words.proofs.ProgramLemmas.{IsProgram, rule}
 use Rattle.command_words.proofs.TurnLemmas.{HasFault, ValueTurn, fails, fails_value, faults, faults-here, faults-next, has_row-given, hold, last_rows, last_rows-next, later, row, sooner, stand, stray-fails, takes_value, turn-joined, turn-spaced, turn-unknown, use-new, use-repeat, used-new, value_turn, walked-joined, walked-spaced}
@@ -42,7 +42,7 @@ pub data Reads (all : List Given) (spelled : List Text) (kinds : Kinds) (rows : 
 -- where a pair is put in front, what comes out begins with it
 pub is_cons : (given : Given) (o : Option (List Given)) (pairs : List Given) → option_map (λ rest. given ∷ rest) o ≡ Some pairs
     → (rest : List Given) × (o ≡ Some rest) × (pairs ≡ given ∷ rest)
-is_cons given None pairs is = absurd (some≢none pairs (sym is))
+is_cons given None pairs is = absurd (none-some pairs is)
 is_cons given (Some rest) pairs is = (rest, refl, ap (λ o. unwrap_or o pairs) (sym is))
 
 -- a pair at the front whose options come to nothing
@@ -82,7 +82,7 @@ carried all spelled spelled' kinds kinds' rows rows' words same_kinds same_rows 
 -- a word of no option's name, with the next word as its value, comes to nothing
 bad_spaced : (all : List Given) (word : Text) (rest : List Text) → is_joined word ≡ false → is_option_name word ≡ false → (pairs : List Given)
     → pairs_of (word ∷ rest) ≡ Some pairs → options_in (all ++ pairs) ≡ None
-bad_spaced all word [] lacks unknown pairs is = absurd (some≢none pairs (sym is ∙ pairs_of-last word lacks))
+bad_spaced all word [] lacks unknown pairs is = absurd (none-some pairs (sym (pairs_of-last word lacks) ∙ is))
 bad_spaced all word (next ∷ rest) lacks unknown pairs is =
     bad_front all (word, next) (word ∷ next ∷ rest) rest (pairs_of-spaced word next rest lacks) (λ ps. bad_name all (word, next) ps unknown) pairs is
 
@@ -95,11 +95,11 @@ bad_joined all word rest has unknown = bad_front all (parted word) (word ∷ res
 
 -- the first word is not `--`
 no_end-first : (word : Text) (rest : List Text) → list_all is_no_end (word ∷ rest) ≡ true → bytes_eq word (45 ∷ 45 ∷ []) ≡ false
-no_end-first word rest plain = not-true (bytes_eq word (45 ∷ 45 ∷ [])) (both (is_no_end word) (list_all is_no_end rest) plain).0
+no_end-first word rest plain = not-true (bytes_eq word (45 ∷ 45 ∷ [])) (and_parts (is_no_end word) (list_all is_no_end rest) plain).0
 
 -- nor is another one
 no_end-rest : (word : Text) (rest : List Text) → list_all is_no_end (word ∷ rest) ≡ true → list_all is_no_end rest ≡ true
-no_end-rest word rest plain = (both (is_no_end word) (list_all is_no_end rest) plain).1
+no_end-rest word rest plain = (and_parts (is_no_end word) (list_all is_no_end rest) plain).1
 
 module _ (s : Shape) (is : IsProgram s) where
   -- what is pending fails as the use of its option does
@@ -172,7 +172,7 @@ module _ (s : Shape) (is : IsProgram s) where
     pub value_missing : ReadsValue all name rows []
     value_missing = refused (record {
       fault = subst HasFault (sym (faults-end waits)) unfilled;
-      none = λ pairs parts. absurd (some≢none pairs (sym parts ∙ pairs_of-last (45 ∷ 45 ∷ name) apart));
+      none = λ pairs parts. absurd (none-some pairs (sym (pairs_of-last (45 ∷ 45 ∷ name) apart) ∙ parts));
     })
 
     module _ (word : Text) (rest : List Text) (other : bytes_eq word (45 ∷ 45 ∷ []) ≡ false) (plain : list_all is_no_end rest ≡ true)

@@ -7,10 +7,11 @@ use Rattle.std.proofs.lemmas.List.Folds.{list_all-append, list_all_at}
 use Rattle.std.proofs.lemmas.Slice.Eq.{bytes_eq-Decides}
 use Rattle.std.proofs.lemmas.Str.{IsUtf8-from_ascii}
 use Rattle.std.proofs.lemmas.Str.Ascii.{IsAscii-from_all}
+use Rattle.std.proofs.lemmas.Bool.{and_parts, true_from_ne_false, false_from_ne_true}
+use Rattle.std.proofs.lemmas.Option.{none-some}
 use Rattle.script_lang.specs.Numbers.{is_number}
 use Rattle.command_words.specs.declared.options.Options.{Options}
 use Rattle.command_words.specs.Grammar.{Given, is_joined, is_option_name, options_in, options_of, pairs_of, parted}
-use Rattle.command_words.proofs.Cases.{both, confirmed, refuted, some≢none}
 use Rattle.command_words.proofs.PairLemmas.{bad_name, bad_value, each_name, pairs_of-joined, pairs_of-last, pairs_of-spaced, parted-joins}
 use Rattle.command_words.proofs.ReadLemmas.{is_cons}
 
@@ -20,22 +21,22 @@ is_plain word = list_all is_ascii word && not (bytes_eq word (codes "--"))
 
 -- a digit is ASCII
 digit_ascii : (b : ℕ) → is_ascii_digit b ≡ true → is_ascii b ≡ true
-digit_ascii b digit = lt-ltb b 128 (omega (arith, leb-true b 57 (both (nat_le 48 b) (nat_le b 57) digit).1))
+digit_ascii b digit = lt-ltb b 128 (omega (arith, leb-true b 57 (and_parts (nat_le 48 b) (nat_le b 57) digit).1))
 
 -- so are digits, and with them numbers
 digits_ascii : (text : List ℕ) → list_all is_ascii_digit text ≡ true → list_all is_ascii text ≡ true
 digits_ascii [] all = refl
 digits_ascii (b ∷ rest) all =
-    let parts = both (is_ascii_digit b) (list_all is_ascii_digit rest) all in
+    let parts = and_parts (is_ascii_digit b) (list_all is_ascii_digit rest) all in
     ap₂ (λ x y. x && y) (digit_ascii b parts.0) (digits_ascii rest parts.1)
 
 number_ascii : (text : List ℕ) → is_number text ≡ true → list_all is_ascii text ≡ true
-number_ascii text number = digits_ascii text (both (nat_le 1 (length text) && nat_le (length text) 18) (list_all is_ascii_digit text) number).1
+number_ascii text number = digits_ascii text (and_parts (nat_le 1 (length text) && nat_le (length text) 18) (list_all is_ascii_digit text) number).1
 
 -- a test that `--` fails is failed by no other word that it passes
 not_end : (test : List ℕ → Bool) → test (codes "--") ≡ false → (word : List ℕ) → test word ≡ true → bytes_eq word (codes "--") ≡ false
 not_end test fails word passes =
-    refuted (bytes_eq word (codes "--")) (λ same. true≢false (sym passes ∙ ap test ((bytes_eq-Decides word (codes "--")).0 same) ∙ fails))
+    false_from_ne_true (bytes_eq word (codes "--")) (λ same. true≢false (sym passes ∙ ap test ((bytes_eq-Decides word (codes "--")).0 same) ∙ fails))
 
 -- numbers, names and what joins the two are plain
 number_plain : (text : List ℕ) → is_number text ≡ true → is_plain text ≡ true
@@ -57,8 +58,8 @@ joined_plain word has known number =
 good_pair : (front : List Given) (given : Given) (rest : List Given) (options : Options) → options_in (front ++ given ∷ rest) ≡ Some options
     → (is_option_name given.0 ≡ true) × (is_number given.1 ≡ true)
 good_pair front given rest options is = (
-  confirmed (is_option_name given.0) (λ unknown. some≢none options (sym is ∙ bad_name front given rest unknown)),
-  confirmed (is_number given.1) (λ bad. some≢none options (sym is ∙ bad_value front given rest bad)),
+  true_from_ne_false (is_option_name given.0) (λ unknown. none-some options (sym (bad_name front given rest unknown) ∙ is)),
+  true_from_ne_false (is_number given.1) (λ bad. none-some options (sym (bad_value front given rest bad) ∙ is)),
 )
 
 -- words behind which the pairs are known to be plain
@@ -106,7 +107,7 @@ words_plain (word ∷ []) = go (is_joined word) refl (words_plain [])
   where
     go : (b : Bool) → is_joined word ≡ b → Below [] → Below (word ∷ [])
     go true has below = joined_below word [] has below
-    go false lacks below = λ front pairs options is writes. absurd (some≢none pairs (sym is ∙ pairs_of-last word lacks))
+    go false lacks below = λ front pairs options is writes. absurd (none-some pairs (sym (pairs_of-last word lacks) ∙ is))
 words_plain (word ∷ next ∷ rest) = go (is_joined word) refl (words_plain (next ∷ rest)) (words_plain rest)
   where
     go : (b : Bool) → is_joined word ≡ b → Below (next ∷ rest) → Below rest → Below (word ∷ next ∷ rest)
@@ -129,12 +130,12 @@ odd_word words i word below odd = go (pairs_of words) refl
 -- bytes that are no text are no plain word
 not_text : (word : List ℕ) → ¬ IsUtf8 word → is_plain word ≡ false
 not_text word bad =
-    ap (λ x. x && not (bytes_eq word (codes "--"))) (refuted (list_all is_ascii word) (λ all. bad (IsUtf8-from_ascii word (IsAscii-from_all word (each word all)))))
+    ap (λ x. x && not (bytes_eq word (codes "--"))) (false_from_ne_true (list_all is_ascii word) (λ all. bad (IsUtf8-from_ascii word (IsAscii-from_all word (each word all)))))
   where
     each : (text : List ℕ) → list_all is_ascii text ≡ true → All (λ b. b < 128) text
     each [] e k d lt = absurd (omega arith)
-    each (b ∷ rest) e zero d lt = ltb-true b 128 (both (is_ascii b) (list_all is_ascii rest) e).0
-    each (b ∷ rest) e (suc k) d lt = each rest (both (is_ascii b) (list_all is_ascii rest) e).1 k d (omega arith)
+    each (b ∷ rest) e zero d lt = ltb-true b 128 (and_parts (is_ascii b) (list_all is_ascii rest) e).0
+    each (b ∷ rest) e (suc k) d lt = each rest (and_parts (is_ascii b) (list_all is_ascii rest) e).1 k d (omega arith)
 
 -- nor is `--`
 is_end : (word : List ℕ) → bytes_eq word (codes "--") ≡ true → is_plain word ≡ false

@@ -3,6 +3,7 @@ use Rattle.std.proofs.Common.{not, ◌≡◌, ◌∙◌, ◌∷◌, ◌++◌, �
 use Rattle.std.specs.Prelude.{slice_get}
 use Rattle.std.specs.Str.{chars}
 use Rattle.std.proofs.lemmas.List.{map-append}
+use Rattle.std.proofs.lemmas.Bool.{and_parts}
 use Rattle.clap.specs.Lexer.{long_of, short_of}
 use Rattle.clap.specs.Kinds.{Kinds, or_else}
 use Rattle.clap.specs.Simple.{Shape}
@@ -13,7 +14,6 @@ use Rattle.clap.specs.declared.parser.matches.ValueSource.TheVariants.{CommandLi
 use Rattle.clap.specs.declared.error.kind.ErrorKind.{ErrorKind}
 use Rattle.clap.specs.declared.error.kind.ErrorKind.TheVariants as kind
 use Rattle.command_words.specs.Grammar.{Given, is_option_name, is_given, are_options}
-use Rattle.command_words.proofs.Cases.{both}
 use Rattle.command_words.proofs.PairLemmas.{bytes_eq-refl, each_name}
 use Rattle.command_words.proofs.ProgramLemmas.{IsProgram, rule}
 
@@ -52,8 +52,8 @@ pub has_row-given : (all : List Given) (name : Text) → are_options all ≡ tru
 has_row-given [] name options = refl
 has_row-given (given ∷ rest) name options =
     ap₂ (λ a b. a || b) (each_name (λ full. bytes_eq (drop 2 full) name ≡ bytes_eq full (45 ∷ 45 ∷ name)) refl refl refl refl given.0
-    (both (is_option_name given.0) (not (is_given given.0 rest)) (both (is_option_name given.0 && not (is_given given.0 rest)) (are_options rest) options).0).0)
-    (has_row-given rest name (both (is_option_name given.0 && not (is_given given.0 rest)) (are_options rest) options).1)
+    (and_parts (is_option_name given.0) (not (is_given given.0 rest)) (and_parts (is_option_name given.0 && not (is_given given.0 rest)) (are_options rest) options).0).0)
+    (has_row-given rest name (and_parts (is_option_name given.0 && not (is_given given.0 rest)) (are_options rest) options).1)
 
 -- where no row has this id, the rows get what stands for a missing one
 at_row-missing : (id : Text) (change : Row → List Row) (missing rows : List Row) → has_row id rows ≡ false → at_row id change missing rows ≡ rows ++ missing

@@ -1,9 +1,10 @@
 -- Where halving finds the range that an address may be in.
-use Rattle.std.proofs.Common.{subst, ◌≡◌, ℕ, zero, suc, ◌+◌, ◌<◌, ◌≤◌, Bool, true, false, ◌&&◌, cond, leb, ltb, List, [], ◌∷◌, length, take, drop, get_or, le_refl, Option, Some, None, refl, sym, ap, ◌∙◌, arith, inl, inr, ◌⊎◌, ◌↔◌}
+use Rattle.std.proofs.Common.{subst, ◌≡◌, ℕ, zero, suc, ◌+◌, ◌<◌, ◌≤◌, Bool, true, ◌&&◌, cond, leb, ltb, List, [], ◌∷◌, length, take, drop, get_or, le_refl, Option, Some, None, refl, sym, ap, ◌∙◌, arith, inl, inr, ◌⊎◌, ◌↔◌}
 use Rattle.gcl_model.specs.Limits.{address_end}
 use Rattle.std.specs.List.{prefix_len, slice_get}
 use Rattle.std.specs.List.Sorted.{IsNonDecreasingBy}
 use Rattle.std.proofs.lemmas.Bool.{cond_both, cond-true, cond-false, ltb-true, ltb-false, cases_lt, lt-ltb, le-ltb, le-leb, lt-leb, or_from}
+use Rattle.std.proofs.Math.Bool.{and-true}
 use Rattle.gcl_model.specs.Slots.{SlotRange, AreRangesWithin}
 use Rattle.delete_mask.specs.Masks.{is_within, is_dead, dead_range, IsApart}
 use Rattle.delete_mask.proofs.MaskLemmas.{is_within-before, is_within-behind, is_within-bounds, dead_range-before, is_dead-before, IsApart-rest, IsApart-behind}
@@ -53,10 +54,6 @@ lasts_rise low end (range ∷ mask) h zero (suc j) d le lt =
 lasts_rise low end (range ∷ mask) h (suc i) zero d le lt = absurd (omega arith)
 lasts_rise low end (range ∷ mask) h (suc i) (suc j) d le lt = lasts_rise (range.last + 1) end mask h.3 i j d (omega arith) (omega arith)
 
-and_true : (t : Bool) → (t && true) ≡ t
-and_true true = refl
-and_true false = refl
-
 -- the first range that does not end before p is the only one that may have p
 abbrev pub reached : ℕ → Option SlotRange → Option SlotRange
 reached p None = None
@@ -77,7 +74,7 @@ dead_range-halved low end (range ∷ mask) p h = by_order (cases_lt range.last p
         let count : prefix_len (λ (other : SlotRange). ltb other.last p) (range ∷ mask) ≡ 0 =
         ap (λ t. cond t (1 + prefix_len (λ (other : SlotRange). ltb other.last p) mask) 0) (le-ltb range.last p le) in
         let none : dead_range mask p ≡ None = dead_range-before (range.last + 1) end mask p h.3 (omega arith) in
-        let within : is_within range p ≡ leb range.first p = ap (λ t. leb range.first p && t) (le-leb p range.last le) ∙ and_true (leb range.first p) in
+        let within : is_within range p ≡ leb range.first p = ap (λ t. leb range.first p && t) (le-leb p range.last le) ∙ and-true (leb range.first p) in
         ap (λ t. cond t (Some range) (dead_range mask p)) within ∙ ap (λ o. cond (leb range.first p) (Some range) o) none ∙ sym (ap (λ n. reached p (slice_get (range ∷ mask) n)) count)
 
 -- the range at the place that halving finds

@@ -3,13 +3,10 @@ use Rattle.std.proofs.Common.{◌≡◌, ℕ, suc, ◌+◌, ◌-◌, ◌<◌, �
 use Rattle.std.proofs.lemmas.Bool.{cond_both, cond-true, cond-false, ltb-true, ltb-false, eqb-true, eqb-false, cases_lt, lt-ltb, le-ltb, le-leb, eq-eqb}
 use Rattle.std.proofs.Math.Bool.{or_assoc}
 use Rattle.gcl_model.specs.Slots.{SlotRange, joined, AreRangesWithin}
+use Rattle.gcl_model.proofs.Cases.{or_swap}
 use Rattle.delete_mask.specs.Masks.{is_within, is_dead, IsApart, with_range}
-use Rattle.delete_mask.proofs.MaskLemmas.{is_within-before, is_within-behind, AreRangesWithin-earlier, IsApart-rest, IsApart-joined, IsApart-behind}
-
-pub or_swap : (x y z : Bool) → (x || (y || z)) ≡ (y || (x || z))
-or_swap true true z = refl
-or_swap true false z = refl
-or_swap false y z = refl
+use Rattle.delete_mask.proofs.MaskLemmas.{is_within-before, is_within-behind, IsApart-rest, IsApart-joined, IsApart-behind}
+use Rattle.address_space.proofs.TierLemmas.{ranges_earlier}
 
 -- two ranges that touch have the addresses of both
 pub is_within-joined : (a b : SlotRange) (p : ℕ) → a.first ≤ a.last → b.first ≤ b.last → a.last + 1 ≡ b.first → is_within (joined a b) p ≡ (is_within a p || is_within b p)
@@ -76,7 +73,7 @@ AreRangesWithin-with_range low end (dead ∷ mask) range h apart first le last =
     let some : dead.first ≤ dead.last = h.1 in
     with_range-cases (λ m. AreRangesWithin low end m) range dead mask
     (λ behind. (start, some, h.2, AreRangesWithin-with_range (dead.last + 1) end mask range h.3 (IsApart-rest range dead mask apart) (omega arith) le last))
-    (λ touch. AreRangesWithin-with_range low end mask (joined dead range) (AreRangesWithin-earlier low (dead.last + 1) end mask (omega arith) h.3)
+    (λ touch. AreRangesWithin-with_range low end mask (joined dead range) (ranges_earlier low (dead.last + 1) end mask (omega arith) h.3)
     (IsApart-joined range dead end mask touch h.3 (IsApart-rest range dead mask apart)) start (omega arith) last)
     (λ reaches touch. (first, omega arith, h.2, h.3))
     (λ reaches other. (first, le, last, (let behind = IsApart-behind range dead mask le some apart reaches in omega arith, some, h.2, h.3)))

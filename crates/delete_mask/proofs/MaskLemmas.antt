@@ -43,11 +43,6 @@ dead_range-dead mask p range e = here (is_dead mask p) refl
     here true is = refl
     here false is = let none = (dead_range-none mask p).0 is in absurd cc
 
--- what lies from a later address on lies from an earlier one on
-pub AreRangesWithin-earlier : (low later end : ℕ) (mask : List SlotRange) → low ≤ later → AreRangesWithin later end mask → AreRangesWithin low end mask
-AreRangesWithin-earlier low later end [] le h = tt
-AreRangesWithin-earlier low later end (range ∷ mask) le h = (let first : later ≤ range.first = h.0 in omega arith, h.1, h.2, h.3)
-
 pub AreRangesWithin-later : (low end later : ℕ) (mask : List SlotRange) → end ≤ later → AreRangesWithin low end mask → AreRangesWithin low later mask
 AreRangesWithin-later low end later [] le h = tt
 AreRangesWithin-later low end later (range ∷ mask) le h =

@@ -1,4 +1,5 @@
 pub mod Lists
+pub mod Cases
 pub mod FormLemmas
 pub mod Covers
 pub mod Minimal

@@ -1,11 +1,12 @@
 -- What lists keep when they are joined, cut, filtered and searched.
-use Rattle.std.proofs.Common.{◌≡◌, ℕ, zero, suc, ◌+◌, ◌≤◌, Bool, true, false, not, ◌&&◌, cond, List, [], ◌∷◌, ◌++◌, map, filter, find, length, take, drop, reverse, Option, Some, None, refl, sym, ap, ◌∙◌, arith, zero-add, le_refl}
+use Rattle.std.proofs.Common.{◌≡◌, ℕ, zero, suc, ◌+◌, ◌≤◌, ◌<◌, Bool, true, false, not, ◌&&◌, cond, List, [], ◌∷◌, ◌++◌, map, filter, find, length, take, drop, get_or, reverse, Option, Some, None, refl, sym, ap, ◌∙◌, arith, zero-add, le_refl}
 use Rattle.std.specs.List.{AllByRecursion, prefix_len}
 use Rattle.std.specs.List.Sorted.{IsPartitionPoint}
 use Rattle.std.specs.Option.{option_or}
-use Rattle.std.proofs.lemmas.List.{take-append-drop, reverse-append}
+use Rattle.std.proofs.lemmas.List.{take-append-drop, reverse-append, drop_more}
 use Rattle.std.proofs.lemmas.List.Folds.{find-append}
 use Rattle.std.proofs.Math.Bool.{and-false, and-true}
+use Rattle.std.proofs.Math.Seq.{take-nil, drop-nil}
 use Rattle.gcl_model.specs.Access.{later_or, find_last}
 
 -- what holds of all members
@@ -52,10 +53,18 @@ all_filter P Q t (x ∷ xs) each h = here (t x) refl (all_filter P Q t xs each h
     here true e rest = (each x h.0 e, rest)
     here false e rest = rest
 
+-- what holds of all members holds of those that pass
+pub all_kept : {X : Type 0} (P : X → Type 0) (t : X → Bool) (xs : List X) → AllByRecursion P xs → AllByRecursion P (filter t xs)
+all_kept P t xs h = all_filter P P t xs (λ x p passes. p) h
+
 -- filters
 pub filter_kept : {X : Type 0} (t : X → Bool) (xs : List X) → AllByRecursion (λ x. t x ≡ true) xs → filter t xs ≡ xs
 filter_kept t [] h = refl
 filter_kept t (x ∷ xs) h = ap (λ b. cond b (x ∷ filter t xs) (filter t xs)) h.0 ∙ ap (λ l. x ∷ l) (filter_kept t xs h.1)
+
+pub filter_all : {X : Type 0} (xs : List X) → filter (λ x. true) xs ≡ xs
+filter_all [] = refl
+filter_all (x ∷ xs) = ap (λ l. x ∷ l) (filter_all xs)
 
 pub filter_gone : {X : Type 0} (t : X → Bool) (xs : List X) → AllByRecursion (λ x. t x ≡ false) xs → filter t xs ≡ []
 filter_gone t [] h = refl
@@ -98,18 +107,20 @@ length-filter_found t x (y ∷ ys) e = here (t y) e (length-filter_found t x ys)
     here false found rest le = let less : length (filter (λ z. not (t z)) ys) + 1 ≤ length ys = rest found in omega arith
 
 -- cuts
-drop_none : {X : Type 0} (n : ℕ) → drop {A = X} n [] ≡ []
-drop_none zero = refl
-drop_none (suc n) = refl
+pub take_past : {X : Type 0} (x : X) (xs : List X) (n : ℕ) → take (1 + n) (x ∷ xs) ≡ x ∷ take n xs
+take_past x xs n = let e : 1 + n ≡ suc n = omega arith in ap (λ m. take m (x ∷ xs)) e
 
-take_none : {X : Type 0} (n : ℕ) → take {A = X} n [] ≡ []
-take_none zero = refl
-take_none (suc n) = refl
+pub drop_past : {X : Type 0} (x : X) (xs : List X) (n : ℕ) → drop (1 + n) (x ∷ xs) ≡ drop n xs
+drop_past x xs n = let e : 1 + n ≡ suc n = omega arith in ap (λ m. drop m (x ∷ xs)) e
+
+-- the member at a place, and those behind it
+pub drop_here : {X : Type 0} (xs : List X) (i : ℕ) (x : X) → i < length xs → x ≡ get_or xs i x → drop i xs ≡ x ∷ drop (i + 1) xs
+drop_here xs i x lt is = drop_more xs i x lt ∙ ap (λ y. y ∷ drop (i + 1) xs) (sym is)
 
 -- a list is what stands before a place, so many members from there on, and the rest
 pub cut_twice : {X : Type 0} (at count : ℕ) (xs : List X) → take at xs ++ (take count (drop at xs) ++ drop (at + count) xs) ≡ xs
 cut_twice zero count xs = ap (λ n. take count xs ++ drop n xs) (zero-add count) ∙ take-append-drop count xs
-cut_twice (suc at) count [] = ap (λ l. l ++ drop (suc at + count) []) (take_none count) ∙ drop_none (suc at + count)
+cut_twice (suc at) count [] = ap (λ l. l ++ drop (suc at + count) []) (take-nil count) ∙ drop-nil (suc at + count)
 cut_twice (suc at) count (x ∷ xs) =
     let more : suc at + count ≡ suc (at + count) = omega arith in
     ap (λ n. x ∷ (take at xs ++ (take count (drop at xs) ++ drop n (x ∷ xs)))) more ∙ ap (λ l. x ∷ l) (cut_twice at count xs)
@@ -123,7 +134,16 @@ prefix_len_at_point p (x ∷ xs) (suc n) le point =
     let rest : n ≡ prefix_len p xs = prefix_len_at_point p xs n (omega arith) (λ k d ge lt. point.0 (suc k) d (omega arith) (omega arith), λ k d ge lt. point.1 (suc k) d (omega arith) (omega arith)) in
     rw passes (omega arith)
 
--- searches: two tests that agree on all members find the same one
+-- searches: what is found passes
+pub found_passes : {X : Type 0} (t : X → Bool) (x : X) (xs : List X) → find t xs ≡ Some x → t x ≡ true
+found_passes t x [] e = absurd cc
+found_passes t x (y ∷ ys) e = here (t y) refl e (found_passes t x ys)
+  where
+    here : (b : Bool) → t y ≡ b → cond b (Some y) (find t ys) ≡ Some x → (find t ys ≡ Some x → t x ≡ true) → t x ≡ true
+    here true is found rest = let same : y ≡ x = cc in sym (ap t same) ∙ is
+    here false is found rest = rest found
+
+-- two tests that agree on all members find the same one
 pub find_agree : {X : Type 0} (p q : X → Bool) (xs : List X) → AllByRecursion (λ x. p x ≡ q x) xs → find p xs ≡ find q xs
 find_agree p q [] h = refl
 find_agree p q (x ∷ xs) h = ap (λ b. cond b (Some x) (find p xs)) h.0 ∙ ap (λ o. cond (q x) (Some x) o) (find_agree p q xs h.1)

@@ -1,8 +1,7 @@
 -- Quoted texts and widths by the run of bytes between their ends.
 use Rattle.std.proofs.Common.{◌≡◌, ℕ, ◌+◌, ◌-◌, ◌<◌, ◌≤◌, Bool, true, false, cond, List, [], ◌∷◌, length, drop, take, get_or, refl, ap, sym, subst, ◌∙◌, arith, length-drop}
 use Rattle.std.proofs.lemmas.Bool.{and_from, cond-true, cond-false, not_from_true, not_from_false, false_from_ne_true}
-use Rattle.std.proofs.Math.Seq.{take-length}
-use Rattle.std.proofs.lemmas.List.{drop_all, drop-drop, drop_more}
+use Rattle.std.proofs.lemmas.List.{drop_all, drop-drop, drop_more, take_rest}
 use Rattle.std.proofs.lemmas.List.Sums.{prefix_len_is, take_while-cons}
 use Rattle.std.proofs.lemmas.List.Folds.{length-prefix_len}
 use Rattle.std.specs.List.{take_while, prefix_len, list_all}
@@ -63,13 +62,9 @@ no_quote bytes nowhere =
     cond-false (starts_with_byte 34 (drop (length content) bytes)) (one_token (quoted_token (terms_of content)) (length content + 2)) (broken_piece OpenQuote)
     (ap (λ xs. starts_with_byte 34 xs) (drop_all (length content) bytes (omega arith)))
 
--- the same, of what follows a place of a text
-rest_is : (text : List ℕ) (n : ℕ) → take (length text - n) (drop n text) ≡ drop n text
-rest_is text n = ap (λ m. take m (drop n text)) (sym (length-drop n text)) ∙ take-length (drop n text)
-
 pub no_quote_behind : (text : List ℕ) (n : ℕ) → Nowhere (Passes (is_byte 34) (take (length text - n) (drop n text))) 0 (length (take (length text - n) (drop n text))) →
     quoted_piece (drop n text) ≡ broken_piece OpenQuote
-no_quote_behind text n h = no_quote (drop n text) (subst (λ bytes. Nowhere (Passes (is_byte 34) bytes) 0 (length bytes)) (rest_is text n) h)
+no_quote_behind text n h = no_quote (drop n text) (subst (λ bytes. Nowhere (Passes (is_byte 34) bytes) 0 (length bytes)) (take_rest text n) h)
 
 pub record IsQuoted (text : List ℕ) (n k : ℕ) : Type 0 where
   pub short : n + k < length text
@@ -78,11 +73,11 @@ pub record IsQuoted (text : List ℕ) (n k : ℕ) : Type 0 where
 pub quote_behind : (text : List ℕ) (n k : ℕ) → NoneBefore (Passes (is_byte 34) (take (length text - n) (drop n text))) 0 (length (take (length text - n) (drop n text))) k →
     Passes (is_byte 34) (take (length text - n) (drop n text)) k → IsQuoted text n k
 quote_behind text n k before passes =
-    let first = subst (λ bytes. NoneBefore (Passes (is_byte 34) bytes) 0 (length bytes) k) (rest_is text n) before in
+    let first = subst (λ bytes. NoneBefore (Passes (is_byte 34) bytes) 0 (length bytes) k) (take_rest text n) before in
     let lt : k < length (drop n text) = first.high in
     record {
       short = omega (arith, length-drop n text);
-      piece = quote_found (drop n text) k first (subst (λ bytes. Passes (is_byte 34) bytes k) (rest_is text n) passes);
+      piece = quote_found (drop n text) k first (subst (λ bytes. Passes (is_byte 34) bytes k) (take_rest text n) passes);
     }
 
 -- each byte of a run passes
@@ -97,7 +92,7 @@ run_passes p (x ∷ xs) = ap (λ ys. list_all p ys) (take_while-cons p x xs) ∙
 pub digits_pass : (bytes : List ℕ) (from n size : ℕ) → size ≡ length (take_while is_ascii_digit (take (length bytes - from) (drop from bytes))) → n ≡ size →
     list_all is_ascii_digit (take n (drop from bytes)) ≡ true
 digits_pass bytes from n size is same =
-    let len : n ≡ prefix_len is_ascii_digit (drop from bytes) = same ∙ is ∙ ap (λ xs. length (take_while is_ascii_digit xs)) (rest_is bytes from) ∙ length-prefix_len is_ascii_digit (drop from bytes) in
+    let len : n ≡ prefix_len is_ascii_digit (drop from bytes) = same ∙ is ∙ ap (λ xs. length (take_while is_ascii_digit xs)) (take_rest bytes from) ∙ length-prefix_len is_ascii_digit (drop from bytes) in
     ap (λ m. list_all is_ascii_digit (take m (drop from bytes))) len ∙ run_passes is_ascii_digit (drop from bytes)
 
 -- digits up to a closing bracket are a width
@@ -110,7 +105,7 @@ pub width_behind : (text : List ℕ) (from size n : ℕ) → size ≡ length (ta
 width_behind text from size n is same starts =
     let bytes = drop from text in
     let digits = take_while is_ascii_digit bytes in
-    let len : length digits ≡ size = sym (is ∙ ap (λ xs. length (take_while is_ascii_digit xs)) (rest_is text from)) in
+    let len : length digits ≡ size = sym (is ∙ ap (λ xs. length (take_while is_ascii_digit xs)) (take_rest text from)) in
     let taken : digits ≡ take n bytes = ap (λ m. take m bytes) (sym (length-prefix_len is_ascii_digit bytes) ∙ len ∙ sym same) in
     record {
       short = starts_with_byte-some 93 text (from + size) starts;

@@ -1,2 +1,3 @@
-mod Keeping
+pub mod Keeping
+pub mod Pieces
 mod Worked

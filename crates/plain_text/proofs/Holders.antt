@@ -5,16 +5,10 @@ use Rattle.std.specs.Option.{option_map}
 use Rattle.std.proofs.lemmas.Bool.{leb-false, le-leb, lt-leb, ltb-true, ltb-false, cases_Bool}
 use Rattle.gcl_model.specs.Access.{find_last, later_or}
 use Rattle.gcl_model.specs.Texts.{Word, AreRisingBelow, is_word, holds, next_place, previous_place}
-use Rattle.gcl_model.proofs.Lists.{later_or-none}
+use Rattle.gcl_model.proofs.Lists.{later_or-none, drop_past, take_past}
 use Rattle.gcl_model.proofs.WordLists.{none_previous}
 use Rattle.plain_text.specs.Puts.{word}
 use Rattle.plain_text.specs.Holders.{first_holder, last_holder}
-
-drop_past : (w : Word) (ws : List Word) (n : ℕ) → drop (1 + n) (w ∷ ws) ≡ drop n ws
-drop_past w ws n = let e : 1 + n ≡ suc n = omega arith in ap (λ m. drop m (w ∷ ws)) e
-
-take_past : (w : Word) (ws : List Word) (n : ℕ) → take (1 + n) (w ∷ ws) ≡ w ∷ take n ws
-take_past w ws n = let e : 1 + n ≡ suc n = omega arith in ap (λ m. take m (w ∷ ws)) e
 
 skip_first : (w : Word) (ws : List Word) (token : List ℕ) (k : ℕ) → w.address < k → next_place (w ∷ ws) token k ≡ next_place ws token k
 skip_first w ws token k lt =

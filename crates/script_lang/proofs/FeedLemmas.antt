@@ -6,6 +6,7 @@ use Rattle.std.proofs.lemmas.Bool.Decides.{nat_tests}
 use Rattle.std.proofs.lemmas.List.{take-append-le, drop-append-le, take-append-drop, map-append, length-take-le, take_all, drop-drop}
 use Rattle.std.proofs.lemmas.List.Folds.{list_any-append}
 use Rattle.std.proofs.lemmas.List.Sums.{prefix_len-le-length}
+use Rattle.std.proofs.lemmas.Bool.{false_from_ne_true, true_from_ne_false, or_parts}
 use Rattle.std.proofs.Math.Seq.{drop-append-add, take-append-add, take-add, take-length}
 use Rattle.std.proofs.Math.ListN.{drop_of_length-le}
 use Rattle.script_lang.specs.Lines.{Line, line_of, lines, line_end, cut_at_newlines}
@@ -15,14 +16,6 @@ use Rattle.script_lang.proofs.LineLemmas.{lines-first, cut-first, line_of-long, 
 
 abbrev first_newline : List ℕ → ℕ
 first_newline = position_or_len (λ b. b == 10)
-
-is_false : (t : Bool) → (t ≡ true → ⊥) → t ≡ false
-is_false true wrong = absurd (wrong refl)
-is_false false wrong = refl
-
-is_true : (t : Bool) → (t ≡ false → ⊥) → t ≡ true
-is_true true wrong = refl
-is_true false wrong = absurd (wrong refl)
 
 -- Where the first newline is.
 
@@ -44,10 +37,10 @@ newline-some [] is = cc
 newline-some (b ∷ bytes) is = step_some (b == 10) (has_newline bytes) (first_newline bytes) (length bytes) is (newline-some bytes)
 
 pub has_newline-none : (bytes : List ℕ) → length bytes ≤ first_newline bytes → has_newline bytes ≡ false
-has_newline-none bytes is = is_false (has_newline bytes) (λ some. absurd (omega (arith, newline-some bytes some)))
+has_newline-none bytes is = false_from_ne_true (has_newline bytes) (λ some. absurd (omega (arith, newline-some bytes some)))
 
 pub has_newline-some : (bytes : List ℕ) → first_newline bytes < length bytes → has_newline bytes ≡ true
-has_newline-some bytes is = is_true (has_newline bytes) (λ none. absurd (omega (arith, newline-none bytes none)))
+has_newline-some bytes is = true_from_ne_false (has_newline bytes) (λ none. absurd (omega (arith, newline-none bytes none)))
 
 step_behind : (t r : Bool) (n len more : ℕ) → (t || r) ≡ false → (r ≡ false → n ≡ len + more) → cond (not t) (1 + n) 0 ≡ suc len + more
 step_behind true r n len more is next = cc
@@ -67,18 +60,10 @@ newline-within [] later is = cc
 newline-within (b ∷ bytes) later is =
     step_within (b == 10) (has_newline bytes) (first_newline (bytes ++ later)) (first_newline bytes) is (newline-within bytes later)
 
-or_left : (t r : Bool) → (t || r) ≡ false → t ≡ false
-or_left true r is = is
-or_left false r is = refl
-
-or_right : (t r : Bool) → (t || r) ≡ false → r ≡ false
-or_right true r is = cc
-or_right false r is = is
-
 -- a part of bytes without a newline has none
 has_newline-take : (bytes : List ℕ) (n : ℕ) → has_newline bytes ≡ false → has_newline (take n bytes) ≡ false
 has_newline-take bytes n is =
-    or_left (has_newline (take n bytes)) (has_newline (drop n bytes)) (sym (list_any-append (λ b. b == 10) (take n bytes) (drop n bytes)) ∙ ap has_newline (take-append-drop n bytes) ∙ is)
+    (or_parts (has_newline (take n bytes)) (has_newline (drop n bytes)) (sym (list_any-append (λ b. b == 10) (take n bytes) (drop n bytes)) ∙ ap has_newline (take-append-drop n bytes) ∙ is)).0
 
 -- Lines that are taken.
 
@@ -179,7 +164,7 @@ end-behind_by : (t : Bool) (most : ℕ) (front rest : List ℕ) (k : ℕ) → na
 end-behind_by true most front rest k is few none =
     let before : k ≤ length front = grind (arith, nat_tests) in
     let there : has_newline (10 ∷ rest) ≡ false =
-    or_right (has_newline (drop k front)) (has_newline (10 ∷ rest)) (sym (list_any-append (λ b. b == 10) (drop k front) (10 ∷ rest)) ∙ ap has_newline (sym (drop-append-le k front (10 ∷ rest) before)) ∙ none) in
+    (or_parts (has_newline (drop k front)) (has_newline (10 ∷ rest)) (sym (list_any-append (λ b. b == 10) (drop k front) (10 ∷ rest)) ∙ ap has_newline (sym (drop-append-le k front (10 ∷ rest) before)) ∙ none)).1 in
     absurd (no_newline there)
   where
     no_newline : true ≡ false → ⊥

@@ -5,6 +5,7 @@ use Rattle.std.specs.List.{onto_first, position_or_len, prefix_len}
 use Rattle.std.proofs.lemmas.Bool.Decides.{nat_tests}
 use Rattle.std.proofs.lemmas.List.{length-drop, drop-drop, take-take, drop_min, drop-take}
 use Rattle.std.proofs.lemmas.List.Sums.{prefix_len_is, prefix_len-le-length}
+use Rattle.std.proofs.lemmas.Bool.{cond-true, cond-false}
 use Rattle.memchr.specs.Find.{NoneBefore, Nowhere, Passes, is_byte}
 use Rattle.gcl_model.specs.Tokens.{is_blank}
 use Rattle.script_lang.specs.Blanks.{without_front, without_back}
@@ -55,22 +56,14 @@ pub lines-first : (most : ℕ) (bs : List ℕ) (n : ℕ) → 0 < length bs → n
     lines most bs ≡ line_of most (take n bs) ∷ lines most (drop (n + 1) bs)
 lines-first most bs n some is = rw is (ap (map (line_of most)) (cut-first bs some))
 
-cond_true : {X : Type 0} (t : Bool) (x y : X) → t ≡ true → cond t x y ≡ x
-cond_true true x y is = refl
-cond_true false x y is = cc
-
-cond_false : {X : Type 0} (t : Bool) (x y : X) → t ≡ false → cond t x y ≡ y
-cond_false true x y is = cc
-cond_false false x y is = refl
-
 abbrev short_line : List ℕ → Line
 short_line bytes = record { long = false; bytes = bytes }
 
 pub line_of-long : (most : ℕ) (line : List ℕ) → most < length line → line_of most line ≡ record { long = true; bytes = [] }
-line_of-long most line over = cond_true (nat_lt most (length line)) _ _ (grind (arith, nat_tests))
+line_of-long most line over = cond-true (nat_lt most (length line)) _ _ (grind (arith, nat_tests))
 
 pub line_of-short : (most : ℕ) (line : List ℕ) → length line ≤ most → line_of most line ≡ short_line (without_front (without_back (without_return line)))
-line_of-short most line few = cond_false (nat_lt most (length line)) _ _ (grind (arith, nat_tests))
+line_of-short most line few = cond-false (nat_lt most (length line)) _ _ (grind (arith, nat_tests))
 
 -- the first of the lines from a place on, and those behind its newline
 lines-at : (text : List ℕ) (at most end after : ℕ) → at < length text → end ≡ line_end text at → after ≡ min (end + 1) (length text) →

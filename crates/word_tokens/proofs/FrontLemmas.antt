@@ -21,12 +21,9 @@ pub name_at-other : (text : List ℕ) → is_ascii_alphabetic (get_or text 0 0) 
 name_at-other [] e = refl
 name_at-other (b ∷ bytes) e = rw e refl
 
-pub length-take_while : (p : ℕ → Bool) (text : List ℕ) → length (take_while p text) ≡ prefix_len p text
-length-take_while p text = length-prefix_len p text
-
 -- the run is what stands before its end
 pub take-take_while : (p : ℕ → Bool) (text : List ℕ) → take (length (take_while p text)) text ≡ take_while p text
-take-take_while p text = ap (λ n. take n text) (length-take_while p text)
+take-take_while p text = ap (λ n. take n text) (length-prefix_len p text)
 
 -- the last byte
 pub ends_with_byte-last : (c : ℕ) (bytes : List ℕ) → option_eq nat_eq (slice_get bytes (length bytes - 1)) (Some c) ≡ ends_with_byte c bytes
@@ -68,7 +65,7 @@ bracket_at after k found = record {
 
 tag_end_by : (after : List ℕ) (n : ℕ) (s : Bool) → prefix_len is_tag_byte after ≡ n → starts_with_byte 62 (drop n after) ≡ s → tag_end after ≡ cond s (Some n) None
 tag_end_by after n s e f =
-    let m = length-take_while is_tag_byte after ∙ e in
+    let m = length-prefix_len is_tag_byte after ∙ e in
     ap (λ i. cond (starts_with_byte 62 (drop i after)) (Some i) None) m ∙ ap (λ t. cond t (Some n) None) f
 
 pub tag_end-some : (after : List ℕ) (k : ℕ) → IsFirstByte (is_byte2 60 62) after (Some k) → get_or after k 0 ≡ 62 → Some k ≡ tag_end after

@@ -5,13 +5,13 @@ use Rattle.std.specs.Char.{to_ascii_lowercase}
 use Rattle.std.specs.List.{AllByRecursion}
 use Rattle.std.proofs.lemmas.Bool.{cases_lt}
 use Rattle.std.proofs.lemmas.List.Sums.{prefix_len-le-length}
+use Rattle.std.proofs.lemmas.List.Folds.{length-prefix_len}
 use Rattle.std.proofs.Math.ListN.{drop_of_length-le}
 use Rattle.gcl_model.specs.Tokens.{Part, close_token, ends_with_byte, first_part, is_tag_byte, is_word_byte, name_at, open_token, part_or_separator, starts_with_byte, tag_behind, tag_tokens, tag_with_name, tokens_of}
 use Rattle.gcl_model.specs.Collections.{IsToken}
 use Rattle.gcl_model.proofs.Lists.{all_append, all_weaker}
 use Rattle.gcl_model.proofs.Parts.{tokens_of-cons}
 use Rattle.word_tokens.specs.Lexemes.{part_of}
-use Rattle.word_tokens.proofs.FrontLemmas.{length-take_while}
 
 -- a part of a text of n bytes: no token has more bytes than the part, and there are no more tokens than bytes
 pub record FitsIn (n : ℕ) (part : Part) : Type 0 where
@@ -25,7 +25,7 @@ OptionFits n None = Unit {0}
 OptionFits n (Some part) = FitsIn n part
 
 take_while-le : (p : ℕ → Bool) (bytes : List ℕ) → length (take_while p bytes) ≤ length bytes
-take_while-le p bytes = omega (arith, length-take_while p bytes, prefix_len-le-length p bytes)
+take_while-le p bytes = omega (arith, length-prefix_len p bytes, prefix_len-le-length p bytes)
 
 ends_with_byte-some : (c : ℕ) (bytes : List ℕ) → ends_with_byte c bytes ≡ true → 1 ≤ length bytes
 ends_with_byte-some c [] e = absurd cc
