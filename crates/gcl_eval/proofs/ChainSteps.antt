@@ -1,7 +1,7 @@
 -- One operand of a chain more: what the code of a chain keeps from operand to operand, and what it gives.
-use Rattle.std.proofs.Common.{◌≡◌, ℕ, ◌+◌, ◌<◌, ◌≤◌, List, ◌∷◌, Option, Some, None, IfSome, get_or, drop, length, sym, ap, ◌∙◌, arith}
+use Rattle.std.proofs.Common.{◌≡◌, ℕ, ◌<◌, ◌≤◌, List, ◌∷◌, Option, Some, None, IfSome, drop, length, sym, ap, ◌∙◌, arith}
 use Rattle.std.specs.Option.{option_map, option_and_then}
-use Rattle.std.proofs.lemmas.List.{drop_more, drop_all}
+use Rattle.std.proofs.lemmas.List.{drop_all}
 use Rattle.gcl_model.specs.declared.expr.Expr.{Expr}
 use Rattle.gcl_model.specs.Extents.{Extent}
 use Rattle.gcl_model.specs.Texts.{Text, IsText}
@@ -18,10 +18,6 @@ use Rattle.gcl_eval.proofs.Found.{access_within, access_proper}
 use Rattle.gcl_eval.proofs.FarAccess.{far_access-by_near}
 use Rattle.gcl_eval.proofs.ChainRules.{farthest-cons, near_access-both, best-nil, best-cons, near_access-one, walk-beside, near_access-seq}
 use Rattle.gcl_eval.proofs.OperandLemmas.{lists_beside}
-
--- the item of a slice at a place, and those after it
-pub next_item : (exprs : List Expr) (i : ℕ) (x : Expr) → i < length exprs → x ≡ get_or exprs i x → drop i exprs ≡ x ∷ drop (i + 1) exprs
-next_item exprs i x lt is = drop_more exprs i x lt ∙ ap (λ y. y ∷ drop (i + 1) exprs) (sym is)
 
 module _ (direction : Direction) (text : Text) (rest others : List Expr) (x : Expr) (e : rest ≡ beside direction x others) where
   walk_rule : (a : Extent) → walk direction (operand_lists text rest) a ≡ option_and_then (walk direction (operand_lists text others)) (option_and_then (near_access direction (concordance text (form_of x))) (beyond direction a))

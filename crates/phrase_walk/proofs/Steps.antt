@@ -1,8 +1,7 @@
 -- The steps of the walks, token by token and turn by turn.
-use Rattle.std.proofs.Common.{◌≡◌, ℕ, suc, ◌+◌, ◌-◌, ◌*◌, ◌<◌, ◌≤◌, List, [], ◌∷◌, ◌++◌, length, drop, get_or, Option, Some, None, inl, inr, refl, sym, ap, ◌∙◌, subst, arith}
+use Rattle.std.proofs.Common.{◌≡◌, ℕ, suc, ◌+◌, ◌-◌, ◌*◌, ◌<◌, ◌≤◌, List, [], ◌∷◌, ◌++◌, length, Option, Some, None, inl, inr, refl, sym, ap, ◌∙◌, subst, arith}
 use Rattle.std.specs.Option.{option_and_then}
 use Rattle.std.proofs.lemmas.Bool.{cases_lt}
-use Rattle.std.proofs.lemmas.List.{drop_more}
 use Rattle.gcl_model.specs.Extents.{Extent, extent}
 use Rattle.gcl_model.specs.Access.{first_start, last_start}
 use Rattle.gcl_model.specs.Texts.{Text, Word, IsText, next_place, previous_place}
@@ -14,10 +13,6 @@ use Rattle.phrase_walk.proofs.Places.{next_tells}
 use Rattle.phrase_walk.proofs.Near.{InRow, AreNear, near_row, end_tells, none_end, start_tells, none_start}
 use Rattle.phrase_walk.proofs.Members.{row_within, first_row, no_first_row, last_row, no_last_row}
 use Rattle.phrase_walk.proofs.Passed.{fewest_passed, fewest_more}
-
--- the token at a place, and those after it
-pub next_token : (tokens : List (List ℕ)) (i : ℕ) (t : List ℕ) → i < length tokens → t ≡ get_or tokens i t → drop i tokens ≡ t ∷ drop (i + 1) tokens
-next_token tokens i t lt is = drop_more tokens i t lt ∙ ap (λ u. u ∷ drop (i + 1) tokens) (sym is)
 
 pub token_count : (rest : List (List ℕ)) (t : List ℕ) (others : List (List ℕ)) → rest ≡ t ∷ others → length rest ≡ length others + 1
 token_count rest t others e = rw e (omega arith)

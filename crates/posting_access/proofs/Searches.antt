@@ -1,44 +1,18 @@
 -- A look-up in a rising list, by the block that decides.
-use Rattle.std.proofs.Common.{◌≡◌, ℕ, zero, suc, ◌+◌, ◌-◌, ◌*◌, ◌^◌, ◌<◌, ◌≤◌, min, Bool, true, false, cond, leb, ltb, List, [], ◌∷◌, ◌++◌, length, take, drop, get_or, reverse, find, nat_le, Option, Some, None, inl, inr, refl, subst, sym, ap, ◌∙◌, arith}
+use Rattle.std.proofs.Common.{◌≡◌, ℕ, zero, suc, ◌+◌, ◌-◌, ◌*◌, ◌^◌, ◌<◌, ◌≤◌, min, true, false, cond, leb, ltb, List, [], ◌∷◌, ◌++◌, length, take, drop, get_or, reverse, find, nat_le, Option, Some, None, inl, inr, refl, subst, sym, ap, ◌∙◌, arith}
 use Rattle.std.specs.List.{slice_get}
 use Rattle.std.specs.Option.{option_or, option_to_list}
 use Rattle.std.proofs.lemmas.Option.{none-some, slice_get_past}
 use Rattle.std.proofs.lemmas.Bool.{le-leb, lt-leb, lt-ltb, le-ltb, cases_lt}
-use Rattle.std.proofs.lemmas.List.{take-append-drop, drop-drop, length-drop, length-take, get_or-take, get_or-drop, reverse-append}
+use Rattle.std.proofs.lemmas.List.{take-append-drop, drop-drop, length-drop, length-take, get_or-take, get_or-drop}
 use Rattle.std.proofs.lemmas.List.Folds.{find-append}
 use Rattle.gcl_model.specs.Access.{later_or, find_last}
+use Rattle.gcl_model.proofs.Lists.{find_last-append, find-reverse}
 use Rattle.posting_code.specs.Postings.{RiseWithin, ArePostings, blocks_of, block_of}
-use Rattle.posting_code.proofs.Rising.{rise_index, rise_drop}
-use Rattle.posting_code.proofs.Around.{take_rises}
+use Rattle.posting_code.proofs.Rising.{rise_index}
+use Rattle.posting_code.proofs.Around.{block_rises}
 use Rattle.posting_access.specs.Search.{least_from, greatest_to, RisesByDigits}
 use Rattle.posting_access.proofs.Digits.{digits_of_blocks, digits_of_one_more}
-
-later_or-none : {X : Type 0} (o : Option X) → later_or o None ≡ o
-later_or-none None = refl
-later_or-none (Some x) = refl
-
-later_or-assoc : {X : Type 0} (a b c : Option X) → later_or a (later_or b c) ≡ later_or (later_or a b) c
-later_or-assoc None b c = refl
-later_or-assoc (Some x) b c = refl
-
-later_or-option_or : {X : Type 0} (a : Option X) (b : Bool) (x : X) → option_or a (cond b (Some x) None) ≡ later_or a (cond b (Some x) None)
-later_or-option_or None b x = refl
-later_or-option_or (Some y) b x = refl
-
-pub find_last-append : {X : Type 0} (p : X → Bool) (xs ys : List X) → find_last p (xs ++ ys) ≡ later_or (find_last p ys) (find_last p xs)
-find_last-append p [] ys = sym (later_or-none (find_last p ys))
-find_last-append p (x ∷ xs) ys =
-    ap (λ o. later_or o (cond (p x) (Some x) None)) (find_last-append p xs ys)
-    ∙ sym (later_or-assoc (find_last p ys) (find_last p xs) (cond (p x) (Some x) None))
-
--- the first from the back is the last
-pub find-reverse : {X : Type 0} (p : X → Bool) (xs : List X) → find p (reverse xs) ≡ find_last p xs
-find-reverse p [] = refl
-find-reverse p (x ∷ xs) =
-    ap (find p) (reverse-append (x ∷ []) xs)
-    ∙ find-append p (reverse xs) (x ∷ [])
-    ∙ ap (λ o. option_or o (cond (p x) (Some x) None)) (find-reverse p xs)
-    ∙ later_or-option_or (find_last p xs) (p x) x
 
 -- members before one that is at most k can be left out
 least_skips : (low end : ℕ) (xs : List ℕ) (n k : ℕ) → RiseWithin low end xs → n < length xs → get_or xs n 0 ≤ k → least_from xs k ≡ least_from (drop n xs) k
@@ -57,7 +31,8 @@ least_beyond [] (suc n) k after = refl
 least_beyond (x ∷ xs) zero k after = let lt = after (omega arith) in let e : leb k x ≡ true = le-leb k x (omega arith) in rw e refl
 least_beyond (x ∷ xs) (suc n) k after = least_beyond xs n k (λ lt. after (omega arith))
 
-greatest_none : (low end : ℕ) (xs : List ℕ) (k : ℕ) → RiseWithin low end xs → k < low → greatest_to xs k ≡ None
+-- where every member is greater than k there is none up to k
+pub greatest_none : (low end : ℕ) (xs : List ℕ) (k : ℕ) → RiseWithin low end xs → k < low → greatest_to xs k ≡ None
 greatest_none low end [] k r lt = refl
 greatest_none low end (x ∷ xs) k r lt =
     let a = r.0 in
@@ -193,9 +168,6 @@ one_above k above p is small =
       | inl beyond ↦ le-ltb p above (omega (arith, beyond, is)) ∙ sym (lt-leb p k beyond)
       | inr within ↦ lt-ltb p above (omega (arith, within, is, small)) ∙ sym (le-leb p k within)
     ]
-
-pub block_rises : (xs : List ℕ) (b : ℕ) → ArePostings xs → RiseWithin 0 (2 ^ 56) (block_of xs b)
-block_rises xs b r = take_rises 0 (2 ^ 56) (drop (64 * b) xs) 64 (rise_drop 0 (2 ^ 56) xs (64 * b) r)
 
 pub greatest_found : (xs : List ℕ) (k last near above : ℕ) (r : Option ℕ) → IsNear xs k near → near ≡ last + 1 → above ≡ min (k + 1) (2 ^ 64 - 1) →
     r ≡ find (λ p. ltb p above) (reverse (block_of xs last)) → r ≡ greatest_to xs k

@@ -5,7 +5,7 @@ use Rattle.std.proofs.lemmas.Bool.{lt-ltb, le-ltb, lt-leb, le-leb}
 use Rattle.std.proofs.lemmas.List.{reverse-append, take_min, take-append-le, take_all}
 use Rattle.std.proofs.lemmas.List.Folds.{find-append}
 use Rattle.posting_code.specs.declared.head.Head.{Head}
-use Rattle.posting_code.specs.Postings.{RiseWithin, blocks_of, block_of}
+use Rattle.posting_code.specs.Postings.{RiseWithin, ArePostings, blocks_of, block_of}
 use Rattle.posting_code.specs.Packed.{members_behind, kept, CanUnpack, IsHead, IsKept, head_at}
 use Rattle.posting_code.proofs.Packed.{can_unpack}
 use Rattle.posting_code.proofs.Rising.{rise_drop}
@@ -50,6 +50,10 @@ take_rises low end [] zero r = tt
 take_rises low end [] (suc n) r = tt
 take_rises low end (x ∷ xs) zero r = tt
 take_rises low end (x ∷ xs) (suc n) r = (r.0, r.1, take_rises (x + 1) end xs n r.2)
+
+-- the members of a block rise
+pub block_rises : (xs : List ℕ) (b : ℕ) → ArePostings xs → ArePostings (block_of xs b)
+block_rises xs b r = take_rises 0 (2 ^ 56) (drop (64 * b) xs) 64 (rise_drop 0 (2 ^ 56) xs (64 * b) r)
 
 pub around_goes : (packed : List ℕ) (first at behind k value after left next next_after : ℕ) (below : Option ℕ) → IsAround packed first at behind k value after left below → value < k → 0 < left →
     members_behind packed value after ≡ next ∷ members_behind packed next next_after → CanUnpack packed next next_after →

@@ -1,11 +1,11 @@
 -- Packed numbers, written and read.
-use Rattle.std.proofs.Common.{◌≡◌, ℕ, zero, suc, ◌+◌, ◌-◌, ◌*◌, ◌/◌, ◌%◌, ◌^◌, ◌<◌, ◌≤◌, false, cond, ltb, mul-add, List, [], ◌∷◌, ◌++◌, length, drop, drop-cons, get_or, Option, Some, None, unwrap_or, inl, inr, ◌↔◌, refl, sym, ap, ◌∙◌, subst, arith}
+use Rattle.std.proofs.Common.{◌≡◌, ℕ, zero, suc, ◌+◌, ◌-◌, ◌*◌, ◌/◌, ◌%◌, ◌^◌, ◌<◌, ◌≤◌, false, cond, ltb, mul-add, List, [], ◌∷◌, ◌++◌, length, drop, drop-cons, get_or, Option, Some, None, inl, inr, ◌↔◌, refl, sym, ap, ◌∙◌, subst, arith}
 use Rattle.std.proofs.lemmas.Bool.{lt-ltb, le-ltb, cases_lt}
 use Rattle.std.proofs.Math.Nat.{pow-suc, one-le-pow, pow-le-pow_right, mul-le-mul_left}
 use Rattle.std.proofs.lemmas.List.{append_cancel_left, drop-drop, get_or-drop}
 use Rattle.std.specs.Option.{IfSome, IsNone}
 use Rattle.std.proofs.Math.ListN.{drop_of_length-le}
-use Rattle.std.proofs.lemmas.Option.{none-some}
+use Rattle.std.proofs.lemmas.Option.{none-some, same_Some}
 use Rattle.std.proofs.Math.Nat.{mul_assoc}
 use Rattle.posting_code.specs.Reader.{Read, read, behind_value, behind, reads, number_at}
 use Rattle.posting_code.specs.declared.number.Number.{Number}
@@ -77,9 +77,6 @@ pub record IsRead (k : ℕ) (bs : List ℕ) (r : Read) : Type 0 where
 none_is_not : {X : Type 0} {Y : Type 0} (x : X) → None ≡ Some x → Y
 none_is_not x e = absurd (none-some x e)
 
-some_is : {X : Type 0} (x y : X) → Some x ≡ Some y → x ≡ y
-some_is x y e = ap (λ o. unwrap_or o x) e
-
 read_alone : (k b : ℕ) (bs : List ℕ) → b < 128 → IsRead (suc k) (b ∷ bs) (read b 1)
 read_alone k b bs lt =
     let one : spelling_within (suc k) b ≡ b ∷ [] = within-small k b lt in
@@ -111,7 +108,7 @@ behind_sound k b bs (Some q) r le lt sound e = by_value q.value q.size (sound q 
   where
     by_value : (v size : ℕ) → IsRead k bs (read v size) → behind_value b v size ≡ Some r → IsRead (suc k) (b ∷ bs) r
     by_value zero size is e = none_is_not r e
-    by_value (suc v) size is e = subst (IsRead (suc k) (b ∷ bs)) (some_is _ _ e) (read_behind k b v size bs le lt is)
+    by_value (suc v) size is e = subst (IsRead (suc k) (b ∷ bs)) (same_Some _ _ e) (read_behind k b v size bs le lt is)
 
 pub reads-sound : (k : ℕ) (bs : List ℕ) (r : Read) → ((i : ℕ) → get_or bs i 0 < 256) → reads k bs ≡ Some r → IsRead k bs r
 reads-sound zero bs r bytes e = none_is_not r e
@@ -119,7 +116,7 @@ reads-sound (suc k) [] r bytes e = none_is_not r e
 reads-sound (suc k) (b ∷ bs) r bytes e =
     let whole = bytes 0 in
     elim (cases_lt b 128) [
-      | inl small ↦ let e = rw (lt-ltb b 128 small) at e in subst (IsRead (suc k) (b ∷ bs)) (some_is _ _ e) (read_alone k b bs small)
+      | inl small ↦ let e = rw (lt-ltb b 128 small) at e in subst (IsRead (suc k) (b ∷ bs)) (same_Some _ _ e) (read_alone k b bs small)
       | inr large ↦ let e = rw (le-ltb b 128 large) at e in behind_sound k b bs (reads k bs) r large whole (λ q is. reads-sound k bs q (λ i. bytes (suc i)) is) e
     ]
 
@@ -129,7 +126,7 @@ prefix_free a b rest more la lb e =
     let one = reads-spelling 7 a rest la in
     let two = reads-spelling 7 b more lb in
     let both : Some (read a (length (spelling a))) ≡ Some (read b (length (spelling b))) = sym one ∙ ap (reads 8) e ∙ two in
-    let same : a ≡ b = ap (λ r. r.value) (some_is _ _ both) in
+    let same : a ≡ b = ap (λ r. r.value) (same_Some _ _ both) in
     (same, append_cancel_left (spelling a) rest more (e ∙ ap (λ n. spelling n ++ more) (sym same)))
 
 -- what is found behind some bytes that were read

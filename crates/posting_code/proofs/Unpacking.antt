@@ -1,5 +1,6 @@
 -- A block that is unpacked, member by member.
 use Rattle.std.proofs.Common.{◌≡◌, ℕ, zero, suc, ◌+◌, ◌<◌, List, [], ◌∷◌, ◌++◌, length, take, drop, slice_set, refl, sym, ap, ◌∙◌, arith}
+use Rattle.std.proofs.lemmas.List.{take_more_set}
 use Rattle.posting_code.specs.Packed.{members_behind, CanUnpack}
 
 -- the first i members are there, and the rest comes behind the last of them
@@ -7,13 +8,6 @@ pub record IsUnpacking (packed : List ℕ) (first at : ℕ) (into : List ℕ) (i
   pub can : CanUnpack packed value after
   pub taken : take i into ≡ take i (first ∷ members_behind packed first at)
   pub rest : drop i (first ∷ members_behind packed first at) ≡ members_behind packed value after
-
-take_set : (xs : List ℕ) (i v : ℕ) → i < length xs → take (i + 1) (slice_set xs i v) ≡ take i xs ++ v ∷ []
-take_set [] i v lt = absurd (omega (arith, lt))
-take_set (x ∷ xs) zero v lt = refl
-take_set (x ∷ xs) (suc i) v lt =
-    let next : suc i + 1 ≡ suc (i + 1) = omega arith in
-    ap (λ n. take n (x ∷ slice_set xs i v)) next ∙ ap (λ ys. x ∷ ys) (take_set xs i v (omega (arith, lt)))
 
 pub take_next : {X : Type 0} (i : ℕ) (xs : List X) (v : X) (t : List X) → drop i xs ≡ v ∷ t → (take (i + 1) xs ≡ take i xs ++ v ∷ []) × (drop (i + 1) xs ≡ t)
 take_next zero [] v t e = absurd cc
@@ -34,6 +28,6 @@ unpacking_goes packed first at into i value after next next_after u lt is can =
     let step = take_next i (first ∷ members_behind packed first at) next (members_behind packed next next_after) (u.rest ∙ is) in
     record {
       can = can;
-      taken = take_set into i next lt ∙ ap (λ xs. xs ++ next ∷ []) u.taken ∙ sym step.0;
+      taken = take_more_set into i next lt ∙ ap (λ xs. xs ++ next ∷ []) u.taken ∙ sym step.0;
       rest = step.1;
     }

@@ -5,10 +5,11 @@ use Rattle.gcl_model.specs.Meaning.{concordance}
 use Rattle.gcl_eval.specs.Operands.{operand_forms, operand_lists}
 use Rattle.gcl_eval.specs.Directions.{access_of, farthest, best, walk}
 use Rattle.gcl_model.specs.declared.direction.Direction.TheVariants.{Forward}
+use Rattle.gcl_model.proofs.Lists.{drop_here}
 use Rattle.gcl_eval.proofs.Found.{access_within}
 use Rattle.gcl_eval.proofs.ChainRules.{back_is_as_far}
 use Rattle.gcl_eval.proofs.OperandLemmas.{costs_beside, parts_beside, depth_beside, form-Both, form-One, form-Seq, by_form-near}
-use Rattle.gcl_eval.proofs.ChainSteps.{next_item, walk_ends, walk_next, farthest_next, best_next, best_all, farther_below, both_far, both_near, seq_found, seq_far, seq_near, joins, near_within, far_ends}
+use Rattle.gcl_eval.proofs.ChainSteps.{walk_ends, walk_next, farthest_next, best_next, best_all, farther_below, both_far, both_near, seq_found, seq_far, seq_near, joins, near_within, far_ends}
 use Rattle.gcl_eval.proofs.ContainLoops.{goes_below}
 use Rattle.gcl_eval.proofs.ContainForms.{both_operands, access_spans, spans_below}
 use Rattle.gcl_eval.proofs.ContainSteps.{node_enters, node_enters_none, node_accepts, node_finishes, node_ends, node_goes_on, node_more_turns, fewer_left, none_within, starts_within, stops_within, ends_within, goes_within}
@@ -93,7 +94,7 @@ pub chains::farthest-returns-in_err-answer-clause-answer : goal.chains::farthest
 chains::farthest-returns-in_err-answer-clause-answer g t c =
     let rest = drop c.loop-operand.operand-index c.args.operands.now in
     let others = drop (c.loop-operand.operand-index + 1) c.args.operands.now in
-    let item = next_item c.args.operands.now c.loop-operand.operand-index c.operand-item.result c.loop-operand-test.true c.operand-item.is in
+    let item = drop_here c.args.operands.now c.loop-operand.operand-index c.operand-item.result c.loop-operand-test.true c.operand-item.is in
     let at = rw c.access_by_near_sides.ensures at c.in_err-answer.ensures.answer in
     let r = farthest_next c.args.direction (g.C.CountedLeaves.text c.args.source.now) rest others c.operand-item.result item c.args.k c.loop-operand.side (farthest c.args.direction (operand_lists (g.C.CountedLeaves.text c.args.source.now) c.args.operands.now) c.args.k c.args.k) c.loop-operand.invariant.answer None at in
     search rules
@@ -102,7 +103,7 @@ pub chains::farthest-loop-operand-preserved : goal.chains::farthest-loop-operand
 chains::farthest-loop-operand-preserved g t c =
     let rest = drop c.loop-operand.operand-index c.args.operands.now in
     let others = drop (c.loop-operand.operand-index + 1) c.args.operands.now in
-    let item = next_item c.args.operands.now c.loop-operand.operand-index c.operand-item.result c.loop-operand-test.true c.operand-item.is in
+    let item = drop_here c.args.operands.now c.loop-operand.operand-index c.operand-item.result c.loop-operand-test.true c.operand-item.is in
     let at = rw c.access_by_near_sides.ensures at c.in_ok-answer.ensures.answer in
     let costs = costs_beside Forward (g.C.CountedLeaves.text c.args.source.now) (g.C.CountedLeaves.most c.args.source.now) rest c.operand-item.result others item in
     record {
@@ -118,7 +119,7 @@ pub chains::one_of-loop-operand-preserved : goal.chains::one_of-loop-operand-pre
 chains::one_of-loop-operand-preserved g t c =
     let rest = drop c.loop-operand.operand-index c.args.operands.now in
     let others = drop (c.loop-operand.operand-index + 1) c.args.operands.now in
-    let item = next_item c.args.operands.now c.loop-operand.operand-index c.operand-item.result c.loop-operand-test.true c.operand-item.is in
+    let item = drop_here c.args.operands.now c.loop-operand.operand-index c.operand-item.result c.loop-operand-test.true c.operand-item.is in
     let at = rw c.access_by_near_sides.ensures at c.access-answer.ensures.answer in
     let costs = costs_beside Forward (g.C.CountedLeaves.text c.args.source.now) (g.C.CountedLeaves.most c.args.source.now) rest c.operand-item.result others item in
     record {

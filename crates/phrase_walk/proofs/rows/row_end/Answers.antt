@@ -1,7 +1,8 @@
 use Rattle.std.proofs.Common.{◌≡◌, ◌+◌, ◌*◌, ◌≤◌, Some, drop, length, subst, arith}
 use Rattle.gcl_model.specs.Limits.{address_end}
+use Rattle.gcl_model.proofs.Lists.{drop_here}
 use Rattle.phrase_walk.specs.Rows.{row_end}
-use Rattle.phrase_walk.proofs.Steps.{next_token, token_count, end_next, place_within}
+use Rattle.phrase_walk.proofs.Steps.{token_count, end_next, place_within}
 use Rattle.phrase_walk.proofs.Sums.{one_left}
 use Rattle.phrase_walk.proofs.rows.row_end.Goals as goal
 
@@ -17,7 +18,7 @@ loop-token-preserved g c =
     let most = g.C.CountedLeaves.most c.args.source.now in
     let rest = drop c.loop-token.token-index c.args.tokens.now in
     let others = drop (c.loop-token.token-index + 1) c.args.tokens.now in
-    let item = next_token c.args.tokens.now c.loop-token.token-index c.token-item.result c.loop-token-test.true c.token-item.is in
+    let item = drop_here c.args.tokens.now c.loop-token.token-index c.token-item.result c.loop-token-test.true c.token-item.is in
     let at = rw c.as_slice.ensures at c.in_ok-place.ensures.answer in
     let within : c.in_ok-place.place + 1 ≤ address_end =
     place_within text c.in_ok-place.ensures.sound c.as_slice.result.now c.loop-token.at c.in_ok-place.place c.in_ok-place.ensures.answer in

@@ -1,7 +1,7 @@
 use Rattle.std.proofs.Common.{◌∙◌, ◌^◌, ap, ltb}
 use Rattle.std.specs.List.{prefix_len}
 use Rattle.posting_code.specs.Postings.{block_of}
-use Rattle.posting_access.proofs.Searches.{block_rises}
+use Rattle.posting_code.proofs.Around.{block_rises}
 use Rattle.posting_access.proofs.Ranks.{first_are_below}
 use Rattle.posting_access.proofs.search.rank_in_block.Goals as goal
 
