@@ -6,7 +6,9 @@ use Rattle.std.proofs.lemmas.List.{get_or_append_left, get_or-append-add, drop-a
 use Rattle.posting_code.specs.Numbers.{spelling, IsNumberAt}
 use Rattle.posting_code.specs.Postings.{RiseWithin, ArePostings}
 use Rattle.posting_code.specs.Packed.{unpacked, members_behind, kept, packed_from, packed_of, CanUnpack, IsHead, IsKept, head_at, last_of}
+use Rattle.posting_code.specs.Blocks.{AreBlocks}
 use Rattle.posting_code.specs.declared.head.Head.{Head}
+use Rattle.posting_code.specs.declared.blocks.Blocks.{Blocks}
 use Rattle.posting_code.proofs.Packed.{unpacked-packed, last_behind}
 use Rattle.posting_code.proofs.Around.{head_block}
 
@@ -235,3 +237,8 @@ last_of-append [] ys some = refl
 last_of-append (x ∷ xs) [] some = absurd (omega (arith, some))
 last_of-append (x ∷ []) (y ∷ ys) some = refl
 last_of-append (x ∷ z ∷ xs) (y ∷ ys) some = last_of-append (z ∷ xs) (y ∷ ys) some
+
+-- the blocks of both lists, by the numbers that were read of each
+pub of_both : (blocks : Blocks) (front behind first count count' first' : ℕ) (heads : List Head) → front ≡ count → behind ≡ count' → first ≡ first' → AreBlocks blocks (front + behind) first heads → AreBlocks blocks (count + count') first' heads
+of_both blocks front behind first count count' first' heads front_is behind_is first_is are =
+    record { counted = are.counted ∙ ap (λ n. n + behind) front_is ∙ ap (λ n. count + n) behind_is; begun = are.begun ∙ first_is; marked = are.marked }

@@ -7,7 +7,9 @@ use Rattle.std.proofs.lemmas.List.{get_or_append_left, get_or-append-add, drop-a
 use Rattle.posting_code.specs.Numbers.{spelling_within, spelling, IsNumberAt, HasNoNumberAt}
 use Rattle.posting_code.specs.Postings.{RiseWithin, ArePostings}
 use Rattle.posting_code.specs.Packed.{unpacked, members_behind, kept, packed_from, packed_of, CanUnpack, IsHead, IsKept, heads_behind, last_of}
+use Rattle.posting_code.specs.Blocks.{count_in, first_in, heads_in, AreBlocks}
 use Rattle.posting_code.specs.declared.head.Head.{Head}
+use Rattle.posting_code.specs.declared.blocks.Blocks.{Blocks}
 use Rattle.posting_code.proofs.Numbers.{within-small, within-more, prefix_free}
 
 -- a packed number is read in one go
@@ -221,3 +223,12 @@ pub is_grown : (list : List ℕ) (count first : ℕ) (packed : List ℕ) (last y
     more ≡ packed ++ spelling (y - last) → IsGrown count first packed last y more
 is_grown list count first packed last y more some is last_is rising more_is =
     record { some = some; last_is = last_is ∙ ap last_of (sym is); rising = subst (λ xs. ArePostings (xs ++ y ∷ [])) (sym is) rising; more_is = more_is }
+
+-- blocks with these parts keep the same list
+pub blocks_list : (blocks : Blocks) (count first : ℕ) (packed : List ℕ) (heads : List Head) → AreBlocks blocks count first heads → kept (count_in blocks) (first_in blocks) packed ≡ kept count first packed
+blocks_list blocks count first packed heads are = ap (λ n. kept n (first_in blocks) packed) are.counted ∙ ap (λ f. kept count f packed) are.begun
+
+pub blocks_kept : (blocks : Blocks) (count first : ℕ) (packed : List ℕ) (heads : List Head) → AreBlocks blocks count first heads → IsKept count first packed heads → IsKept (count_in blocks) (first_in blocks) packed (heads_in blocks)
+blocks_kept blocks count first packed heads are k =
+    subst (λ n. IsKept n (first_in blocks) packed (heads_in blocks)) (sym are.counted)
+    (subst (λ f. IsKept count f packed (heads_in blocks)) (sym are.begun) (subst (IsKept count first packed) (sym are.marked) k))

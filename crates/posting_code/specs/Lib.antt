@@ -3,3 +3,4 @@ pub mod Laws
 pub mod Reader
 pub mod Postings
 pub mod Packed
+pub mod Blocks

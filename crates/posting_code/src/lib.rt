@@ -13,6 +13,7 @@
 //! The plain program is the slice that a list was made from, cut by `chunks`: the tests run every reader beside it.
 #![tactic(auto)]
 
+mod blocks;
 mod head;
 mod laws;
 mod list;

@@ -2,7 +2,8 @@ ghost use Rattle.std.specs.Prelude.{◌≡◌, ◌+◌, ◌*◌, ◌<◌, ◌≤
 ghost use Rattle.posting_code.specs.Postings.{ArePostings, blocks_of, block_of};
 ghost use Rattle.posting_code.specs.Packed.{IsHead, last_of, packed_of};
 
-use crate::head::{Head, head_of, push_head};
+use crate::blocks::Blocks;
+use crate::head::Head;
 use crate::number::{NUMBER_END, put_number};
 use crate::unpack::{around_in, unpack, walk};
 use std::alloc::{AllocError, Global};
@@ -19,22 +20,20 @@ pub const BLOCK: usize = 64;
 // of all members stand in one row, so that a list grows behind, and a block is read from its head on.
 #[derive(Drop)]
 pub struct PostingList {
-    count: usize,
-    first: u64,
     packed: Vec<u8>,
-    // of the blocks from the second on
-    heads: Vec<Head>,
+    blocks: Blocks,
 }
 
 impl Model for PostingList {
     ghost use Rattle.std.specs.Prelude.{List, ℕ};
     ghost use Rattle.posting_code.specs.Packed.{kept, IsKept};
+    ghost use Rattle.posting_code.specs.Blocks.{count_in, first_in, heads_in};
 
     ghost Value = { List ℕ };
 
-    ghost view = { λ l. kept l.count l.first l.packed.items };
+    ghost view = { λ l. kept (count_in l.blocks) (first_in l.blocks) l.packed.items };
 
-    ghost invariant = { λ l. IsKept l.count l.first l.packed.items l.heads.items };
+    ghost invariant = { λ l. IsKept (count_in l.blocks) (first_in l.blocks) l.packed.items (heads_in l.blocks) };
 }
 
 impl PostingList {
@@ -43,10 +42,8 @@ impl PostingList {
         ensures { result ≡ [] }
     {
         PostingList {
-            count: 0,
-            first: 0,
             packed: Vec::new(alloc),
-            heads: Vec::new(alloc),
+            blocks: Blocks::One { count: 0, first: 0 },
         }
     }
 
@@ -57,20 +54,20 @@ impl PostingList {
         ensures ok { OnOk result (self.new ≡ self.old ++ address ∷ []) }
         ensures err { OnErr result (self.new ≡ self.old) }
     {
-        if self.count == 0 {
-            self.first = address;
-            self.count = 1;
+        if self.blocks.count() == 0 {
+            self.blocks = Blocks::One {
+                count: 1,
+                first: address,
+            };
             return Ok(());
         }
+        let alloc = self.alloc();
         let before = self.packed.len();
         put_number(&mut self.packed, address - last)?;
         let at = self.packed.len();
         let head = Head { first: address, at };
-        match push_head(&mut self.heads, self.count, head) {
-            Ok(()) => {
-                self.count += 1;
-                Ok(())
-            }
+        match self.blocks.push(alloc, head) {
+            Ok(()) => Ok(()),
             Err(fault) => {
                 self.packed.truncate(before);
                 Err(fault)
@@ -87,11 +84,10 @@ impl PostingList {
     pub(crate) fn copy(&self) -> Result<PostingList, AllocError>
         ensures { IfOk result (λ list. list ≡ self.now) }
     {
+        let alloc = self.alloc();
         Ok(PostingList {
-            count: self.count,
-            first: self.first,
-            packed: Vec::from_slice(self.alloc(), &self.packed)?,
-            heads: Vec::from_slice(self.alloc(), &self.heads)?,
+            packed: Vec::from_slice(alloc, &self.packed)?,
+            blocks: self.blocks.copy(alloc)?,
         })
     }
 
@@ -102,13 +98,17 @@ impl PostingList {
         requires rising { ArePostings (self ++ list.now) }
         ensures { IfOk result (λ joined. joined ≡ self ++ list.now) }
     {
+        let alloc = self.alloc();
+        let front = self.blocks.count();
+        let behind = list.blocks.count();
+        let first = self.blocks.first();
         let mut packed = self.packed;
-        put_number(&mut packed, list.first - last)?;
+        put_number(&mut packed, list.blocks.first() - last)?;
         let shift = packed.len();
         packed.extend_from_slice(&list.packed)?;
-        let mut heads = self.heads;
-        let mut place = (BLOCK - self.count % BLOCK) % BLOCK;
-        while place < list.count {
+        let mut heads = self.blocks.into_heads(alloc);
+        let mut place = (BLOCK - front % BLOCK) % BLOCK;
+        while place < behind {
             let head = list.head(place);
             heads.push(Head {
                 first: head.first,
@@ -116,12 +116,8 @@ impl PostingList {
             })?;
             place += BLOCK;
         }
-        Ok(PostingList {
-            count: self.count + list.count,
-            first: self.first,
-            packed,
-            heads,
-        })
+        let blocks = Blocks::of(alloc, front + behind, first, heads)?;
+        Ok(PostingList { packed, blocks })
     }
 
     /// Gives back the memory that growing took and no address needs.
@@ -129,7 +125,7 @@ impl PostingList {
         ensures { self.new ≡ self.old }
     {
         self.packed.shrink_to_fit();
-        self.heads.shrink_to_fit();
+        self.blocks.fit();
     }
 
     /// Where a member stands.
@@ -137,7 +133,7 @@ impl PostingList {
         requires { place < length self.now }
         ensures { IsHead self.now (packed_of self.now) place result }
     {
-        let head = head_of(self.first, &self.heads, place / BLOCK);
+        let head = self.blocks.head(place / BLOCK);
         walk(&self.packed, head, place % BLOCK)
     }
 
@@ -146,7 +142,7 @@ impl PostingList {
         ensures value { result ≡ length self.now }
         ensures rising { ArePostings self.now }
     {
-        self.count
+        self.blocks.count()
     }
 
     /// The number of blocks. None of them is empty, so an empty list has none.
@@ -154,7 +150,7 @@ impl PostingList {
         ensures value { result ≡ blocks_of self.now }
         ensures rising { ArePostings self.now }
     {
-        self.count.div_ceil(BLOCK)
+        self.blocks.count().div_ceil(BLOCK)
     }
 
     /// The first address of a block.
@@ -163,7 +159,7 @@ impl PostingList {
         ensures value { result ≡ slice_index self.now (64 * block) }
         ensures rising { ArePostings self.now }
     {
-        head_of(self.first, &self.heads, block).first
+        self.blocks.head(block).first
     }
 
     /// Puts the members of a block at the front of `into`, and gives their number. It says nothing of the rest of `into`.
@@ -173,8 +169,8 @@ impl PostingList {
         ensures members { take result into.new ≡ block_of self.now block }
         ensures rising { ArePostings self.now }
     {
-        let count = BLOCK.min(self.count - BLOCK * block);
-        let head = head_of(self.first, &self.heads, block);
+        let count = BLOCK.min(self.blocks.count() - BLOCK * block);
+        let head = self.blocks.head(block);
         unpack(&self.packed, head.first, head.at, &mut into[..count]);
         count
     }
@@ -186,8 +182,8 @@ impl PostingList {
         ensures from { result.1 ≡ find (λ p. nat_le k p) (block_of self.now block) }
         ensures rising { ArePostings self.now }
     {
-        let behind = BLOCK.min(self.count - BLOCK * block) - 1;
-        let head = head_of(self.first, &self.heads, block);
+        let behind = BLOCK.min(self.blocks.count() - BLOCK * block) - 1;
+        let head = self.blocks.head(block);
         around_in(&self.packed, head.first, head.at, behind, k)
     }
 }

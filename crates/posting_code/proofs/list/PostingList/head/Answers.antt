@@ -1,17 +1,17 @@
-use Rattle.std.proofs.Common.{ap, ◌∙◌}
+use Rattle.std.proofs.Common.{refl, ap, ◌∙◌}
 use Rattle.posting_code.specs.Packed.{packed_of}
 use Rattle.posting_code.proofs.Joining.{block_stands, block_is_there, enough_behind, walked_head}
 use Rattle.posting_code.proofs.list.PostingList.head.Goals as goal
 
-pub head_of-head-requires : goal.head_of-head-requires
-head_of-head-requires c = block_is_there _ _ _ _ _ _ _ c.self.view_is c.self.invariant c.requires c.deref.ensures.value
+pub head-head-requires : goal.head-head-requires
+head-head-requires c = block_is_there _ _ _ _ _ _ _ c.self.view_is c.self.invariant c.requires refl
 
 pub walk-requires : goal.walk-requires
 walk-requires c =
-    let stands = block_stands _ _ _ _ _ _ _ _ _ c.self.view_is c.self.invariant c.requires c.deref-2.ensures.value c.deref.ensures.value c.head_of-head.ensures in
+    let stands = block_stands _ _ _ _ _ _ _ _ _ c.self.view_is c.self.invariant c.requires c.deref.ensures.value refl c.head-head.ensures in
     record { can = stands.can; within = stands.within; enough = enough_behind _ _ _ _ c.requires stands }
 
 pub returns : goal.returns
 returns c =
-    let stands = block_stands _ _ _ _ _ _ _ _ _ c.self.view_is c.self.invariant c.requires c.deref-2.ensures.value c.deref.ensures.value c.head_of-head.ensures in
-    walked_head _ _ _ _ _ _ c.requires (c.self.invariant.differences ∙ ap packed_of c.self.view_is) c.deref-2.ensures.value stands c.walk.ensures.rest c.walk.ensures.can c.walk.ensures.within
+    let stands = block_stands _ _ _ _ _ _ _ _ _ c.self.view_is c.self.invariant c.requires c.deref.ensures.value refl c.head-head.ensures in
+    walked_head _ _ _ _ _ _ c.requires (c.self.invariant.differences ∙ ap packed_of c.self.view_is) c.deref.ensures.value stands c.walk.ensures.rest c.walk.ensures.can c.walk.ensures.within

@@ -6,9 +6,9 @@ use Rattle.posting_code.proofs.list.PostingList.joined.Given as goal
 abbrev pub invariant-loop-place : goal.invariant-loop-place
 invariant-loop-place l = record {
   are : AreHeads (l.fn.self ++ l.fn.list) l.heads.items;
-  at : l.self-inside.count + l.place ≡ 64 * (length l.heads.items + 1);
+  at : l.front + l.place ≡ 64 * (length l.heads.items + 1);
   near : l.place < length l.fn.list + 64;
 }
 
 abbrev pub decreases-loop-place : goal.decreases-loop-place
-decreases-loop-place l = l.list-inside.count - l.place
+decreases-loop-place l = l.behind - l.place

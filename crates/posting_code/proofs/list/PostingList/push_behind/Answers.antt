@@ -1,6 +1,6 @@
-use Rattle.std.proofs.Common.{◌<◌, ◌^◌, ◌++◌, ◌∷◌, [], length, refl, ap, ◌∙◌, arith}
+use Rattle.std.proofs.Common.{◌≡◌, ◌<◌, ◌^◌, ◌++◌, ◌∷◌, [], length, refl, ap, ◌∙◌, arith}
 use Rattle.posting_code.proofs.Rising.{rise_last, rise_length}
-use Rattle.posting_code.proofs.Packed.{grown_list, kept_next, is_grown}
+use Rattle.posting_code.proofs.Packed.{grown_list, kept_next, is_grown, blocks_list, blocks_kept}
 use Rattle.posting_code.proofs.list.PostingList.push_behind.Goals as goal
 
 pub overflow_sub-address : goal.overflow_sub-address
@@ -20,18 +20,19 @@ put_number-requires c =
     let high = above.1 in
     omega (arith, high)
 
-pub overflow_add-self : goal.overflow_add-self
-overflow_add-self c =
+pub push-requires-clause-small : goal.push-requires-clause-small
+push-requires-clause-small c =
     let counted = c.self.invariant.counted in
     let short = rise_length 0 (2 ^ 56) _ c.self.invariant.rising in
     omega (arith, counted, short)
 
 pub invariant_of-self-in-Ok : goal.invariant_of-self-in-Ok
 invariant_of-self-in-Ok c =
+    let end : c.len-at.result ≡ length c.put_number.new.out.items = omega (arith, c.len-at.ensures, c.put_number.new.out.ok.0) in
     let grown = is_grown _ _ _ _ _ _ _ (omega arith) c.self.view_is c.requires.last c.requires.rising c.in_ok-put_number.ensures.ok in
-    kept_next _ _ _ _ _ _ _ _ _ _ c.self.invariant grown refl refl (omega (arith, c.len-at.ensures, c.put_number.new.out.ok.0)) c.in-Ok.ensures.ok
+    blocks_kept _ _ _ _ _ c.in-Ok.ensures.ok (kept_next _ _ _ _ _ _ _ _ _ _ c.self.invariant grown refl refl end refl)
 
 pub returns-in-Ok-clause-ok : goal.returns-in-Ok-clause-ok
 returns-in-Ok-clause-ok c =
     let grown = is_grown _ _ _ _ _ _ _ (omega arith) c.self.view_is c.requires.last c.requires.rising c.in_ok-put_number.ensures.ok in
-    (grown_list _ _ _ _ _ _ _ _ c.self.invariant grown refl).0 ∙ ap (λ xs. xs ++ c.args.address ∷ []) c.self.view_is
+    blocks_list _ _ _ _ _ c.in-Ok.ensures.ok ∙ (grown_list _ _ _ _ _ _ _ _ c.self.invariant grown refl).0 ∙ ap (λ xs. xs ++ c.args.address ∷ []) c.self.view_is

@@ -1,14 +1,14 @@
-use Rattle.std.proofs.Common.{length-take, arith}
+use Rattle.std.proofs.Common.{◌-◌, ◌*◌, min, refl, ap, ◌∙◌, length-take, arith}
 use Rattle.posting_code.proofs.Around.{ready_block, read_members}
 use Rattle.posting_code.proofs.list.PostingList.read_block.Goals as goal
 
 pub unpack-requires-clause-can : goal.unpack-requires-clause-can
 unpack-requires-clause-can c =
-    (ready_block _ _ _ _ _ _ _ _ _ _ c.self.view_is c.self.invariant c.requires c.deref-2.ensures.value c.deref.ensures.value c.head_of-head.ensures c.min-count.ensures).can
+    (ready_block _ _ _ _ _ _ _ _ _ _ c.self.view_is c.self.invariant c.requires c.deref.ensures.value refl c.head-head.ensures (c.min-count.ensures ∙ ap (λ n. min 64 (n - 64 * c.args.block)) c.count.ensures)).can
 
 pub unpack-requires-clause-enough : goal.unpack-requires-clause-enough
 unpack-requires-clause-enough c =
-    let ready = ready_block _ _ _ _ _ _ _ _ _ _ c.self.view_is c.self.invariant c.requires c.deref-2.ensures.value c.deref.ensures.value c.head_of-head.ensures c.min-count.ensures in
+    let ready = ready_block _ _ _ _ _ _ _ _ _ _ c.self.view_is c.self.invariant c.requires c.deref.ensures.value refl c.head-head.ensures (c.min-count.ensures ∙ ap (λ n. min 64 (n - 64 * c.args.block)) c.count.ensures) in
     let enough = ready.enough in
     let some = ready.some in
     let long = length-take c.min-count.result c.args.into.now in
@@ -16,10 +16,10 @@ unpack-requires-clause-enough c =
 
 pub returns-clause-count : goal.returns-clause-count
 returns-clause-count c =
-    (ready_block _ _ _ _ _ _ _ _ _ _ c.self.view_is c.self.invariant c.requires c.deref-2.ensures.value c.deref.ensures.value c.head_of-head.ensures c.min-count.ensures).size
+    (ready_block _ _ _ _ _ _ _ _ _ _ c.self.view_is c.self.invariant c.requires c.deref.ensures.value refl c.head-head.ensures (c.min-count.ensures ∙ ap (λ n. min 64 (n - 64 * c.args.block)) c.count.ensures)).size
 
 pub returns-clause-members : goal.returns-clause-members
 returns-clause-members c =
-    let ready = ready_block _ _ _ _ _ _ _ _ _ _ c.self.view_is c.self.invariant c.requires c.deref-2.ensures.value c.deref.ensures.value c.head_of-head.ensures c.min-count.ensures in
+    let ready = ready_block _ _ _ _ _ _ _ _ _ _ c.self.view_is c.self.invariant c.requires c.deref.ensures.value refl c.head-head.ensures (c.min-count.ensures ∙ ap (λ n. min 64 (n - 64 * c.args.block)) c.count.ensures) in
     let long = length-take c.min-count.result c.args.into.now in
     read_members _ _ c.args.into.now _ _ _ _ _ ready (omega (arith, long)) c.unpack.ensures

@@ -1,0 +1,175 @@
+ghost use Rattle.std.specs.Prelude.{◌≡◌, ◌+◌, ◌-◌, ◌/◌, ◌^◌, ◌<◌, ◌≤◌, ◌∷◌, [], length, IfOk, OnOk, OnErr};
+ghost use Rattle.posting_code.specs.Packed.{head_at, heads_behind};
+ghost use Rattle.posting_code.specs.Blocks.{count_in, first_in, heads_in, AreBlocks};
+
+use crate::head::{Head, head_of, push_head};
+use crate::list::BLOCK;
+use std::alloc::{AllocError, Global};
+
+/// The number of members, the first of them, and where the blocks stand.
+// Most lists have one block. They keep no heads, and take no memory for them.
+#[derive(Drop)]
+pub(crate) enum Blocks {
+    One { count: u8, first: u64 },
+    Many(Box<ManyBlocks>),
+}
+
+/// The same where there are two blocks or more.
+#[derive(Drop)]
+pub(crate) struct ManyBlocks {
+    count: usize,
+    first: u64,
+    // of the blocks from the second on
+    heads: Vec<Head>,
+}
+
+impl Blocks {
+    /// The blocks of so many members.
+    pub(crate) fn of(
+        alloc: Global,
+        count: usize,
+        first: u64,
+        heads: Vec<Head>,
+    ) -> Result<Blocks, AllocError>
+        requires { length heads.items ≡ (count + 63) / 64 - 1 }
+        ensures { IfOk result (λ blocks. AreBlocks blocks count first heads.items) }
+    {
+        if heads.is_empty() {
+            return Ok(Blocks::One {
+                count: count as u8,
+                first,
+            });
+        }
+        let many = ManyBlocks {
+            count,
+            first,
+            heads,
+        };
+        Ok(Blocks::Many(Box::new(alloc, many)?))
+    }
+
+    /// The number of members.
+    #[inline(always)]
+    pub(crate) fn count(&self) -> usize
+        ensures { result ≡ count_in self.now }
+    {
+        match self {
+            Blocks::One { count, .. } => *count as usize,
+            Blocks::Many(many) => many.count,
+        }
+    }
+
+    /// The first member, and anything where there is none.
+    #[inline(always)]
+    pub(crate) fn first(&self) -> u64
+        ensures { result ≡ first_in self.now }
+    {
+        match self {
+            Blocks::One { first, .. } => *first,
+            Blocks::Many(many) => many.first,
+        }
+    }
+
+    /// The heads of the blocks from the second on.
+    #[inline(always)]
+    pub(crate) fn heads(&self) -> &[Head]
+        ensures { result.now ≡ heads_in self.now }
+    {
+        match self {
+            Blocks::One { .. } => &[],
+            Blocks::Many(many) => &many.heads,
+        }
+    }
+
+    /// Where a block stands.
+    #[inline(always)]
+    pub(crate) fn head(&self, block: usize) -> Head
+        requires { block ≤ length (heads_in self.now) }
+        ensures { result ≡ head_at (first_in self.now) (heads_in self.now) block }
+    {
+        head_of(self.first(), self.heads(), block)
+    }
+
+    /// Counts one member more, which has this head where it begins a block.
+    pub(crate) fn push(&mut self, alloc: Global, head: Head) -> Result<(), AllocError>
+        requires some { 0 < count_in self.old }
+        requires marked { length (heads_in self.old) ≡ (count_in self.old + 63) / 64 - 1 }
+        requires small { count_in self.old ≤ 2 ^ 56 }
+        ensures ok { OnOk result (AreBlocks self.new (count_in self.old + 1) (first_in self.old) (heads_behind (count_in self.old) (heads_in self.old) head)) }
+        ensures err { OnErr result (AreBlocks self.new (count_in self.old) (first_in self.old) (heads_in self.old)) }
+    {
+        match self {
+            Blocks::One { count, first } => {
+                if *count < 64 {
+                    *count += 1;
+                    return Ok(());
+                }
+                let many = two_blocks(alloc, *first, head)?;
+                *self = Blocks::Many(many);
+                Ok(())
+            }
+            Blocks::Many(many) => many.push(head),
+        }
+    }
+
+    /// The heads, which are handed over.
+    pub(crate) fn into_heads(self, alloc: Global) -> Vec<Head>
+        ensures { result.items ≡ heads_in self }
+    {
+        match self {
+            Blocks::One { .. } => Vec::new(alloc),
+            Blocks::Many(many) => Box::into_inner(many).heads,
+        }
+    }
+
+    /// Equal blocks.
+    pub(crate) fn copy(&self, alloc: Global) -> Result<Blocks, AllocError>
+        requires { length (heads_in self.now) ≡ (count_in self.now + 63) / 64 - 1 }
+        ensures { IfOk result (λ blocks. AreBlocks blocks (count_in self.now) (first_in self.now) (heads_in self.now)) }
+    {
+        let heads = Vec::from_slice(alloc, self.heads())?;
+        Blocks::of(alloc, self.count(), self.first(), heads)
+    }
+
+    /// Gives back the memory that growing took and no head needs.
+    pub(crate) fn fit(&mut self)
+        ensures { AreBlocks self.new (count_in self.old) (first_in self.old) (heads_in self.old) }
+    {
+        match self {
+            Blocks::One { .. } => (),
+            Blocks::Many(many) => many.heads.shrink_to_fit(),
+        }
+    }
+}
+
+impl ManyBlocks {
+    /// Counts one member more, which has this head where it begins a block.
+    fn push(&mut self, head: Head) -> Result<(), AllocError>
+        requires { self.old.count ≤ 2 ^ 56 }
+        ensures count { OnOk result (self.new.count ≡ self.old.count + 1) }
+        ensures first { self.new.first ≡ self.old.first }
+        ensures heads { OnOk result (self.new.heads.items ≡ heads_behind self.old.count self.old.heads.items head) }
+        ensures same_count { OnErr result (self.new.count ≡ self.old.count) }
+        ensures same_heads { OnErr result (self.new.heads.items ≡ self.old.heads.items) }
+    {
+        push_head(&mut self.heads, self.count, head)?;
+        self.count += 1;
+        Ok(())
+    }
+}
+
+/// A whole block, and one member with this head behind it.
+fn two_blocks(alloc: Global, first: u64, head: Head) -> Result<Box<ManyBlocks>, AllocError>
+    ensures count { IfOk result (λ many. many.value.count ≡ 65) }
+    ensures first { IfOk result (λ many. many.value.first ≡ first) }
+    ensures heads { IfOk result (λ many. many.value.heads.items ≡ head ∷ []) }
+{
+    let mut heads = Vec::new(alloc);
+    heads.push(head)?;
+    let many = ManyBlocks {
+        count: BLOCK + 1,
+        first,
+        heads,
+    };
+    Ok(Box::new(alloc, many)?)
+}
