@@ -20,7 +20,7 @@ KIT = ["left_right", "crossbeam_utils", "atomic_table"]  # crates that are used 
 pages = ["README.md", "CONTRIBUTING.md", "CHANGELOG.md"] + sorted(glob.glob("docs/*.md"))
 crates = [line.split("#")[0].split(":")[0].split()[0] for line in lines_of("crates.txt") if line.split("#")[0].strip()]
 edits = {os.path.basename(path)[:-5] for path in glob.glob("crates/*/must-fail/*.edit")}
-sources = [path for kind in ("rt", "antt") for path in glob.glob(f"crates/*/*/**/*.{kind}", recursive=True)]
+sources = [path for kind in ("rt", "antt") for path in glob.glob(f"crates/*/*/**/*.{kind}", recursive=True) if "/out/" not in path]
 words = {word for path in sources for word in re.findall(r"\w+", open(path, encoding="utf-8").read())}
 
 # `crate: specs/File.antt`, `crate: src/a.rt`, `crate`: `src/a.rt`, with more files of the same crate after it
