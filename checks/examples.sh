@@ -2,7 +2,8 @@
 # Runs each example of the pages, and compares what is printed byte for byte with what the page says. An example is a fenced block:
 #   ```gclq       lines with `> ` in front are lines of a script that is run in demo/, and the others are the answers; the blocks of a
 #                 page go on from each other, and ```gclq new begins another run
-#   ```console    lines with `$ ` in front are commands, run at the top, and the others are all that they print
+#   ```console    lines with `$ ` in front are commands, run at the top, those with `> ` go on with one, and the others are all that is
+#                 printed
 #   ```picture    a query and a text of six words, and below a line for each interval of the query over demo/hamlet, which ends in `P Q`
 # Pages may be named; without names these are all that have examples.
 set -eu
@@ -14,7 +15,7 @@ cp -r "$top/demo" "$work/demo"
 printf '#!/bin/sh\nexec "%s/gclq" "$@"\n' "$top" > "$work/gclq"
 chmod +x "$work/gclq"
 cd "$work"
-[ $# -gt 0 ] || set -- README.md docs/SCRIPT.md docs/QUERY.md
+[ $# -gt 0 ] || set -- README.md docs/SCRIPT.md docs/QUERY.md docs/GALLERY.md
 python3 - "$top" "$@" <<'P'
 import difflib, re, subprocess, sys
 
@@ -38,10 +39,10 @@ def printed(commands):
     ran = subprocess.run(["bash", "-c", commands], stdin=subprocess.DEVNULL, stdout=subprocess.PIPE, stderr=subprocess.STDOUT)
     return ran.stdout.decode()
 
-def split(lines, mark):
-    """The lines with a mark in front, without it, and the others, each as one text."""
-    asked = "".join(line[2:] for line in lines if line.startswith(mark))
-    return asked, "".join(line for line in lines if not line.startswith(mark))
+def split(lines, *marks):
+    """The lines with one of the marks in front, without it, and the others, each as one text."""
+    asked = "".join(line[2:] for line in lines if line.startswith(marks))
+    return asked, "".join(line for line in lines if not line.startswith(marks))
 
 def runs(page):
     """What to do at each place of a page, and the text that it must give."""
@@ -55,7 +56,7 @@ def runs(page):
             asked, told = split(lines, "> ")
             script, wanted = script + asked, wanted + told
         elif kind == "console":
-            commands, told = split(lines, "$ ")
+            commands, told = split(lines, "$ ", "> ")
             yield start, lambda commands=commands: printed(commands), told
         elif kind == "picture":
             query = re.split(r"  +", lines[0])[0]
