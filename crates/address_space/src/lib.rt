@@ -18,8 +18,6 @@ mod places;
 mod range;
 mod shared_record;
 mod slot_laws;
-#[cfg(test)]
-mod tests;
 
 pub use file_id::FileId;
 pub use file_record::FileRecord;
@@ -35,3 +33,6 @@ pub use shared_record::SharedRecord;
 pub use slot_laws::{
     adding_keeps_tiers, merging_keeps_tiers, opening_makes_tiers, tails_are_joined, tiers_are_few,
 };
+
+#[cfg(test)]
+mod tests;

@@ -20,6 +20,7 @@ last_of [] = empty_version 0
 last_of (v ∷ []) = v
 last_of (v ∷ w ∷ vs) = last_of (w ∷ vs)
 
+-- what contracts see of an engine
 abbrev pub engine_content : Book → List VersionContent → EngineContent
 engine_content publisher history = record { publisher = publisher; history = history; version = last_of history }
 

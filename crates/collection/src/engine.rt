@@ -121,7 +121,7 @@ impl Engine {
         self.alloc
     }
 
-    // Publishes one version more.
+    /// Publishes one version more.
     pub(crate) fn publish<R: Wait>(
         &mut self,
         rt: &R,

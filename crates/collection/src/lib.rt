@@ -16,11 +16,12 @@ mod edits;
 mod engine;
 mod faults;
 mod laws;
-#[cfg(test)]
-mod script_tests;
-#[cfg(test)]
-mod tests;
 
 pub use engine::{Added, Engine, Opened};
 pub use faults::{AddFault, AdoptFault, DeleteFault, OpenFault};
 pub use laws::calls_reach;
+
+#[cfg(test)]
+mod script_tests;
+#[cfg(test)]
+mod tests;

@@ -213,7 +213,7 @@ fn script(mut place: usize) -> [Call; 5] {
     calls
 }
 
-// A script of fewer calls is among them: it goes on with a call that is refused, as the deletion of no file.
+/// A script of fewer calls is among them: it goes on with a call that is refused, as the deletion of no file.
 #[test]
 fn every_script_of_five_calls_answers_as_the_plain_collection(rt: HostRuntime) -> Result<(), Fail> {
     for place in 0..16_807usize {

@@ -5,7 +5,7 @@ ghost use Rattle.command_words.specs.Program.{option_rule, program};
 use clap::{Arg, ArgAction, Command};
 use std::alloc::{AllocError, Global};
 
-// An option that takes one value.
+/// An option that takes one value.
 fn valued<'a>(alloc: Global, name: &'a str) -> Arg<'a>
     ensures rule { rule_of result ≡ option_rule name.entry.now }
     ensures local { result.global ≡ false }

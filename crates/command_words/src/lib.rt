@@ -12,10 +12,11 @@
 mod command;
 mod options;
 mod reader;
-#[cfg(test)]
-mod tests;
 mod wrong;
 
 pub use options::{MOST_MADE, MOST_READERS, Made, Options};
 pub use reader::options_of;
 pub use wrong::wrong_word;
+
+#[cfg(test)]
+mod tests;

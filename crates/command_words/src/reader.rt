@@ -20,7 +20,7 @@ pub(crate) fn number_within(least: u64, most: u64, value: &[u8]) -> Option<u64>
     }
 }
 
-// The corpus that the values of `--made` and `--count` ask for: both are given, or neither.
+/// The corpus that the values of `--made` and `--count` ask for: both are given, or neither.
 fn made_from(made: Option<&str>, count: Option<&str>) -> Option<Option<Made>>
     ensures { result ≡ made_from (option_map (λ text. text.now) made.entry) (option_map (λ text. text.now) count.entry) }
 {
@@ -35,7 +35,7 @@ fn made_from(made: Option<&str>, count: Option<&str>) -> Option<Option<Made>>
     }
 }
 
-// The options of these values.
+/// The options of these values.
 fn options_from(
     first: Option<&str>,
     readers: Option<&str>,
@@ -55,7 +55,7 @@ fn options_from(
     })
 }
 
-// The words as text. `--` would end the options for clap, so it is refused with what is not UTF-8.
+/// The words as text. `--` would end the options for clap, so it is refused with what is not UTF-8.
 fn texts_of<'a>(alloc: Global, words: &'a [Bytes]) -> Result<Option<Vec<&'a str>>, AllocError>
     ensures some { IfOk result (λ texts. IfSome texts (λ t. (map (λ text. text.now) t.items ≡ words.now) × HasNoEnd words.now)) }
     ensures none { IfOk result (λ texts. IsNone texts → options_of words.now ≡ None) }
@@ -70,7 +70,7 @@ fn texts_of<'a>(alloc: Global, words: &'a [Bytes]) -> Result<Option<Vec<&'a str>
     Ok(Some(texts))
 }
 
-// None for words that clap refuses, but not where it wanted memory.
+/// None for words that clap refuses, but not where it wanted memory.
 fn refusal(kind: ErrorKind) -> Result<Option<Options>, AllocError>
     ensures { IfOk result (λ options. IsNone options × ¬ (kind ≡ OutOfMemory)) }
 {
@@ -80,7 +80,7 @@ fn refusal(kind: ErrorKind) -> Result<Option<Options>, AllocError>
     }
 }
 
-// The options that the texts write, by clap.
+/// The options that the texts write, by clap.
 fn options_in(alloc: Global, texts: &[&str]) -> Result<Option<Options>, AllocError>
     requires { HasNoEnd (map (λ text. text.now) texts.now) }
     ensures { IfOk result (λ options. options ≡ options_of (map (λ text. text.now) texts.now)) }

@@ -3,7 +3,7 @@ use gcl_model::Bytes;
 use std::alloc::{AllocError, Global};
 use std::test::Fail;
 
-// The words of a line that is cut at its bars: `a|b` is two words, and the empty line none.
+/// The words of a line that is cut at its bars: `a|b` is two words, and the empty line none.
 fn words_of(alloc: Global, line: &[u8]) -> Result<Vec<Bytes>, AllocError> {
     let mut words = Vec::new(alloc);
     if line.is_empty() {

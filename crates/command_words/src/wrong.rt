@@ -2,7 +2,7 @@ use crate::options::{MOST_MADE, MOST_READERS};
 use crate::reader::number_within;
 use gcl_model::{ADDRESS_END, Bytes};
 
-// The least and the greatest value of the option of this name.
+/// The least and the greatest value of the option of this name.
 fn bounds_of(name: &[u8]) -> Option<(u64, u64)> {
     match name {
         b"--first" => Some((0, ADDRESS_END)),
@@ -13,7 +13,7 @@ fn bounds_of(name: &[u8]) -> Option<(u64, u64)> {
     }
 }
 
-// The name in a word, and the value where one is joined to it.
+/// The name in a word, and the value where one is joined to it.
 fn parted(word: &[u8]) -> (&[u8], Option<&[u8]>) {
     match word.iter().position(|b| *b == b'=') {
         Some(at) => (&word[..at], Some(&word[at + 1..])),

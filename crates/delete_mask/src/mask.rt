@@ -95,7 +95,7 @@ impl Mask {
         in_order(*self.ranges.allocator(), before, range, after)
     }
 
-    // The ranges before this one, and those behind it.
+    /// The ranges before this one, and those behind it.
     fn split_around(&self, range: Range) -> (&[Range], &[Range])
         requires { IsApart range self.now }
         ensures whole { self.now ≡ result.0.now ++ result.1.now }
@@ -113,7 +113,7 @@ impl Mask {
         self.ranges.as_slice().get(at).copied()
     }
 
-    // How many of the ranges end before the address.
+    /// How many of the ranges end before the address.
     fn count_before(&self, p: u64) -> usize
         ensures count { result ≡ prefix_len (λ range. nat_lt range.last p) self.now }
         ensures apart { AreRangesWithin 0 address_end self.now }
@@ -126,7 +126,7 @@ impl Mask {
     }
 }
 
-// The range with the last one before it, where they touch, and the ranges before both.
+/// The range with the last one before it, where they touch, and the ranges before both.
 fn joined_before(before: &[Range], range: Range) -> (&[Range], Range)
     requires { AreRangesWithin 0 range.first before.now }
     ensures joined { (after : List SlotRange) → with_range range (before.now ++ after) ≡ result.0.now ++ with_range result.1 after }
@@ -145,7 +145,7 @@ fn joined_before(before: &[Range], range: Range) -> (&[Range], Range)
     (rest, joined)
 }
 
-// The range with the first one behind it, where they touch, and the ranges behind both.
+/// The range with the first one behind it, where they touch, and the ranges behind both.
 fn joined_after(range: Range, after: &[Range]) -> (Range, &[Range])
     requires { AreRangesWithin (range.last + 1) address_end after.now }
     ensures { with_range range after.now ≡ result.0 ∷ result.1.now }

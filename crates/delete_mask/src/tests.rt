@@ -11,7 +11,7 @@ fn range(first: u64, last: u64) -> Option<Range> {
     }
 }
 
-// The range of the table that has the address.
+/// The range of the table that has the address.
 fn among(ranges: &[(u64, u64)], p: u64) -> Option<Range> {
     let (first, last) = *ranges.iter().find(|r| r.0 <= p && p <= r.1)?;
     range(first, last)

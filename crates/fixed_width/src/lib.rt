@@ -6,7 +6,8 @@
 #![tactic(auto)]
 
 mod accesses;
-#[cfg(test)]
-mod tests;
 
 pub use accesses::{width_first_end, width_first_start, width_last_end, width_last_start};
+
+#[cfg(test)]
+mod tests;

@@ -9,9 +9,10 @@
 mod backward;
 mod forward;
 mod laws;
-#[cfg(test)]
-mod tests;
 
 pub use backward::{both_backward_end, both_backward_start, one_backward};
 pub use forward::{both_forward_end, both_forward_start, one_forward};
 pub use laws::{both_of_accesses, one_of_accesses};
+
+#[cfg(test)]
+mod tests;

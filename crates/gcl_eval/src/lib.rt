@@ -16,9 +16,10 @@ mod direction;
 mod members;
 mod phrase;
 mod term;
-#[cfg(test)]
-mod tests;
 mod width;
 
 pub use accesses::{first_end, first_start, last_end, last_start};
 pub use members::{count, list, list_from};
+
+#[cfg(test)]
+mod tests;

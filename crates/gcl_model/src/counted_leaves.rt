@@ -53,6 +53,7 @@ pub struct LentLeaves<'a, L: Leaves, S: Ledger> {
 }
 
 impl<'a, L: Leaves, S: Ledger> LentLeaves<'a, L, S> {
+    /// The leaves, each look-up on the caller's counter.
     pub fn new(leaves: &'a L) -> Self
         ensures { result.leaves.now ≡ leaves.now }
     {

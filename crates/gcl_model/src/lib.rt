@@ -23,8 +23,6 @@ mod leaves;
 mod questions;
 mod span;
 mod steps;
-#[cfg(test)]
-mod tests;
 mod token_list;
 
 pub use bytes::Bytes;
@@ -40,3 +38,6 @@ pub use questions::{Question, counted, uncounted};
 pub use span::{ADDRESS_END, Span};
 pub use steps::{Ledger, NoLedger, Steps, Tally};
 pub use token_list::TokenList;
+
+#[cfg(test)]
+mod tests;

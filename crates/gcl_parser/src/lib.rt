@@ -20,11 +20,12 @@ mod read;
 mod refusal;
 mod scan;
 mod state;
-#[cfg(test)]
-mod tests;
 mod token;
 mod width;
 
 pub use fault::{ParseFault, QueryFault, QueryKind};
 pub use laws::{queries_are_not_refused, query_forms_are_of_queries};
 pub use parser::parse;
+
+#[cfg(test)]
+mod tests;

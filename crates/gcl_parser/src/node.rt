@@ -40,6 +40,7 @@ pub fn containment_node(
     })
 }
 
+/// The node of a width.
 pub fn width_node(width: u64) -> Expr
     ensures { form_of result ≡ width_form width }
 {

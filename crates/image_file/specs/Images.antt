@@ -71,5 +71,6 @@ pub record IsSavedAs (v : VersionContent) (c : Collection) : Type 0 where
   pub sound : IsSound c
   pub short : HasShortTokens c
 
+-- there is a collection as which the version can be saved
 abbrev pub CanBeSaved : VersionContent → Type 0
 CanBeSaved v = (c : Collection) × IsSavedAs v c

@@ -45,5 +45,6 @@ pub record IsTextOf (v : VersionContent) (number : ℕ) (text : List ℕ) (table
   pub count : number ≡ length table
   pub bytes : text ≡ flat_map (term_bytes Two v.first) table
 
+-- the same of some table
 abbrev pub IsTermText : VersionContent → ℕ → List ℕ → Type 0
 IsTermText v number text = (table : List TermEntry) × IsTextOf v number text table

@@ -13,8 +13,6 @@ mod format;
 mod laws;
 mod numbers;
 mod terms;
-#[cfg(test)]
-mod tests;
 mod whole;
 
 pub use format::Format;
@@ -23,3 +21,6 @@ pub use laws::{
     collections_have_spellings,
 };
 pub use whole::{MARK_ONE, MARK_TWO, image};
+
+#[cfg(test)]
+mod tests;

@@ -19,8 +19,9 @@ mod head;
 mod places;
 mod read;
 mod terms;
-#[cfg(test)]
-mod tests;
 
 pub use fault::ImageFault;
 pub use read::read_image;
+
+#[cfg(test)]
+mod tests;

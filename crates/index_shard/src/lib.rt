@@ -14,8 +14,6 @@ mod laws;
 mod maker;
 mod shard;
 mod table;
-#[cfg(test)]
-mod tests;
 mod walk;
 
 pub use gcl_model::Direction;
@@ -23,3 +21,6 @@ pub use laws::{postings_are_places, words_rise};
 pub use maker::ShardMaker;
 pub use shard::Shard;
 pub use walk::Walk;
+
+#[cfg(test)]
+mod tests;

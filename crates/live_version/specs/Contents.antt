@@ -15,6 +15,7 @@ pub record SlotContent : Type 0 where
   pub mask : List SlotRange
   pub files : List FileEntry
 
+-- what contracts see of a slot
 abbrev pub slot_content : SlotRange → ShardContent → List SlotRange → List FileEntry → SlotContent
 slot_content range shard mask files = record { range = range; shard = shard; mask = mask; files = files }
 
@@ -53,10 +54,12 @@ pub record VersionContent : Type 0 where
   pub dels : ℕ
   pub slots : List SlotContent
 
+-- what contracts see of a version
 abbrev pub version_content : ℕ → ℕ → ℕ → ℕ → ℕ → ℕ → List SlotContent → VersionContent
 version_content number edition first next next_id dels slots =
     record { number = number; edition = edition; first = first; next = next; next_id = next_id; dels = dels; slots = slots }
 
+-- the ranges of slots, in their order
 abbrev pub ranges_of : List SlotContent → List SlotRange
 ranges_of slots = map (λ slot. slot.range) slots
 

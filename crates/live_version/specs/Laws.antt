@@ -33,5 +33,6 @@ pub record IsPartOf (v : VersionContent) (slot : SlotContent) : Type 0 where
   pub words : live_words slot ≡ filter (λ w. is_within slot.range w.address) (live_of v.slots)
   pub files : slot.files ≡ filter (λ file. is_within slot.range file.base) (files_of v.slots)
 
+-- each slot of a version has a part of its words and files
 abbrev pub SlotsArePartsOf : Type 0
 SlotsArePartsOf = (v : VersionContent) (i : ℕ) (slot : SlotContent) → IsVersion v → slice_get v.slots i ≡ Some slot → IsPartOf v slot

@@ -16,7 +16,7 @@ enum Step {
     Follow,
 }
 
-// A version of one slot of so many addresses from `base` on.
+/// A version of one slot of so many addresses from `base` on.
 fn opened(
     alloc: Global,
     first: u64,

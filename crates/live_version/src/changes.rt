@@ -133,7 +133,7 @@ impl Version {
     }
 }
 
-// Nothing was published before, and nothing was deleted.
+/// Nothing was published before, and nothing was deleted.
 fn opening(first: u64, next: u64, next_id: u64) -> Numbers
     ensures { result ≡ record { number = 0; edition = 0; first = first; next = next; next_id = next_id; dels = 0 } }
 {

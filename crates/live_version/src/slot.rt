@@ -17,7 +17,7 @@ pub struct Slot {
     parts: Arc<SlotParts>,
 }
 
-// A deletion changes all but the index, which is shared on.
+/// A deletion changes all but the index, which is shared on.
 #[derive(Drop)]
 pub(crate) struct SlotParts {
     shard: Arc<Shard>,

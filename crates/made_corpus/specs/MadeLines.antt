@@ -30,6 +30,7 @@ change_by i kind state = if nat_lt kind 2 then one_line (codes "del " ++ decimal
     else (if kind == 2 then one_line (codes "merge") state
     else (if kind == 3 then one_line (codes "shards") state else record { lines = []; state = state }))
 
+-- the same by a number that is drawn
 abbrev pub change_from : ℕ → ℕ → DrawnLines
 change_from i state = change_by i (draw state 10) (next_state state)
 

@@ -11,7 +11,7 @@ use gcl_model::Bytes;
 use outside::{FileError, Files, Loaded};
 use std::alloc::{AllocError, Global};
 
-// Puts what was made under a name into a buffer.
+/// Puts what was made under a name into a buffer.
 fn put_made(out: &mut Vec<u8>, start: u64, count: u64, name: &[u8]) -> Result<(), AllocError>
     ensures { OnOk result (made_files start count name.now ≡ Some out.new.items) }
 {
@@ -25,7 +25,7 @@ fn put_made(out: &mut Vec<u8>, start: u64, count: u64, name: &[u8]) -> Result<()
     }
 }
 
-// The bytes of the first entry of that name.
+/// The bytes of the first entry of that name.
 fn find_kept<'a>(kept: &'a [(Bytes, Bytes)], name: &[u8]) -> Option<&'a [u8]>
     ensures { option_copied result ≡ content_of kept.now name.now }
 {
@@ -34,7 +34,7 @@ fn find_kept<'a>(kept: &'a [(Bytes, Bytes)], name: &[u8]) -> Option<&'a [u8]>
         .map(|entry| entry.1.as_slice())
 }
 
-// Puts an entry before all others, so that it is the one that counts.
+/// Puts an entry before all others, so that it is the one that counts.
 fn put_entry(kept: &mut Vec<(Bytes, Bytes)>, name: &[u8], bytes: &[u8]) -> Result<(), AllocError>
     ensures ok { OnOk result (kept.new.items ≡ (name.now, bytes.now) ∷ kept.old.items) }
     ensures err { OnErr result (kept.new.items ≡ kept.old.items) }
@@ -66,7 +66,7 @@ impl MadeFiles {
         }
     }
 
-    // Puts what is under a name into a buffer.
+    /// Puts what is under a name into a buffer.
     fn put_file(&self, name: &[u8], out: &mut Vec<u8>) -> Result<(), AllocError>
         ensures { OnOk result (kept_over self.now.kept.items (made_files self.now.start self.now.count) name.now ≡ Some out.new.items) }
     {

@@ -5,7 +5,7 @@ use crate::draws::Draws;
 use crate::put::{put_number, put_text};
 use std::alloc::AllocError;
 
-// A number between two texts.
+/// A number between two texts.
 fn put_between(out: &mut Vec<u8>, before: &[u8], n: u64, after: &[u8]) -> Result<(), AllocError>
     ensures { OnOk result (out.new.items ≡ out.old.items ++ before.now ++ decimal n ++ after.now) }
 {
@@ -20,7 +20,7 @@ fn put_add(out: &mut Vec<u8>, draws: &Draws, i: u64) -> Result<(), AllocError>
     put_between(out, b"add m", i, b"\n")
 }
 
-// There is a line or none.
+/// There is a line or none.
 fn put_change(out: &mut Vec<u8>, draws: &mut Draws, i: u64) -> Result<u64, AllocError>
     requires { i < 2 ^ 64 - 1 }
     ensures lines { OnOk result (HasDrawnLines (change_from i draws.old.state) out.old.items out.new.items draws.new.state) }

@@ -28,7 +28,7 @@ impl SummarySink {
         }
     }
 
-    // One that took a byte more, None where a number has no room for it.
+    /// One that took a byte more, None where a number has no room for it.
     fn with(&self, byte: u8) -> Option<SummarySink>
         ensures { IfSome result (λ sink. sink.taken ≡ self.now.taken ++ byte ∷ []) }
     {
@@ -80,7 +80,7 @@ impl Sink for SummarySink {
     }
 }
 
-// A number behind its name, on a line of its own.
+/// A number behind its name, on a line of its own.
 fn put_line(out: &mut Vec<u8>, name: &[u8], n: u64) -> Result<(), AllocError>
     ensures { OnOk result (out.new.items ≡ out.old.items ++ name.now ++ decimal n ++ 10 ∷ []) }
 {

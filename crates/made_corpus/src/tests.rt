@@ -13,7 +13,7 @@ fn the_first_number_below_a_hundred_drawn_from_0_is_7(rt: HostRuntime) {
 const FIRST: &[u8] =
     b"w592 w164 w266 <s> w160 w110 w93 w133 w39 w11 w272 w306 w456 w64 w119 w224 w144 w205 w525 w448 w792 w30 w228 w748 w308 </s> w0";
 
-// What a load through the bound gives.
+/// What a load through the bound gives.
 fn loaded<F: Files>(
     rt: HostRuntime,
     files: &mut F,

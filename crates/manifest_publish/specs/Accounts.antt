@@ -11,6 +11,7 @@ pub record Account : Type 0 where
   pub publisher : Book
   pub history : List VersionContent
 
+-- the account of a publisher with this history
 abbrev pub account : Book → List VersionContent → Account
 account publisher history = record { publisher = publisher; history = history }
 
@@ -25,6 +26,7 @@ pub record ReceiptContent : Type 0 where
   pub number : ℕ
   pub edition : ℕ
 
+-- what contracts see of a receipt
 abbrev pub receipt_content : Book → List VersionContent → ℕ → ℕ → ReceiptContent
 receipt_content publisher history number edition = record { publisher = publisher; history = history; number = number; edition = edition }
 
@@ -45,6 +47,7 @@ pub record ReaderContent : Type 0 where
   pub told : List (List VersionContent)
   pub kept : List VersionContent
 
+-- what contracts see of a reader
 abbrev pub reader_content : Book → List VersionContent → List (List VersionContent) → List VersionContent → ReaderContent
 reader_content publisher seen told kept = record { publisher = publisher; seen = seen; told = told; kept = kept }
 

@@ -17,6 +17,7 @@ pub record ShownContent : Type 0 where
   pub version : VersionContent
   pub pass : Option Account
 
+-- what is shown of a publisher
 abbrev pub shown_content : Book → VersionContent → Option Account → ShownContent
 shown_content publisher version pass = record { publisher = publisher; version = version; pass = pass }
 

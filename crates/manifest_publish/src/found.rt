@@ -34,6 +34,7 @@ impl Model for Found {
 }
 
 impl Found {
+    /// The mark, and the pass or want of memory.
     pub fn into_parts(self) -> (Mark, Result<Pass, AllocError>)
         ensures { (result.0 ≡ self) × IfOk result.1 (λ pass. pass ≡ self) }
     {

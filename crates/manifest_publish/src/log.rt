@@ -104,6 +104,7 @@ pub fn begun(alloc: Global, opening: &Version) -> Result<(Arc<Head>, Mark), Allo
 }
 
 impl Mark {
+    /// The number of the last version.
     pub fn number(&self) -> u64
         ensures number { result + 1 ≡ length self.now.history }
         ensures lawful { IsLawful self.now.history }
@@ -111,6 +112,7 @@ impl Mark {
         self.number
     }
 
+    /// The same mark once more.
     pub fn again(&self) -> Mark
         ensures { result ≡ self.now }
     {

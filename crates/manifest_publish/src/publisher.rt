@@ -120,7 +120,7 @@ impl Publisher {
     }
 }
 
-// The pass of a version that was added to the history of the last one.
+/// The pass of a version that was added to the history of the last one.
 fn followed(last: &Pass, version: Arc<Version>, mark: Mark) -> Pass
     requires publisher { mark.publisher ≡ last.now.publisher }
     requires history { EndsWith mark.history version.value }

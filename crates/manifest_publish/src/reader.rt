@@ -92,7 +92,7 @@ impl Reader {
         }
     }
 
-    // A version was reached: its history is seen, whether or not its pass can be kept.
+    /// A version was reached: its history is seen, whether or not its pass can be kept.
     fn reach(&mut self, found: Found) -> Result<Pass, EnterFault>
         requires { MayEnter self.old found }
         ensures publisher { self.new.publisher ≡ self.old.publisher }
@@ -112,7 +112,7 @@ impl Reader {
         Ok(pass)
     }
 
-    // The last pass again, where nothing is owed.
+    /// The last pass again, where nothing is owed.
     fn stay(&self) -> Result<Pass, EnterFault>
         ensures pass { IfOk result (λ pass. (pass ≡ account self.now.publisher self.now.kept) × IsLawful self.now.kept × (self.now.told ≡ []) × (self.now.seen ≡ self.now.kept)) }
         ensures no_entry { (n : ℕ) → IsErrOf result (NoEntry n) → IsOwed self.now × ((v : VersionContent) × IsLatest self.now.kept v × (n ≡ v.number)) }
@@ -137,7 +137,7 @@ impl Reader {
     }
 }
 
-// The longer of two histories, which the other one begins.
+/// The longer of two histories, which the other one begins.
 fn longer(one: &Mark, other: &Mark) -> Mark
     requires { other.now.publisher ≡ one.now.publisher }
     ensures publisher { result.publisher ≡ one.now.publisher }

@@ -38,6 +38,7 @@ impl Model for Next {
 }
 
 impl Next {
+    /// What is to be shown next.
     pub fn of(head: Arc<Head>, mark: Mark, version: Arc<Version>) -> Next
         requires head { head.value ≡ head_of mark.publisher }
         requires lawful { IsLawful (mark.history ++ version.value ∷ []) }
@@ -50,7 +51,7 @@ impl Next {
         }
     }
 
-    // Adds the version to the history. It gives none where the copy is refused, or another version was added first.
+    /// Adds the version to the history. It gives none where the copy is refused, or another version was added first.
     fn add(&self) -> Option<Pass>
         ensures { IfSome result (λ pass. pass ≡ account self.now.publisher (self.now.history ++ self.now.version ∷ [])) }
     {
@@ -94,7 +95,7 @@ impl Shown {
         })
     }
 
-    // What is shown once this was tried.
+    /// What is shown once this was tried.
     fn after(next: &Next, pass: Option<Pass>) -> Shown
         requires { IfSome pass (λ pass. (pass.publisher ≡ next.now.publisher) × IsLatest pass.history next.now.version) }
         ensures { (result.publisher ≡ next.now.publisher) × (result.version ≡ next.now.version) }
@@ -131,7 +132,7 @@ impl Absorb<Next> for Shown {
         Ok(())
     }
 
-    // The first copy has added it to the history. This one is not shown before the next version was added.
+    /// The first copy has added it to the history. This one is not shown before the next version was added.
     fn absorb_second(&mut self, next: Next, _other: &Shown) -> Result<(), Next> {
         *self = Shown::after(&next, None);
         Ok(())

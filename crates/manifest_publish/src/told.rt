@@ -66,6 +66,7 @@ impl Opening<(), LinkedList<Version>> for Empty {
 }
 
 impl Told {
+    /// Nothing was learnt.
     pub fn nothing() -> Told
         ensures { result ≡ [] }
     {
@@ -111,6 +112,7 @@ impl Opening<Version, Version> for Single {
 }
 
 impl Noted {
+    /// One version.
     pub fn of(version: &Version) -> Noted
         ensures { result ≡ version.now }
     {

@@ -39,7 +39,7 @@ pub trait Files {
         ensures counts { CountsFileFault (faults self.old) (faults self.new) result };
 }
 
-// The content of the first entry of that name.
+/// The content of the first entry of that name.
 fn find_content<'a>(held: &'a [(Bytes, Bytes)], name: &[u8]) -> Option<&'a [u8]>
     ensures { option_copied result ≡ content_of held.now name.now }
 {
@@ -48,7 +48,7 @@ fn find_content<'a>(held: &'a [(Bytes, Bytes)], name: &[u8]) -> Option<&'a [u8]>
         .map(|entry| entry.1.as_slice())
 }
 
-// Puts the content, or its first `most + 1` bytes, into an empty buffer.
+/// Puts the content, or its first `most + 1` bytes, into an empty buffer.
 fn put_content(content: &[u8], most: u64, out: &mut Vec<u8>) -> Result<Loaded, AllocError>
     ensures { (contents : Contents) (name : List ℕ) → contents name ≡ Some content.now →
         Loads (Some contents) name most result out.new.items }
@@ -62,7 +62,7 @@ fn put_content(content: &[u8], most: u64, out: &mut Vec<u8>) -> Result<Loaded, A
     Ok(Loaded::Long)
 }
 
-// Puts an entry before all others, so that it is the one that counts.
+/// Puts an entry before all others, so that it is the one that counts.
 fn put_entry(held: &mut Vec<(Bytes, Bytes)>, name: &[u8], bytes: &[u8]) -> Result<(), AllocError>
     ensures ok { OnOk result (held.new.items ≡ (name.now, bytes.now) ∷ held.old.items) }
     ensures err { OnErr result (held.new.items ≡ held.old.items) }

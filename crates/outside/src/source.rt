@@ -93,7 +93,7 @@ impl Source for SureSource {
     }
 }
 
-// Moves the bytes from a place on to the front of `into`, as many as there are or fit.
+/// Moves the bytes from a place on to the front of `into`, as many as there are or fit.
 fn take_front(bytes: &Bytes, at: &mut usize, into: &mut [u8]) -> usize
     ensures bound { result ≤ length into.new }
     ensures bytes { drop at.old bytes.now ≡ take result into.new ++ drop at.new bytes.now }

@@ -6,7 +6,7 @@ use gcl_model::Bytes;
 use std::alloc::{AllocError, Global};
 use std::test::Fail;
 
-// The files a and b, and a second a that does not count.
+/// The files a and b, and a second a that does not count.
 fn held(alloc: Global) -> Result<Vec<(Bytes, Bytes)>, AllocError> {
     let entries: [(&[u8], &[u8]); 3] = [(b"a", b"to be"), (b"b", b""), (b"a", b"not")];
     let mut held = Vec::new(alloc);
@@ -17,7 +17,7 @@ fn held(alloc: Global) -> Result<Vec<(Bytes, Bytes)>, AllocError> {
     Ok(held)
 }
 
-// The counts of five reads of at most three bytes, None where one failed.
+/// The counts of five reads of at most three bytes, None where one failed.
 fn read_five<S: Source>(alloc: Global, source: &mut S) -> Result<Vec<Option<usize>>, AllocError> {
     let mut counts = Vec::new(alloc);
     let mut into = [0u8; 3];
@@ -27,7 +27,7 @@ fn read_five<S: Source>(alloc: Global, source: &mut S) -> Result<Vec<Option<usiz
     Ok(counts)
 }
 
-// The counts of four writes, None where one failed.
+/// The counts of four writes, None where one failed.
 fn write_four<K: Sink>(alloc: Global, sink: &mut K) -> Result<Vec<Option<usize>>, AllocError> {
     let mut counts = Vec::new(alloc);
     let pieces: [&[u8]; 4] = [b"to", b" ", b"", b"be"];
@@ -37,7 +37,7 @@ fn write_four<K: Sink>(alloc: Global, sink: &mut K) -> Result<Vec<Option<usize>>
     Ok(counts)
 }
 
-// What a load of at most four bytes answers, with what it put into the buffer.
+/// What a load of at most four bytes answers, with what it put into the buffer.
 fn loaded<F: Files>(
     alloc: Global,
     files: &mut F,

@@ -6,23 +6,24 @@
 #![tactic(auto)]
 
 mod entry;
-#[cfg(test)]
-mod examples;
 mod filters;
 mod holding;
 mod kinds;
 mod leaves;
-#[cfg(test)]
-mod leaves_tests;
 mod nesting;
 mod order;
 mod pairs;
 mod slow;
-#[cfg(test)]
-mod slow_tests;
 mod text;
 mod tokens;
 
 pub use slow::slow_list;
 pub use text::PlainText;
 pub use tokens::of_tokens;
+
+#[cfg(test)]
+mod examples;
+#[cfg(test)]
+mod leaves_tests;
+#[cfg(test)]
+mod slow_tests;

@@ -11,8 +11,9 @@
 
 mod halving;
 mod search;
-#[cfg(test)]
-mod tests;
 
 pub use halving::{Test, border};
 pub use search::{BlocksUpTo, at_or_after, at_or_before, rank};
+
+#[cfg(test)]
+mod tests;

@@ -10,10 +10,6 @@ RiseWithin low end (p ∷ ps) = (low ≤ p) × (p < end) × RiseWithin (p + 1) e
 abbrev pub ArePostings : List ℕ → Type 0
 ArePostings addresses = RiseWithin 0 (2 ^ 56) addresses
 
--- how many members a block has at most
-abbrev pub block_size : ℕ
-block_size = 64
-
 -- how many blocks a list has: 1 block for 64 members, 2 for 65
 abbrev pub blocks_of : List ℕ → ℕ
 blocks_of addresses = (length addresses + 63) / 64

@@ -19,11 +19,12 @@ mod laws;
 mod list;
 mod maker;
 mod number;
-#[cfg(test)]
-mod tests;
 mod unpack;
 
 pub use laws::{each_number_has_one_spelling, no_spelling_begins_another};
 pub use list::{ADDRESS_END, BLOCK, PostingList};
 pub use maker::{PostingMaker, encode};
 pub use number::{NUMBER_END, Number, get_number, put_number};
+
+#[cfg(test)]
+mod tests;

@@ -14,7 +14,8 @@
 mod answers;
 mod counted;
 mod fingered;
-#[cfg(test)]
-mod tests;
 
 pub use answers::{pass_count, pass_list, pass_list_from};
+
+#[cfg(test)]
+mod tests;

@@ -26,7 +26,7 @@ pub fn back_blanks(bytes: &[u8]) -> usize
     bytes.iter().rev().take_while(|b| is_blank(**b)).count()
 }
 
-// The length of the first word.
+/// The length of the first word.
 fn word_len(bytes: &[u8]) -> usize
     ensures value { result ≡ position_or_len is_blank bytes.now }
     ensures bound { result ≤ length bytes.now }

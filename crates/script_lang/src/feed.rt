@@ -10,7 +10,7 @@ use memchr::memrchr;
 use std::alloc::{AllocError, Global};
 use std::marker::Model;
 
-// A line without its newline, as it is taken.
+/// A line without its newline, as it is taken.
 fn taken_of(alloc: Global, line: &[u8], most: u64) -> Result<Taken, AllocError>
     ensures line { IfOk result (λ taken. line_taken taken ≡ Some (line_of most line.now)) }
     ensures long { IfOk result (λ taken. taken ≡ Taken.Long ↔ (most < length line.now)) }
@@ -23,8 +23,8 @@ fn taken_of(alloc: Global, line: &[u8], most: u64) -> Result<Taken, AllocError>
     Ok(Taken::Line(Bytes::copy_of(alloc, said)?))
 }
 
-// How many bytes of a piece are kept behind those that are held: of a line that does not end in it, no more than
-// show that it is long.
+/// How many bytes of a piece are kept behind those that are held: of a line that does not end in it, no more than
+/// show that it is long.
 fn kept_len(held: &[u8], piece: &[u8], most: u64) -> usize
     requires begun { has_newline held.now ≡ false }
     requires short { length held.now ≤ most + 1 }
@@ -91,7 +91,7 @@ impl LineFeed {
         line_end(self.bytes.as_slice(), self.seen) < self.bytes.len()
     }
 
-    // Drops the bytes that were taken.
+    /// Drops the bytes that were taken.
     fn move_to_front(&mut self)
         ensures { self.new ≡ self.old }
     {

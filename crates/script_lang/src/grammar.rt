@@ -9,7 +9,7 @@ use address_space::is_name;
 use gcl_model::Bytes;
 use std::alloc::{AllocError, Global};
 
-// A copy of the argument, None where it is no name.
+/// A copy of the argument, None where it is no name.
 fn name_of(alloc: Global, argument: &[u8]) -> Result<Option<Bytes>, AllocError>
     ensures { IfOk result (λ name. name ≡ name_of argument.now) }
 {
@@ -39,7 +39,7 @@ fn top(alloc: Global, argument: &[u8]) -> Result<Command, AllocError>
     }
 }
 
-// A command that takes no argument.
+/// A command that takes no argument.
 fn alone(command: Command, argument: &[u8]) -> Command
     requires { IsNamed command }
     ensures value { result ≡ alone command argument.now }

@@ -23,7 +23,7 @@ fn put_number(out: &mut Vec<u8>, n: u64) -> Result<(), AllocError>
     put_text(out, buffer.format(n).as_bytes())
 }
 
-// A number and a space.
+/// A number and a space.
 fn put_field(out: &mut Vec<u8>, n: u64) -> Result<(), AllocError>
     ensures ok { OnOk result (out.new.items ≡ out.old.items ++ decimal n ++ codes " ") }
     ensures grown { Grows out.old.items out.new.items }
@@ -32,7 +32,7 @@ fn put_field(out: &mut Vec<u8>, n: u64) -> Result<(), AllocError>
     put_text(out, b" ")
 }
 
-// What ends a line, and its newline.
+/// What ends a line, and its newline.
 fn put_end(out: &mut Vec<u8>, text: &[u8]) -> Result<(), AllocError>
     ensures ok { OnOk result (out.new.items ≡ out.old.items ++ text.now ++ 10 ∷ []) }
     ensures grown { Grows out.old.items out.new.items }
@@ -41,7 +41,7 @@ fn put_end(out: &mut Vec<u8>, text: &[u8]) -> Result<(), AllocError>
     put_text(out, b"\n")
 }
 
-// The number that ends a line, and its newline.
+/// The number that ends a line, and its newline.
 fn put_last(out: &mut Vec<u8>, n: u64) -> Result<(), AllocError>
     ensures ok { OnOk result (out.new.items ≡ out.old.items ++ decimal n ++ 10 ∷ []) }
     ensures grown { Grows out.old.items out.new.items }
@@ -134,7 +134,7 @@ pub fn put_opened(out: &mut Vec<u8>, files: u64) -> Result<(), AllocError>
     put_last(out, files)
 }
 
-// What is wrong with a query, in words.
+/// What is wrong with a query, in words.
 fn kind_text(kind: QueryKind) -> &'static [u8]
     ensures { result.now ≡ kind_text kind }
 {

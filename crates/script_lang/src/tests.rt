@@ -50,7 +50,7 @@ fn lines_lose_a_return_and_outer_blanks_and_may_be_long(rt: HostRuntime) {
     }
 }
 
-// A command as a word, a number and bytes, to compare it with.
+/// A command as a word, a number and bytes, to compare it with.
 fn parts<'a>(command: &'a Command) -> (&'static str, u64, &'a [u8]) {
     match command {
         Command::Blank => ("blank", 0, &[]),
@@ -153,7 +153,7 @@ fn each_answer_is_one_line(rt: HostRuntime) -> Result<(), Fail> {
     Ok(())
 }
 
-// Appends what was taken: the line, or an exclamation mark for a long one, and a bar.
+/// Appends what was taken: the line, or an exclamation mark for a long one, and a bar.
 fn put_taken(out: &mut Vec<u8>, taken: &Taken) -> Result<(), Fail> {
     match taken {
         Taken::Line(line) => out.extend_from_slice(line.as_slice())?,
@@ -164,7 +164,7 @@ fn put_taken(out: &mut Vec<u8>, taken: &Taken) -> Result<(), Fail> {
     Ok(())
 }
 
-// Pushes a piece, and takes the lines that are there.
+/// Pushes a piece, and takes the lines that are there.
 fn feed_piece(
     rt: &impl Abort,
     feed: &mut LineFeed,
@@ -180,7 +180,7 @@ fn feed_piece(
     Ok(())
 }
 
-// The lines of a text that is cut behind each byte whose digit in `cuts` is 1, the first one's digit being the last.
+/// The lines of a text that is cut behind each byte whose digit in `cuts` is 1, the first one's digit being the last.
 fn lines_of_pieces(
     rt: &impl Abort,
     alloc: Global,

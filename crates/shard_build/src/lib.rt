@@ -12,9 +12,10 @@ mod boundaries;
 mod group;
 mod making;
 mod source;
-#[cfg(test)]
-mod tests;
 
 pub use boundaries::{file_end, file_start};
 pub use making::{build, build_from, build_text};
 pub use source::Tokens;
+
+#[cfg(test)]
+mod tests;

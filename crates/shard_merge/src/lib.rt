@@ -11,7 +11,8 @@
 mod merged;
 mod merging;
 mod records;
-#[cfg(test)]
-mod tests;
 
 pub use merging::merge;
+
+#[cfg(test)]
+mod tests;

@@ -10,7 +10,8 @@
 
 mod part;
 mod terms;
-#[cfg(test)]
-mod tests;
 
 pub use terms::SlotTerms;
+
+#[cfg(test)]
+mod tests;

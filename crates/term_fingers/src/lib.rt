@@ -17,9 +17,10 @@ mod members;
 mod naming;
 mod near;
 mod term;
-#[cfg(test)]
-mod tests;
 mod words;
 
 pub use fingers::Fingers;
 pub use naming::Naming;
+
+#[cfg(test)]
+mod tests;

@@ -14,10 +14,11 @@ mod cut;
 mod joined;
 mod laws;
 mod lexeme;
-#[cfg(test)]
-mod tests;
 
 pub use cursor::TokenCursor;
 pub use cut::{is_token, token_count, token_text, tokens};
 pub use joined::TokenText;
 pub use laws::tokens_are_tokens;
+
+#[cfg(test)]
+mod tests;

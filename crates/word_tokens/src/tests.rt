@@ -2,7 +2,7 @@ use crate::{TokenCursor, is_token, token_count, token_text, tokens, tokens_are_t
 use std::alloc::{AllocError, Global};
 use std::test::Fail;
 
-// The tokens of a text, with a space before each.
+/// The tokens of a text, with a space before each.
 fn spaced(alloc: Global, bytes: &[u8]) -> Result<Vec<u8>, AllocError> {
     let list = tokens(alloc, bytes)?;
     let mut line = Vec::new(alloc);
@@ -13,7 +13,7 @@ fn spaced(alloc: Global, bytes: &[u8]) -> Result<Vec<u8>, AllocError> {
     Ok(line)
 }
 
-// The same from the two blocks.
+/// The same from the two blocks.
 fn spaced_text(alloc: Global, bytes: &[u8]) -> Result<Vec<u8>, AllocError> {
     let text = token_text(alloc, bytes)?;
     let mut line = Vec::new(alloc);
@@ -58,7 +58,7 @@ fn a_text_is_cut_into_words_and_tags(rt: HostRuntime) -> Result<(), Fail> {
     Ok(())
 }
 
-// Each `<` here looks as if it began a tag that never ends.
+/// Each `<` here looks as if it began a tag that never ends.
 #[test]
 fn tags_that_never_end_are_words(rt: HostRuntime) -> Result<(), Fail> {
     let alloc = rt.alloc();
