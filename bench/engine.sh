@@ -2,12 +2,8 @@
 # Adds texts by `gclq`, and prints ratios of one run: seconds of adding 20 MB in one file to those of `wc -w` (target 7), seconds of
 # adding 153 MB as 5,000 files to those of the same bytes as 50 (target 1.6), and the memory of a run that adds a text of
 # 20 MB with many tags to the bytes of the text (target 0.6, beside the text itself). It makes its texts.
-set -eu
-here=$(cd "$(dirname "$0")/.." && pwd)
-work=$(mktemp -d)
-trap 'rm -rf "$work"' EXIT
-"$here/gclq" </dev/null
-program=$here/crates/gclq/out/gclq
+. "$(dirname "$0")/common.sh"
+need_gclq
 python3 - "$work" <<'P'
 import random, sys
 random.seed(7)
@@ -40,15 +36,6 @@ kept("tags", made(20_000_000, tagged))
 script("tagged", ["tags"])
 P
 cd "$work"
-# prints the least seconds of three runs, and the kilobytes of the largest
-measure() { python3 -c '
-import resource, subprocess, sys, time
-best = 1e9
-for _ in range(3):
-    begin = time.time()
-    subprocess.run(sys.argv[2:], stdin=open(sys.argv[1]), check=True, stdout=subprocess.DEVNULL)
-    best = min(best, time.time() - begin)
-print(best, resource.getrusage(resource.RUSAGE_CHILDREN).ru_maxrss)' "$@"; }
 read -r counted _ <<< "$(measure text wc -w)"
 read -r one _ <<< "$(measure one "$program")"
 read -r few _ <<< "$(measure few "$program")"

@@ -2,12 +2,8 @@
 # Adds a plain text of 20 MB and one of 40 MB, with three finds each, and prints ratios of one run:
 # seconds to `wc -w` on the same text, bytes of memory to bytes of text, and the longer text to the shorter.
 # It makes its texts and builds nothing but the program. Targets: 5, 8 and 2.3.
-set -eu
-here=$(cd "$(dirname "$0")/.." && pwd)
-work=$(mktemp -d)
-trap 'rm -rf "$work"' EXIT
-"$here/gclq" </dev/null
-program=$here/crates/gclq/out/gclq
+. "$(dirname "$0")/common.sh"
+need_gclq
 python3 - "$work" <<'P'
 import random, sys
 random.seed(7)
@@ -21,18 +17,12 @@ for name, size in (("one", 20_000_000), ("two", 40_000_000)):
             written += len(line)
 P
 cd "$work"
-# prints seconds and kilobytes of one command
-measure() { python3 -c '
-import resource, subprocess, sys, time
-begin = time.time()
-subprocess.run(sys.argv[1], shell=True, check=True, stdout=subprocess.DEVNULL)
-print(time.time() - begin, resource.getrusage(resource.RUSAGE_CHILDREN).ru_maxrss)' "$1"; }
 for name in one two; do
   printf 'add %s\nfind "w17"\nfind "w4711"\nfind "absent"\n' "$name" > "$name.gclq"
 done
-read -r counted _ <<< "$(measure "wc -w one")"
-read -r one memory <<< "$(measure "$program < one.gclq")"
-read -r two _ <<< "$(measure "$program < two.gclq")"
+read -r counted _ <<< "$(measure /dev/null wc -w one)"
+read -r one memory <<< "$(measure one.gclq "$program")"
+read -r two _ <<< "$(measure two.gclq "$program")"
 size=$(stat -c %s one)
 awk -v c="$counted" -v o="$one" -v t="$two" -v m="$memory" -v s="$size" 'BEGIN {
   printf "wc -w %.3f s, gclq %.3f s: ratio %.2f (target 5)\n", c, o, o / c

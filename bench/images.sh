@@ -3,12 +3,8 @@
 # those of adding (target 0.5), the memory of a run that opens, less that of one that does nothing, to the bytes of the image (target 3),
 # and the bytes of the image to those that version 1 of the format would have (target below 1). The files are made: 100 texts of 200,000
 # bytes. A text named as the argument is measured in their place, cut into 100 files.
-set -eu
-here=$(cd "$(dirname "$0")/.." && pwd)
-work=$(mktemp -d)
-trap 'rm -rf "$work"' EXIT
-"$here/gclq" </dev/null
-program=$here/crates/gclq/out/gclq
+. "$(dirname "$0")/common.sh"
+need_gclq
 python3 - "$work" "${1:-}" <<'P'
 import random, sys
 random.seed(13)
@@ -29,19 +25,10 @@ for i in $(seq 0 99); do printf 'add f%s\n' "$i"; done > add
 { cat add; echo 'save image'; } > save
 echo 'open image' > open
 : > none
-# prints the least seconds of three runs over a script, and the kilobytes of the largest
-measure() { python3 -c '
-import resource, subprocess, sys, time
-best = 1e9
-for _ in range(3):
-    begin = time.time()
-    subprocess.run(sys.argv[1:2], stdin=open(sys.argv[2]), check=True, stdout=subprocess.DEVNULL)
-    best = min(best, time.time() - begin)
-print(best, resource.getrusage(resource.RUSAGE_CHILDREN).ru_maxrss)' "$program" "$1"; }
-read -r added _ <<< "$(measure add)"
-read -r saved _ <<< "$(measure save)"
-read -r _ idle <<< "$(measure none)"
-read -r opened held <<< "$(measure open)"
+read -r added _ <<< "$(measure add "$program")"
+read -r saved _ <<< "$(measure save "$program")"
+read -r _ idle <<< "$(measure none "$program")"
+read -r opened held <<< "$(measure open "$program")"
 # the bytes that version 1 would have for the collection of an image in version 2: see docs/FORMAT.md
 first=$(python3 - image <<'P'
 import sys

@@ -3,13 +3,9 @@
 # the plain numbers (target 2.5), and a walk over all of them to their sum (target 4, or 150 million a second). Then, over a text of
 # 10 MB with 5,000 different words that it makes, or over each file that is named, the bytes that a posting takes in the lists of 64 or
 # more, and their ratio to the packed differences alone (target 1.35).
-set -eu
-here=$(cd "$(dirname "$0")/.." && pwd)
-work=$(mktemp -d)
-trap 'rm -rf "$work"' EXIT
-program=$here/crates/measure/out/measure
-(cd "$here/crates/measure" && rt run -- tokens data/a) > "$work/log" 2>&1 || { cat "$work/log" >&2; exit 1; }
-"$program" lists | awk '
+. "$(dirname "$0")/common.sh"
+need_measure
+"$counter" lists | awk '
   /look-ups/ { printf "look-up %.0f ns, by partition_point %.0f ns: ratio %.2f (target 2.5)\n", $3 / 1e6, $7 / 1e6, $3 / $7 }
   /walk/ { printf "walk %.2f ns a posting, sum %.2f ns: ratio %.2f (target 4), %.0f million a second (target 150)\n", $4 / 1e6, $7 / 1e6, $4 / $7, 1e9 / $4 }'
 if [ $# -eq 0 ]; then
@@ -26,15 +22,10 @@ with open(sys.argv[1], "w") as out:
 P
   set -- "$work/made"
 fi
-# prints the kilobytes of a run
-memory() { python3 -c '
-import resource, subprocess, sys
-subprocess.run(sys.argv[1:], check=True, stdout=subprocess.DEVNULL)
-print(resource.getrusage(resource.RUSAGE_CHILDREN).ru_maxrss)' "$@"; }
 for text in "$@"; do
-  one=$(memory "$program" packed "$text" 1)
-  five=$(memory "$program" packed "$text" 5)
-  "$program" packed "$text" 1 | awk -v n="$(basename "$text")" -v o="$one" -v f="$five" '{
+  one=$(memory "$counter" packed "$text" 1)
+  five=$(memory "$counter" packed "$text" 5)
+  "$counter" packed "$text" 1 | awk -v n="$(basename "$text")" -v o="$one" -v f="$five" '{
     kept = (f - o) * 1024 / 4
     printf "%s: %d lists of 64 or more, %.3f bytes a posting, differences %.3f: ratio %.2f (target 1.35)\n", n, $4, kept / $1, $6 / $1, kept / $6
   }'

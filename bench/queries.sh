@@ -2,14 +2,9 @@
 # Queries over texts of 5 and 50 MB with a common word, a rare one and small elements: the intervals, the look-ups and the milliseconds of
 # each beside those of adding the text (target: a hundredth), and how much faster than the number of look-ups its time grows from the one
 # to the other (target 1.5); and the memory of a run that counts beside that of one that only adds (target 1.05). It makes its texts.
-set -eu
-here=$(cd "$(dirname "$0")/.." && pwd)
-work=$(mktemp -d)
-trap 'rm -rf "$work"' EXIT
-"$here/gclq" </dev/null
-program=$here/crates/gclq/out/gclq
-counter=$here/crates/measure/out/measure
-(cd "$here/crates/measure" && rt run -- tokens data/a) > "$work/log" 2>&1 || { cat "$work/log" >&2; exit 1; }
+. "$(dirname "$0")/common.sh"
+need_gclq
+need_measure
 python3 - "$work" <<'P'
 import random, sys
 random.seed(11)
@@ -26,16 +21,7 @@ for size in (5, 50):
             written += len(line)
 P
 cd "$work"
-# prints seconds and kilobytes of a run over a script
-measure() { python3 -c '
-import resource, subprocess, sys, time
-best = 1e9
-for _ in range(3):
-    begin = time.time()
-    subprocess.run(sys.argv[1:2], stdin=open(sys.argv[2]), check=True, stdout=subprocess.DEVNULL)
-    best = min(best, time.time() - begin)
-print(best, resource.getrusage(resource.RUSAGE_CHILDREN).ru_maxrss)' "$program" "$1"; }
-run() { { printf 'add t%s\n' "$1"; for _ in $(seq 20); do printf '%s\n' "$2"; done; } > script; measure script; }
+run() { { printf 'add t%s\n' "$1"; for _ in $(seq 20); do printf '%s\n' "$2"; done; } > script; measure script "$program"; }
 : > rows
 for size in 5 50; do
   read -r added kept <<< "$(run "$size" "")"

@@ -2,12 +2,8 @@
 # Shards of a text of 20 MB with 5,000 different words, and of one of 5 MB in which most words stand once. Prints ratios of
 # one run: seconds of building to seconds of cutting (target 6), and the bytes that one shard more keeps to those of the packed
 # differences and the different terms (target 2). It makes its texts, or takes the files that are named.
-set -eu
-here=$(cd "$(dirname "$0")/.." && pwd)
-work=$(mktemp -d)
-trap 'rm -rf "$work"' EXIT
-program=$here/crates/measure/out/measure
-(cd "$here/crates/measure" && rt run -- tokens data/a) > "$work/log" 2>&1 || { cat "$work/log" >&2; exit 1; }
+. "$(dirname "$0")/common.sh"
+need_measure
 if [ $# -eq 0 ]; then
   python3 - "$work" <<'P'
 import random, sys
@@ -25,11 +21,6 @@ for name, size, words in (("few", 20_000_000, few), ("many", 5_000_000, None)):
 P
   set -- "$work/few" "$work/many"
 fi
-# prints the kilobytes of a run
-memory() { python3 -c '
-import resource, subprocess, sys
-subprocess.run(sys.argv[1:], check=True, stdout=subprocess.DEVNULL)
-print(resource.getrusage(resource.RUSAGE_CHILDREN).ru_maxrss)' "$@"; }
 # prints the bytes of the packed differences and of the different terms, for texts of words alone
 packed() { python3 -c '
 import re, sys
@@ -41,10 +32,10 @@ for word in re.findall(rb"[0-9A-Za-z\x80-\xff]+", open(sys.argv[1], "rb").read()
     last[word] = at
 print(size + sum(map(len, last)))' "$1"; }
 for text in "$@"; do
-  cut=$("$program" tokens "$text" | awk '{ print $(NF - 1) }')
-  built=$("$program" shards "$text" 1 | awk '{ print $(NF - 1) }')
-  one=$(memory "$program" shards "$text" 1)
-  five=$(memory "$program" shards "$text" 5)
+  cut=$("$counter" tokens "$text" | awk '{ print $(NF - 1) }')
+  built=$("$counter" shards "$text" 1 | awk '{ print $(NF - 1) }')
+  one=$(memory "$counter" shards "$text" 1)
+  five=$(memory "$counter" shards "$text" 5)
   awk -v n="$(basename "$text")" -v c="$cut" -v b="$built" -v o="$one" -v f="$five" -v p="$(packed "$text")" 'BEGIN {
     printf "%s: cut in %.3f s, shard built in %.3f s: ratio %.2f (target 6)\n", n, c / 1e9, b / 1e9, b / c
     printf "%s: %.2f MB a shard, differences and terms %.2f MB: ratio %.2f (target 2)\n", n, (f - o) * 1024 / 4e6, p / 1e6, (f - o) * 256 / p

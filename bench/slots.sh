@@ -1,12 +1,8 @@
 #!/usr/bin/env bash
 # Counts queries over a text of 1 MB that stands 1, 4 and 16 times in a version, each time in a slot of its own: the intervals, the
 # look-ups, and the nanoseconds of a look-up beside those in one slot, by bytes and by fingers. It makes its text.
-set -eu
-here=$(cd "$(dirname "$0")/.." && pwd)
-work=$(mktemp -d)
-trap 'rm -rf "$work"' EXIT
-program=$here/crates/measure/out/measure
-(cd "$here/crates/measure" && rt run -- tokens data/a) > "$work/log" 2>&1 || { cat "$work/log" >&2; exit 1; }
+. "$(dirname "$0")/common.sh"
+need_measure
 python3 - "$work" <<'P'
 import random, sys
 random.seed(11)
@@ -21,7 +17,7 @@ P
 for query in '"the" ^ "w17"' '"of the"' '"the" < ("<l>".."</l>")'; do
   one=
   for times in 1 4 16; do
-    read -r look_ups took fingered <<< "$("$program" slots "$work/text" "$times" "$query" | awk '{ print $5, $8, $12 }')"
+    read -r look_ups took fingered <<< "$("$counter" slots "$work/text" "$times" "$query" | awk '{ print $5, $8, $12 }')"
     one=${one:-$(awk -v l="$look_ups" -v t="$took" 'BEGIN { print t / l }')}
     awk -v q="$query" -v n="$times" -v l="$look_ups" -v t="$took" -v o="$one" -v f="$fingered" 'BEGIN { printf "%-28s %2d slots: %d look-ups, %.0f ns each, ratio to one slot %.2f, by fingers %.0f ns\n", q, n, l, t / l, t / l / o, f / l }'
   done

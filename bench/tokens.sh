@@ -1,12 +1,8 @@
 #!/usr/bin/env bash
 # Adds 20 MB of text with many tags, and 1,000 and 10,000 small files, and prints ratios of one run:
 # seconds to `wc -w` on the same text (target 6), and the growth of time over the growth of the number of files (1.15).
-set -eu
-here=$(cd "$(dirname "$0")/.." && pwd)
-work=$(mktemp -d)
-trap 'rm -rf "$work"' EXIT
-"$here/gclq" </dev/null
-program=$here/crates/gclq/out/gclq
+. "$(dirname "$0")/common.sh"
+need_gclq
 python3 - "$work" <<'P'
 import random, sys
 random.seed(7)
@@ -26,17 +22,11 @@ for n in range(10_000):
         out.write(" ".join(random.choices(words, k=60)))
 P
 cd "$work"
-measure() { python3 -c '
-import subprocess, sys, time
-begin = time.time()
-subprocess.run(sys.argv[1], shell=True, check=True, stdout=subprocess.DEVNULL)
-print(time.time() - begin)' "$1"; }
 printf 'add page\n' > page.gclq
-counted=$(measure "wc -w page")
-page=$(measure "$program < page.gclq")
-measure "$program < 10000.gclq" > /dev/null
-few=$(measure "$program < 1000.gclq")
-many=$(measure "$program < 10000.gclq")
+read -r counted _ <<< "$(measure /dev/null wc -w page)"
+read -r page _ <<< "$(measure page.gclq "$program")"
+read -r few _ <<< "$(measure 1000.gclq "$program")"
+read -r many _ <<< "$(measure 10000.gclq "$program")"
 awk -v c="$counted" -v p="$page" -v f="$few" -v m="$many" 'BEGIN {
   printf "wc -w %.3f s, gclq %.3f s: ratio %.2f (target 6)\n", c, p, p / c
   printf "1,000 files %.3f s, 10,000 files %.3f s: grows %.2f times as fast as their number (target 1.15)\n", f, m, m / f / 10

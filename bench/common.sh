@@ -1,0 +1,36 @@
+# What the scripts here share: the programs, a folder to work in, and clocks. Each begins with `. "$(dirname "$0")/common.sh"`.
+# GCLQ and MEASURE name programs to run in place of those of this checkout.
+set -eu
+here=$(cd "$(dirname "${BASH_SOURCE[0]}")/.." && pwd)
+work=$(mktemp -d)
+trap 'rm -rf "$work"' EXIT
+
+# Builds gclq if it has to, and sets `program` to its path.
+need_gclq() {
+  program=${GCLQ:-$here/crates/gclq/out/gclq}
+  [ -n "${GCLQ:-}" ] || "$here/gclq" < /dev/null
+}
+
+# Builds the program that measures lists, shards and slots, and sets `counter` to its path.
+need_measure() {
+  counter=${MEASURE:-$here/crates/measure/out/measure}
+  [ -n "${MEASURE:-}" ] || (cd "$here/crates/measure" && rt run -- tokens data/a) > "$work/log" 2>&1 || { cat "$work/log" >&2; exit 1; }
+}
+
+# Prints the seconds of the quickest of three runs of a command over an input, and the most kilobytes that a command took so far: measure INPUT COMMAND..
+measure() { python3 -c '
+import resource, subprocess, sys, time
+best = 1e9
+for _ in range(3):
+    begin = time.time()
+    run = subprocess.run(sys.argv[2:], stdin=open(sys.argv[1]), stdout=subprocess.DEVNULL)
+    best = min(best, time.time() - begin)
+    if run.returncode > 1:
+        sys.exit(f"status {run.returncode}: {sys.argv[2:]}")
+print(best, resource.getrusage(resource.RUSAGE_CHILDREN).ru_maxrss)' "$@"; }
+
+# Prints the kilobytes of one run of a command.
+memory() { python3 -c '
+import resource, subprocess, sys
+subprocess.run(sys.argv[1:], check=True, stdout=subprocess.DEVNULL)
+print(resource.getrusage(resource.RUSAGE_CHILDREN).ru_maxrss)' "$@"; }
