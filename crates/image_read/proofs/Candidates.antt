@@ -1,12 +1,11 @@
 -- What an image says of a sound collection.
-use Rattle.std.proofs.Common.{◌≡◌, ℕ, zero, suc, ◌+◌, ◌-◌, ◌*◌, ◌^◌, ◌<◌, ◌≤◌, Bool, true, false, ◌&&◌, ◌||◌, eqb, leb, ltb, bytes_eq, List, [], ◌∷◌, ◌++◌, length, map, flat_map, find, get_or, Option, Some, None, inl, inr, refl, sym, ap, ◌∙◌, subst, arith, length-append}
+use Rattle.std.proofs.Common.{◌≡◌, ℕ, ◌+◌, ◌<◌, ◌≤◌, Bool, true, false, ◌&&◌, eqb, leb, ltb, bytes_eq, List, [], ◌∷◌, ◌++◌, length, map, flat_map, get_or, Some, inl, inr, refl, sym, ap, ◌∙◌, subst, arith, length-append}
 use Rattle.std.specs.List.{AllByRecursion, list_any}
-use Rattle.std.specs.Option.{option_map}
-use Rattle.std.proofs.lemmas.Bool.{true≢false, cases_Bool, or_cases, or_left, or_right, eqb-true, eqb-false, eq-eqb, ne_eqb, le-leb, lt-leb, lt-ltb, le-ltb, leb-true, ltb-true}
+use Rattle.std.proofs.lemmas.Bool.{true≢false, cases_Bool, or_cases, or_left, or_right, eqb-false, eq-eqb, ne_eqb, le-leb, lt-ltb, le-ltb, leb-true, ltb-true}
 use Rattle.std.proofs.lemmas.List.Folds.{list_any-append}
 use Rattle.std.proofs.lemmas.Slice.Eq.{bytes_eq-Decides}
 use Rattle.gcl_model.specs.Texts.{Word, places, AreRisingBelow}
-use Rattle.gcl_model.specs.Collections.{Collection, File, AreFilesFrom, IsSound, IsToken, FitsHole, file_start, file_end, with_boundaries, words_from, words_of, width_of}
+use Rattle.gcl_model.specs.Collections.{Collection, File, AreFilesFrom, IsToken, file_start, file_end, with_boundaries, words_from, words_of, width_of}
 use Rattle.gcl_model.proofs.Lists.{all_append, all_weaker}
 use Rattle.posting_code.specs.Postings.{RiseWithin}
 use Rattle.live_version.proofs.WordLemmas.{places_rise}
@@ -19,12 +18,10 @@ use Rattle.shard_merge.proofs.SameWords.{places_apart}
 use Rattle.live_version.specs.Contents.{is_of_file, is_of_files}
 use Rattle.live_version.specs.StandsFor.{entry_of}
 use Rattle.image_file.specs.declared.format.Format.{Format}
-use Rattle.image_file.specs.Images.{AreTermsOf, CanBeSaid, SpellsWith, TermsRise, most_term, fields_of, AreShort}
+use Rattle.image_file.specs.Images.{AreTermsOf, CanBeSaid, SpellsWith, TermsRise, AreShort}
 use Rattle.image_file.proofs.TermTables.{own_postings}
-use Rattle.image_file.proofs.Decoding.{AreWritable, CanWrite}
-use Rattle.image_read.specs.declared.places.Role.{Role}
 use Rattle.image_read.specs.declared.places.Role.TheVariants.{Start, Inner, End}
-use Rattle.image_read.specs.Reading.{AreAllEntries, AreAllFiles, FillRole, IsEntry, IsNextFile, TermsApart, is_covered, role_in, role_of, role_of_file}
+use Rattle.image_read.specs.Reading.{AreAllEntries, AreAllFiles, IsEntry, TermsApart, is_covered, role_in, role_of, role_of_file}
 
 -- the records of a sound collection fill it
 pub all_files : (c : Collection) (at id : ℕ) (files : List File) → AreFilesFrom c at id files → AreAllFiles c.next c.next_id id at (map entry_of files)

@@ -1,14 +1,13 @@
 -- The files that were read, and those that any image of the bytes still has.
-use Rattle.std.proofs.Common.{◌≡◌, ℕ, zero, suc, ◌+◌, ◌-◌, ◌*◌, ◌^◌, ◌<◌, ◌≤◌, List, [], ◌∷◌, ◌++◌, length, map, flat_map, inl, inr, refl, sym, ap, ◌∙◌, subst, arith, length-append}
-use Rattle.std.specs.List.{AllByRecursion}
+use Rattle.std.proofs.Common.{◌≡◌, ℕ, ◌+◌, ◌-◌, ◌^◌, ◌<◌, ◌≤◌, List, [], ◌∷◌, ◌++◌, length, flat_map, refl, sym, ap, ◌∙◌, subst, arith, length-append}
 use Rattle.std.specs.Option.{IfSome}
 use Rattle.std.proofs.lemmas.List.{append_assoc, append-nil}
 use Rattle.gcl_model.specs.Collections.{FitsHole}
-use Rattle.address_space.specs.Runs.{FileEntry, IsPlaced, Precedes, last_file}
+use Rattle.address_space.specs.Runs.{FileEntry, Precedes, last_file}
 use Rattle.image_file.specs.declared.format.Format.{Format}
 use Rattle.image_file.specs.declared.format.Format.TheVariants.{One, Two}
 use Rattle.image_file.specs.Fields.{files_bytes, long_file, short_file, short_files}
-use Rattle.image_file.specs.Written.{CanPack, FitsLong, FitsShort}
+use Rattle.image_file.specs.Written.{CanPack}
 use Rattle.image_file.proofs.Decoding.{long_file_same, packs_long, packs_short, short_file_same}
 use Rattle.image_file.proofs.Packing.{name_fits}
 use Rattle.image_read.specs.Reading.{AreAllFiles, AreFilesUpTo, FitsFields, HasNoFile, HasNoFiles, IsFileFront, IsFilesFront, IsNextFile, file_bytes, files_from}

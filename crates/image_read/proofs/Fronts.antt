@@ -1,11 +1,11 @@
 -- What stands at the front of some bytes.
-use Rattle.std.proofs.Common.{◌≡◌, ℕ, zero, suc, ◌+◌, ◌-◌, ◌*◌, ◌/◌, ◌%◌, ◌^◌, ◌<◌, ◌≤◌, List, [], ◌∷◌, ◌++◌, length, take, drop, get_or, refl, sym, ap, ◌∙◌, subst, arith, length-append}
+use Rattle.std.proofs.Common.{◌≡◌, ℕ, zero, suc, ◌+◌, ◌-◌, ◌*◌, ◌/◌, ◌%◌, ◌^◌, ◌<◌, ◌≤◌, List, [], ◌∷◌, ◌++◌, length, get_or, refl, sym, ap, ◌∙◌, subst, arith, length-append}
 use Rattle.std.proofs.Math.Nat.{div-div-eq-div-mul, div-one, pow-suc}
-use Rattle.std.proofs.lemmas.List.{append_assoc, append_cancel_left, take_all}
+use Rattle.std.proofs.lemmas.List.{append_assoc, append_cancel_left}
 use Rattle.std.specs.Int.{byte_at, bytes_low_first}
 use Rattle.byteorder.specs.Endian.{little_bytes, little_from, little_number}
-use Rattle.byteorder.specs.Numbers.{little_from-cons, little_from-lt, length-bytes_low_first}
-use Rattle.posting_code.specs.Numbers.{spelling, IsNumberAt, HasNoNumberAt}
+use Rattle.byteorder.specs.Numbers.{little_from-cons, little_from-lt}
+use Rattle.posting_code.specs.Numbers.{spelling}
 use Rattle.image_file.specs.declared.format.Format.{Format}
 use Rattle.image_file.specs.declared.format.Format.TheVariants.{One, Two}
 use Rattle.image_file.specs.Fields.{eight_bytes, mark, short_text}
@@ -14,7 +14,7 @@ use Rattle.address_space.specs.Runs.{FileEntry}
 use Rattle.image_file.specs.Images.{end_of}
 use Rattle.image_file.specs.Written.{FitsShort}
 use Rattle.image_file.proofs.Decoding.{eight_same, four, marks_same}
-use Rattle.image_read.specs.Reading.{IsText, IsFixed, IsPacked, HasNoPacked, IsHead, HasNoFile, HasNoHead, HasNoMark, IsFileFront}
+use Rattle.image_read.specs.Reading.{IsText, IsFixed, IsPacked, HasNoPacked, IsHead, HasNoFile, HasNoHead, IsFileFront}
 
 -- a byte of a number, by its place
 byte_at-pow : (k x : ℕ) → byte_at k x ≡ x / 256 ^ k % 256

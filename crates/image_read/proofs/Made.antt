@@ -1,15 +1,14 @@
 -- The collection of some records and a table that has a term at each of their addresses.
-use Rattle.std.proofs.Common.{◌≡◌, ℕ, zero, suc, ◌+◌, ◌-◌, ◌<◌, ◌≤◌, Bool, true, false, ◌||◌, eqb, bytes_eq, List, [], ◌∷◌, ◌++◌, length, map, flat_map, get_or, Option, Some, None, inl, inr, refl, sym, ap, ◌∙◌, subst, arith, length-append}
-use Rattle.std.specs.List.{AllByRecursion, list_any, range_with_len}
+use Rattle.std.proofs.Common.{◌≡◌, ℕ, zero, suc, ◌+◌, ◌-◌, ◌<◌, ◌≤◌, true, false, eqb, bytes_eq, List, [], ◌∷◌, ◌++◌, length, map, flat_map, Option, Some, None, inl, inr, refl, sym, ap, ◌∙◌, subst, arith}
+use Rattle.std.specs.List.{AllByRecursion, range_with_len}
 use Rattle.std.specs.Option.{option_map, option_to_list}
-use Rattle.std.proofs.lemmas.Bool.{true≢false, cases_Bool, cases_lt, or_cases, or_left, or_right, eqb-true, eqb-false, lt-leb}
+use Rattle.std.proofs.lemmas.Bool.{cases_Bool, or_cases, or_left, or_right, eqb-true, lt-leb}
 use Rattle.std.proofs.lemmas.Grind.{flat_map-append}
-use Rattle.std.proofs.lemmas.List.{append_assoc, append-nil}
 use Rattle.std.proofs.lemmas.Slice.Eq.{bytes_eq-Decides}
 use Rattle.gcl_model.specs.Texts.{Word}
-use Rattle.gcl_model.specs.Collections.{Collection, File, AreFilesFrom, IsToken, file_start, file_end, with_boundaries, words_from, words_of, width_of}
+use Rattle.gcl_model.specs.Collections.{Collection, File, AreFilesFrom, IsToken, file_start, file_end, with_boundaries, words_from, width_of}
 use Rattle.address_space.specs.Runs.{FileEntry}
-use Rattle.index_shard.specs.Tables.{ShardContent, TermEntry, has_address, term_at}
+use Rattle.index_shard.specs.Tables.{TermEntry, has_address, term_at}
 use Rattle.index_shard.proofs.ShardWords.{word, words_at}
 use Rattle.live_version.specs.Contents.{is_of_file, is_of_files}
 use Rattle.live_version.specs.StandsFor.{entry_of}

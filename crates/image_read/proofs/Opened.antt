@@ -1,5 +1,5 @@
 -- The version that is made of what was read.
-use Rattle.std.proofs.Common.{◌≡◌, ℕ, zero, suc, ◌+◌, ◌-◌, ◌^◌, ◌<◌, ◌≤◌, Bool, true, false, List, [], ◌∷◌, ◌++◌, length, map, flat_map, Option, Some, None, refl, sym, ap, ◌∙◌, subst, arith}
+use Rattle.std.proofs.Common.{◌≡◌, ℕ, zero, suc, ◌+◌, ◌-◌, ◌^◌, ◌<◌, ◌≤◌, true, List, [], ◌∷◌, length, map, flat_map, Option, Some, None, refl, sym, ap, ◌∙◌, subst, arith}
 use Rattle.std.specs.List.{AllByRecursion}
 use Rattle.std.proofs.lemmas.List.{append-nil}
 use Rattle.gcl_model.specs.Texts.{Word}
@@ -8,11 +8,11 @@ use Rattle.gcl_model.proofs.Lists.{filter_kept}
 use Rattle.address_space.specs.Runs.{FileEntry, range_of}
 use Rattle.index_shard.specs.Tables.{IsShard, ShardContent, TermEntry, term_at, words_of}
 use Rattle.live_version.specs.Changes.{opened}
-use Rattle.live_version.specs.Contents.{SlotContent, VersionContent, is_of_files, live_of, ranges_of, slot_content}
+use Rattle.live_version.specs.Contents.{VersionContent, is_of_files, live_of, slot_content}
 use Rattle.image_file.specs.declared.format.Format.{Format}
 use Rattle.image_file.specs.Fields.{term_bytes}
-use Rattle.image_read.specs.Reading.{AreAllEntries, AreAllFiles, AreTermBytes, HasNoTerms, IsFixed}
-use Rattle.image_read.specs.Tables.{AreReadTerms, IsReadAs, IsReadFrom}
+use Rattle.image_read.specs.Reading.{AreAllFiles, AreTermBytes, HasNoTerms, IsFixed}
+use Rattle.image_read.specs.Tables.{AreReadTerms, IsReadFrom}
 use Rattle.image_read.proofs.AddressTracking.{role_of_files}
 use Rattle.image_read.proofs.Made.{word_table, words_between}
 use Rattle.image_read.proofs.Spans.{all_end, all_run, span_of}

@@ -1,8 +1,8 @@
 -- Each address of some files has a rank of its own.
-use Rattle.std.proofs.Common.{◌≡◌, ℕ, zero, suc, ◌+◌, ◌-◌, ◌<◌, ◌≤◌, Bool, true, false, ◌||◌, eqb, List, [], ◌∷◌, ◌++◌, length, take, get_or, set, Option, Some, None, inl, inr, refl, sym, ap, ◌∙◌, subst, arith, length-append, le_refl}
+use Rattle.std.proofs.Common.{◌≡◌, ℕ, zero, suc, ◌+◌, ◌-◌, ◌<◌, ◌≤◌, Bool, true, false, ◌||◌, eqb, List, [], ◌∷◌, ◌++◌, length, take, get_or, set, Some, None, inl, inr, refl, sym, ap, ◌∙◌, subst, arith, length-append, le_refl}
 use Rattle.std.specs.List.{AllByRecursion, prefix_len}
 use Rattle.std.specs.List.Sorted.{IsNonDecreasingBy}
-use Rattle.std.proofs.lemmas.Bool.{true≢false, cases_Bool, cases_lt, or_cases, or_left, or_right, eqb-true, eqb-false, eq-eqb, ne_eqb, lt-leb, leb-true, leb-false}
+use Rattle.std.proofs.lemmas.Bool.{cases_Bool, cases_lt, or_cases, or_left, or_right, eqb-true, eqb-false, le-leb, lt-leb, leb-true, leb-false}
 use Rattle.std.proofs.lemmas.Grind.{get_or_default_zero}
 use Rattle.std.proofs.lemmas.List.{get_or-append_right, get_or-set_other, get_or-set_same, get_or_append_left}
 use Rattle.std.proofs.lemmas.List.Sums.{prefix_len_stops}
@@ -192,6 +192,15 @@ later_from p file (next ∷ files) all is = elim (or_cases (is_of_file p next) (
   | inl h ↦ let at = within p next h in let a : next.base ≤ p = at.0 in let order : file.base + file.len ≤ next.base = all.0.addresses in omega arith
   | inr h ↦ later_from p file files all.1 h
 ]
+
+-- where the file at a place has an address, those that end by it are the ones before
+pub file_prefix : (files : List FileEntry) (i p : ℕ) (d : FileEntry) → IsFileRun files → i < length files → is_of_file p (get_or files i d) ≡ true → i ≡ prefix_len (ends_by p) files
+file_prefix [] i p d run lt is = absurd (omega arith)
+file_prefix (file ∷ files) zero p d run lt is = let at = within p file is in rw (lt-leb (file.base + file.len) p at.1) refl
+file_prefix (file ∷ files) (suc i) p d run lt is =
+    let end : file.base + file.len ≤ p = later_from p file files run.1 (of_files_at files i p d (omega arith) is) in
+    let rest = file_prefix files i p d run.2 (omega arith) is in
+    rw (le-leb (file.base + file.len) p end) (omega (arith, rest))
 
 pub record IsRanked (files : List FileEntry) (k p : ℕ) : Type 0 where
   pub of : is_of_files files p ≡ true

@@ -1,5 +1,5 @@
 -- Where a part of an image is refused, the bytes are no image.
-use Rattle.std.proofs.Common.{◌≡◌, ℕ, ◌+◌, ◌-◌, ◌*◌, ◌^◌, ◌<◌, ◌≤◌, List, [], ◌∷◌, ◌++◌, length, map, flat_map, refl, sym, ap, ◌∙◌, subst, arith}
+use Rattle.std.proofs.Common.{◌≡◌, ℕ, ◌+◌, ◌-◌, ◌*◌, ◌^◌, ◌≤◌, List, [], ◌∷◌, ◌++◌, length, map, flat_map, refl, sym, ap, ◌∙◌, subst, arith}
 use Rattle.std.proofs.lemmas.List.{append-nil}
 use Rattle.gcl_model.specs.Collections.{Collection, File, AreFilesFrom, width_of}
 use Rattle.address_space.specs.Runs.{FileEntry}
@@ -9,7 +9,7 @@ use Rattle.image_file.specs.declared.format.Format.{Format}
 use Rattle.image_file.specs.Fields.{eight_bytes, files_bytes, mark, term_bytes}
 use Rattle.image_file.specs.Images.{Spells, end_of, fields_of}
 use Rattle.image_file.specs.Written.{ArePacked}
-use Rattle.image_file.proofs.Decoding.{AreWritable, eight_same, files_same, image-parts}
+use Rattle.image_file.proofs.Decoding.{eight_same, files_same, image-parts}
 use Rattle.image_file.proofs.ImageLaws.{are_writable}
 use Rattle.image_read.specs.Answers.{IsNoImage}
 use Rattle.image_read.specs.Reading.{AreAllFiles, AreTermBytes, HasNoFiles, HasNoHead, HasNoTerms, IsFilesFront, IsHead, files_from}

@@ -1,9 +1,9 @@
 -- The one range from the first of some files to the last.
-use Rattle.std.proofs.Common.{◌≡◌, ℕ, ◌+◌, ◌-◌, ◌^◌, ◌<◌, ◌≤◌, List, [], ◌∷◌, length, map, get_or, Option, Some, None, refl, sym, ap, ◌∙◌, subst, arith, le_refl}
+use Rattle.std.proofs.Common.{◌≡◌, ℕ, ◌+◌, ◌-◌, ◌^◌, ◌<◌, ◌≤◌, List, [], ◌∷◌, length, map, get_or, Some, refl, sym, ap, ◌∙◌, subst, arith, le_refl}
 use Rattle.std.specs.List.{AllByRecursion}
 use Rattle.gcl_model.specs.Slots.{SlotRange, ranges_spanned, slot_range, spanned}
 use Rattle.gcl_model.proofs.Lists.{all_both, all_weaker}
-use Rattle.address_space.specs.Runs.{FileEntry, IsFileRun, IsPlaced, Precedes, last_file, range_of}
+use Rattle.address_space.specs.Runs.{FileEntry, IsFileRun, Precedes, last_file, range_of}
 use Rattle.live_version.specs.Contents.{LiesIn}
 use Rattle.image_read.specs.Reading.{AreAllFiles}
 use Rattle.image_read.specs.Tables.{IsRangeOf}

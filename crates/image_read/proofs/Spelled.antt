@@ -1,28 +1,26 @@
 -- The collection that the parts of an image say.
-use Rattle.std.proofs.Common.{◌≡◌, ℕ, ◌+◌, ◌-◌, ◌*◌, ◌^◌, ◌<◌, ◌≤◌, Bool, true, false, eqb, List, [], ◌∷◌, ◌++◌, length, map, flat_map, Option, Some, None, refl, sym, ap, ◌∙◌, subst, arith, le_refl}
-use Rattle.std.specs.List.{AllByRecursion, range_with_len}
+use Rattle.std.proofs.Common.{◌≡◌, ℕ, ◌+◌, ◌-◌, ◌^◌, ◌<◌, ◌≤◌, List, [], ◌∷◌, ◌++◌, length, map, flat_map, Some, None, refl, sym, ap, ◌∙◌, subst, arith, le_refl}
+use Rattle.std.specs.List.{AllByRecursion}
 use Rattle.std.proofs.lemmas.List.{append-nil}
-use Rattle.gcl_model.specs.Texts.{Word, places}
-use Rattle.gcl_model.specs.Collections.{Collection, File, words_from, words_of, with_boundaries, width_of}
-use Rattle.gcl_model.specs.Slots.{SlotRange, file_range, ranges_spanned, slot_range, slots_after_open, spanned}
+use Rattle.gcl_model.specs.Texts.{places}
+use Rattle.gcl_model.specs.Collections.{Collection, words_of}
+use Rattle.gcl_model.specs.Slots.{SlotRange, file_range, ranges_spanned, slot_range, spanned}
 use Rattle.gcl_model.proofs.Lists.{all_weaker}
-use Rattle.address_space.specs.Runs.{FileEntry, IsFileRun, range_of}
-use Rattle.index_shard.specs.Tables.{IsShard, ShardContent, TermEntry, has_address, postings_of}
+use Rattle.address_space.specs.Runs.{FileEntry, range_of}
+use Rattle.index_shard.specs.Tables.{IsShard, TermEntry, postings_of}
 use Rattle.index_shard.specs.Tables.{words_of as words_in}
 use Rattle.index_shard.proofs.ShardWords.{places_are_postings}
-use Rattle.live_version.specs.Contents.{SlotContent, VersionContent, files_of, live_of, ranges_of}
-use Rattle.live_version.specs.StandsFor.{StandsFor, entry_of}
+use Rattle.live_version.specs.Contents.{SlotContent, VersionContent, live_of, ranges_of}
 use Rattle.image_file.specs.declared.format.Format.{Format}
 use Rattle.image_file.specs.Fields.{eight_bytes, files_bytes, mark, term_bytes, image_bytes}
-use Rattle.image_file.specs.Images.{AreShort, AreTermsOf, CanBeSaid, Spells, SpellsWith, end_of, fields_of, most_term}
+use Rattle.image_file.specs.Images.{AreTermsOf, Spells, end_of, fields_of, most_term}
 use Rattle.image_file.proofs.Decoding.{image-parts}
-use Rattle.image_read.specs.declared.places.Role.{Role}
-use Rattle.image_read.specs.Answers.{IsImageOf, IsOpened}
-use Rattle.image_read.specs.Reading.{AreAllEntries, AreAllFiles, AreTermBytes, IsEntry, IsFilesFront, IsHead, IsNextFile, files_from, role_in, role_of}
-use Rattle.image_read.specs.Tables.{AreReadTerms, IsReadAs, IsReadFrom}
+use Rattle.image_read.specs.Answers.{IsImageOf}
+use Rattle.image_read.specs.Reading.{AreAllEntries, AreAllFiles, IsEntry, IsFilesFront, IsHead, files_from, role_in, role_of}
+use Rattle.image_read.specs.Tables.{AreReadTerms, IsReadFrom}
 use Rattle.image_read.proofs.FileTracking.{files_told}
-use Rattle.image_read.proofs.Made.{EndsBy, files_words, words_between, made, made-width, made_entries, made_files, word_table}
-use Rattle.image_read.proofs.Spans.{IsSpanned, all_run, span_of}
+use Rattle.image_read.proofs.Made.{files_words, words_between, made, made-width, made_entries, made_files, word_table}
+use Rattle.image_read.proofs.Spans.{all_run, span_of}
 
 -- the collection of these numbers and files, with the tokens that the table has
 abbrev pub said_by : ℕ → ℕ → ℕ → List FileEntry → List TermEntry → Collection

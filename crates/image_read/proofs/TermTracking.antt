@@ -1,31 +1,29 @@
 -- The terms that were read, and those that any image of the bytes still has.
-use Rattle.std.proofs.Common.{◌≡◌, ℕ, zero, suc, ◌+◌, ◌-◌, ◌^◌, ◌<◌, ◌≤◌, Bool, true, false, ◌||◌, eqb, List, [], ◌∷◌, ◌++◌, length, flat_map, nat_cmp, Option, Some, None, inl, inr, refl, sym, ap, ◌∙◌, subst, arith, length-append, le_refl}
-use Rattle.std.specs.List.{AllByRecursion, list_any}
-use Rattle.std.specs.Option.{IfSome, option_map}
+use Rattle.std.proofs.Common.{◌≡◌, ℕ, ◌+◌, ◌-◌, ◌^◌, ◌<◌, ◌≤◌, Bool, true, false, ◌||◌, eqb, List, [], ◌∷◌, ◌++◌, length, flat_map, Option, Some, None, inl, inr, refl, sym, ap, ◌∙◌, subst, arith, length-append, le_refl}
+use Rattle.std.specs.List.{AllByRecursion}
+use Rattle.std.specs.Option.{IfSome}
 use Rattle.std.proofs.lemmas.Bool.{true≢false, cases_Bool, or_cases, or_left, or_right, eqb-true, eq-eqb}
 use Rattle.std.proofs.lemmas.Cmp.{nat_list_cmp_total}
 use Rattle.std.proofs.lemmas.Grind.{flat_map-append}
 use Rattle.std.proofs.lemmas.List.{append_assoc, append-nil}
 use Rattle.std.proofs.lemmas.List.Folds.{list_any-append}
-use Rattle.gcl_model.specs.Collections.{IsToken}
 use Rattle.gcl_model.specs.Slots.{SlotRange}
-use Rattle.gcl_model.proofs.Lists.{all_left, all_right, all_weaker}
+use Rattle.gcl_model.proofs.Lists.{all_right, all_weaker}
 use Rattle.posting_code.specs.Numbers.{spelling}
 use Rattle.posting_code.specs.Postings.{RiseWithin}
 use Rattle.posting_code.proofs.Rising.{rise_wider}
-use Rattle.index_shard.specs.Tables.{TermEntry, AreApart, ArePostingsIn, ComesBefore, has_address, last_entry}
+use Rattle.index_shard.specs.Tables.{TermEntry, AreApart, ArePostingsIn, ComesBefore, has_address}
 use Rattle.index_shard.proofs.TableLaws.{all_push}
 use Rattle.address_space.specs.Runs.{FileEntry}
-use Rattle.live_version.specs.Contents.{LiesIn, is_of_file, is_of_files}
+use Rattle.live_version.specs.Contents.{is_of_file, is_of_files}
 use Rattle.image_file.specs.declared.format.Format.{Format}
 use Rattle.image_file.specs.declared.format.Format.TheVariants.{One, Two}
 use Rattle.image_file.specs.Fields.{differences, eight_bytes, long_text, short_text, term_bytes}
-use Rattle.image_file.specs.Images.{TermsRise, most_term}
+use Rattle.image_file.specs.Images.{TermsRise}
 use Rattle.image_file.proofs.Decoding.{CanWrite, long_text_same, short_text_same, term_same, three}
 use Rattle.image_file.proofs.Writing.{rising_push}
 use Rattle.image_read.specs.declared.places.Role.{Role}
-use Rattle.image_read.specs.declared.places.Role.TheVariants.{Inner}
-use Rattle.image_read.specs.Reading.{AreAllEntries, AreEntries, AreTermBytes, FillRole, HasNoAddresses, HasNoTerms, HasRole, IsAddressesFront, IsEntry, IsFixed, IsTextFront, SeenContent, SeesAll, TermsApart, count_bytes, is_covered, is_seen, role_in, role_of, text_bytes}
+use Rattle.image_read.specs.Reading.{AreAllEntries, AreEntries, AreTermBytes, FillRole, HasNoAddresses, HasNoTerms, IsAddressesFront, IsEntry, IsFixed, IsTextFront, SeenContent, SeesAll, TermsApart, count_bytes, is_covered, is_seen, role_in, role_of, text_bytes}
 use Rattle.image_read.specs.Tables.{AreReadTerms, HasNoNextTerm, HasNoTerm, HoldsTerms, IsNextTerm, IsRangeOf, IsTermFront, MayFollow, PutsTerm, last_term}
 use Rattle.image_read.proofs.Candidates.{within}
 use Rattle.image_read.proofs.Fronts.{eight_front}

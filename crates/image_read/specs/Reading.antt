@@ -1,5 +1,5 @@
 -- How an image is gone through, for this crate alone.
-use Rattle.std.specs.Prelude.{◌≡◌, ℕ, zero, suc, ◌+◌, ◌-◌, ◌*◌, ◌^◌, ◌<◌, ◌≤◌, Bool, true, false, ◌||◌, ◌==◌, bytes_eq, nat_le, nat_lt, List, [], ◌∷◌, ◌++◌, length, map, flat_map, find, get_or, take, Option, None, Some, if◌then◌else◌}
+use Rattle.std.specs.Prelude.{◌≡◌, ℕ, ◌+◌, ◌-◌, ◌*◌, ◌^◌, ◌<◌, ◌≤◌, Bool, true, false, ◌||◌, ◌==◌, bytes_eq, nat_le, List, [], ◌∷◌, ◌++◌, length, flat_map, find, get_or, take, Option, Some, if◌then◌else◌}
 use Rattle.std.specs.List.{AllByRecursion, list_any}
 use Rattle.std.specs.Option.{option_map}
 use Rattle.gcl_model.specs.Collections.{FitsHole, IsToken, file_start, file_end}
@@ -8,7 +8,7 @@ use Rattle.byteorder.specs.Endian.{little_bytes}
 use Rattle.posting_code.specs.Numbers.{spelling}
 use Rattle.posting_code.specs.Postings.{RiseWithin}
 use Rattle.address_space.specs.Runs.{FileEntry, IsFileRun}
-use Rattle.index_shard.specs.Tables.{TermEntry, ComesBefore, AreApart, has_address}
+use Rattle.index_shard.specs.Tables.{TermEntry, AreApart, has_address}
 use Rattle.live_version.specs.Contents.{is_of_file, is_of_files}
 use Rattle.image_file.specs.declared.format.Format.{Format}
 use Rattle.image_file.specs.declared.format.Format.TheVariants.{One, Two}
@@ -210,12 +210,13 @@ pub record IsRankOf (files : List FileEntry) (seen : List Bool) (p : ℕ) (role 
   pub ranked : at ≡ rank files p
   pub marked : at < length seen
 
--- before each file stand the addresses of those before it, and there is a mark for each address
+-- before each file stand the addresses of those before it, and there is a mark for each address, of which there are no more than a number says
 pub record IsPlaces (files : List FileEntry) (before : List ℕ) (seen : List Bool) : Type 0 where
   pub run : IsFileRun files
   pub each : (i : ℕ) → i < length files → get_or before i 0 ≡ widths (take i files)
   pub counted : length before ≡ length files
   pub marks : length seen ≡ widths files
+  pub small : widths files < 2 ^ 64
 
 -- whether a word was seen at an address of the files
 abbrev pub is_seen : SeenContent → ℕ → Bool

@@ -16,6 +16,7 @@ mod fault;
 mod files;
 mod front;
 mod head;
+mod marks;
 mod places;
 mod read;
 mod terms;

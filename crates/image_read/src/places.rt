@@ -4,6 +4,7 @@ ghost use Rattle.live_version.specs.Contents.{is_of_file, is_of_files};
 ghost use Rattle.address_space.specs.Runs.{FileEntry, IsFileRun, IsPlaced};
 ghost use Rattle.image_read.specs.Reading.{IsRankOf, Sees, ends_by, is_seen, role_in, role_of_file, widths};
 
+use crate::marks::Marks;
 use address_space::{FileRecord, SharedRecord};
 use std::alloc::{AllocError, Global};
 use std::marker::Model;
@@ -25,7 +26,9 @@ pub(crate) struct Places<'a> {
     files: &'a [SharedRecord],
     // how many addresses the files before each one have
     before: Vec<usize>,
-    seen: Vec<bool>,
+    seen: Marks,
+    // The file of the address that was seen last. The next one is nearly always in it or in the one behind it.
+    near: usize,
 }
 
 impl<'a> Model for Places<'a> {
@@ -35,9 +38,9 @@ impl<'a> Model for Places<'a> {
 
     ghost Value = { SeenContent };
 
-    ghost view = { λ p. record { files = p.files.now; seen = p.seen.items } };
+    ghost view = { λ p. record { files = p.files.now; seen = p.seen } };
 
-    ghost invariant = { λ p. IsPlaces p.files.now p.before.items p.seen.items };
+    ghost invariant = { λ p. IsPlaces p.files.now p.before.items p.seen };
 }
 
 impl<'a> Places<'a> {
@@ -62,12 +65,11 @@ impl<'a> Places<'a> {
             }
             total += len as usize;
         }
-        let mut seen = Vec::new(alloc);
-        seen.resize(total, false)?;
         Ok(Some(Places {
             files,
             before,
-            seen,
+            seen: Marks::new(alloc, total)?,
+            near: 0,
         }))
     }
 
@@ -79,22 +81,25 @@ impl<'a> Places<'a> {
         ensures refused { IsFalse result → role_in self.old.files address ≡ Some role → is_seen self.old address ≡ true }
         ensures files { self.new.files ≡ self.old.files }
     {
-        let Some(at) = self.rank_of(address, role) else {
+        let i = self.ended_by(address);
+        let Some(at) = self.rank_in(i, address, role) else {
             return false;
         };
-        if self.seen[at] {
+        self.near = i;
+        if self.seen.is_marked(at) {
             return false;
         }
-        self.seen[at] = true;
+        self.seen.mark(at);
         true
     }
 
-    /// How many addresses of the files come before one of this role. None where the address has not this role.
-    fn rank_of(&self, address: u64, role: Role) -> Option<usize>
+    /// How many addresses of the files come before one of this role, where `i` files end by it. None where the address has not this role.
+    fn rank_in(&self, i: usize, address: u64, role: Role) -> Option<usize>
+        requires ended { i ≡ prefix_len (ends_by address) self.now.files }
+        requires within { i ≤ length self.now.files }
         ensures some { IfSome result (λ at. IsRankOf self.now.files self.now.seen address role at) }
         ensures none { IsNone result → role_in self.now.files address ≡ Some role → ⊥ }
     {
-        let i = self.ended_by(address);
         if i == self.files.len() {
             return None;
         }
@@ -110,6 +115,9 @@ impl<'a> Places<'a> {
         ensures value { result ≡ prefix_len (ends_by address) self.now.files }
         ensures within { result ≤ length self.now.files }
     {
+        if let Some(i) = file_near(self.files, self.near, address) {
+            return i;
+        }
         self.files.partition_point(
             |file: &SharedRecord| -> bool
                 ensures { result ≡ ends_by address file.now }
@@ -121,13 +129,34 @@ impl<'a> Places<'a> {
     pub(crate) fn is_full(&self) -> bool
         ensures { IsTrue result ↔ ((p : ℕ) → is_of_files self.now.files p ≡ true → is_seen self.now p ≡ true) }
     {
-        for seen in &self.seen {
-            if !*seen {
-                return false;
-            }
-        }
-        true
+        self.seen.all_marked()
     }
+}
+
+/// The file at a place or the one behind it, whichever has the address.
+fn file_near(files: &[SharedRecord], place: usize, address: u64) -> Option<usize>
+    requires { IsFileRun files.now }
+    ensures value { IfSome result (λ i. i ≡ prefix_len (ends_by address) files.now) }
+    ensures within { IfSome result (λ i. i < length files.now) }
+{
+    if files.len() <= place {
+        return None;
+    }
+    if has_address(files[place].record(), address) {
+        return Some(place);
+    }
+    let behind = place + 1;
+    if behind < files.len() && has_address(files[behind].record(), address) {
+        return Some(behind);
+    }
+    None
+}
+
+fn has_address(file: &FileRecord, address: u64) -> bool
+    requires { IsPlaced file.now }
+    ensures { result ≡ is_of_file address file.now }
+{
+    file.base <= address && address < file.base + file.len
 }
 
 fn is_ended(file: &FileRecord, address: u64) -> bool

@@ -1,5 +1,5 @@
-use Rattle.std.proofs.Common.{◌≡◌, ℕ, ◌+◌, Some, List, true, refl, sym, subst, arith, ap, ◌∙◌}
-use Rattle.image_read.specs.Reading.{SeenContent, SeesAll, is_seen, role_in}
+use Rattle.std.proofs.Common.{ℕ, ◌+◌, List, refl, sym, subst, arith, ap, ◌∙◌}
+use Rattle.image_read.specs.Reading.{SeenContent, SeesAll, role_in}
 use Rattle.image_read.proofs.AddressTracking.{address_rises, address_small, addresses_as, addresses_begin, addresses_beyond, addresses_end, addresses_none, addresses_refuse, addresses_step, addresses_stop, addresses_uncounted}
 use Rattle.image_read.proofs.addresses.read_addresses.Goals as goal
 use Rattle.image_read.proofs.addresses.read_addresses.Goals.{then-address-least-via-then-address-least, then-address-least-via-else-address-least+then-head-address, then-address-least-via-else-address-least+else-head-address+then-not-see}

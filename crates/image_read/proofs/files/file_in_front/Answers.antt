@@ -1,5 +1,4 @@
 use Rattle.std.proofs.Common.{sym, subst}
-use Rattle.image_file.specs.declared.format.Format.TheVariants.{One}
 use Rattle.image_read.specs.Reading.{HasNoFile}
 use Rattle.image_read.proofs.files.file_in_front.Goals as goal
 

@@ -1,4 +1,3 @@
-use Rattle.std.proofs.Common.{◌≤◌}
 use Rattle.image_read.proofs.FileTracking.{AreReadFiles}
 use Rattle.image_read.proofs.files.read_files.Given as goal
 

@@ -1,4 +1,4 @@
-use Rattle.std.proofs.Common.{◌≡◌, sym, ap, ◌∙◌, arith}
+use Rattle.std.proofs.Common.{◌≡◌, ap, ◌∙◌}
 use Rattle.address_space.specs.Runs.{FileEntry}
 use Rattle.image_read.proofs.PlaceLemmas.{counted_full, counted_step}
 use Rattle.image_read.proofs.places.Places.new.Goals as goal
