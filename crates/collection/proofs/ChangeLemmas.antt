@@ -1,6 +1,6 @@
 -- The versions that a merge and a deletion make.
 use Rattle.std.proofs.Common.{◌≡◌, ℕ, ◌+◌, ◌≤◌, List, [], ◌∷◌, ◌++◌, length, map, drop, Option, Some, None, IsSome, refl, sym, ap, ◌∙◌, subst, arith}
-use Rattle.std.proofs.lemmas.List.{take_all, drop_all, length-map}
+use Rattle.std.proofs.lemmas.List.{take_all, drop_all, length-map, nil_from_length}
 use Rattle.gcl_model.specs.Collections.{File}
 use Rattle.gcl_model.specs.Slots.{SlotRange, slots_after_merge}
 use Rattle.address_space.specs.Runs.{FileEntry}
@@ -17,14 +17,10 @@ all_slots count slots is = take_all count slots (omega arith)
 no_slots : (count : ℕ) (slots : List SlotContent) → count ≡ length slots → drop (0 + count) slots ≡ []
 no_slots count slots is = drop_all (0 + count) slots (omega arith)
 
-no_members : {A : Type 0} (xs : List A) → length xs ≡ 0 → xs ≡ []
-no_members [] e = refl
-no_members (x ∷ xs) e = absurd (omega arith)
-
 -- where no file survives, nothing is lost with the slots
 pub same-none : (v : VersionContent) (count : ℕ) → IsVersion v → length (files_of v.slots) ≡ 0 → count ≡ length v.slots → IsSameLive (slots_at 0 count v.slots) []
 same-none v count is none all =
-    let files : files_of v.slots ≡ [] = no_members (files_of v.slots) none in
+    let files : files_of v.slots ≡ [] = nil_from_length (files_of v.slots) none in
     let slots : slots_at 0 count v.slots ≡ v.slots = all_slots count v.slots all in
     record {
       words = sym (ap live_of slots ∙ words_are_of_files v is files);
@@ -41,7 +37,7 @@ merges-none v w count none all is keeps =
     let slots : w.slots ≡ [] = ap (λ u. u.slots) is ∙ no_slots count v.slots all in
     record {
       stands = keeps;
-      ranges = λ c s. ap ranges_of slots ∙ sym (merged_ranges-none (ranges_of v.slots) c.files (sym s.files ∙ no_members (files_of v.slots) none));
+      ranges = λ c s. ap ranges_of slots ∙ sym (merged_ranges-none (ranges_of v.slots) c.files (sym s.files ∙ nil_from_length (files_of v.slots) none));
       alive = ap dead_of slots;
       number = ap (λ u. u.number) is;
       edition = ap (λ u. u.edition) is;

@@ -13,16 +13,21 @@ use Rattle.live_version.specs.Contents.{VersionContent, IsVersion, ranges_of}
 use Rattle.live_version.specs.StandsFor.{StandsFor}
 use Rattle.live_version.proofs.ChangeLaw.{stands_for_one}
 use Rattle.logbook.specs.Pages.{Book}
-use Rattle.manifest_publish.specs.Histories.{IsNext}
+use Rattle.manifest_publish.specs.Histories.{IsLatest, IsNext}
 use Rattle.manifest_publish.proofs.HistoryLemmas.{lawful-snoc}
 use Rattle.manifest_publish.proofs.Stands.{latest-stands, opening-stands}
 use Rattle.collection.specs.Engines.{EngineContent, IsEngine, engine_content, last_of, merge_end, with_version}
 use Rattle.collection.specs.Changes.{AddsFileTo, Adopts, DeletesFileFrom, IsOpened, MergesSlotsOf}
 
-last_of-snoc : (versions : List VersionContent) (v : VersionContent) → last_of (versions ++ v ∷ []) ≡ v
+-- the last version of a history
+pub last_of-snoc : (versions : List VersionContent) (v : VersionContent) → last_of (versions ++ v ∷ []) ≡ v
 last_of-snoc [] v = refl
 last_of-snoc (w ∷ []) v = refl
 last_of-snoc (w ∷ next ∷ versions) v = last_of-snoc (next ∷ versions) v
+
+-- and the latest one is the last
+pub last_is : (history : List VersionContent) (v : VersionContent) → IsLatest history v → last_of history ≡ v
+last_is history v latest = ap last_of latest.1 ∙ last_of-snoc latest.0 v
 
 -- what comes next after a sound collection is one
 next_sound : (v w : VersionContent) → ((c : Collection) → StandsFor v c → IsSound c) → IsNext v w → (c : Collection) → StandsFor w c → IsSound c

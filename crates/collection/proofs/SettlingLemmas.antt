@@ -1,12 +1,13 @@
 -- How the last slots become one after an add.
 use Rattle.std.proofs.Common.{◌≡◌, ℕ, ◌+◌, ◌-◌, ◌*◌, ◌<◌, ◌≤◌, Bool, true, false, cond, leb, List, [], ◌∷◌, ◌++◌, length, take, drop, reverse, Some, refl, sym, ap, ◌∙◌, subst, arith, length-append, append-nil}
 use Rattle.std.specs.List.{AllByRecursion}
-use Rattle.std.proofs.lemmas.List.{take_all, drop_all, take-append-le, length-take-le, length-map, length-reverse, reverse-append, map-append}
+use Rattle.std.proofs.lemmas.List.{take_all, drop_all, take-append-le, length-take-le, length-map, length-reverse, map-append, same_from_push}
 use Rattle.gcl_model.specs.Slots.{SlotRange, slot_range, slot_width, joined, joined_count, tail_count, slots_after_add}
 use Rattle.gcl_model.specs.Collections.{IsToken, width_of, with_boundaries, with_file, words_from}
 use Rattle.gcl_model.specs.Limits.{address_end}
 use Rattle.gcl_model.specs.Names.{is_name}
 use Rattle.address_space.specs.Runs.{FileEntry, range_of}
+use Rattle.address_space.proofs.TailLemmas.{tail_count-last}
 use Rattle.index_shard.specs.Tables.{ShardContent, words_of}
 use Rattle.live_version.specs.Changes.{AreSettledAlone, JoinsTail, slot_of_file, slots_at, version_with_file, version_with_slot, whole_range}
 use Rattle.live_version.specs.Contents.{SlotContent, VersionContent, ranges_of}
@@ -27,12 +28,6 @@ is-counted last (before ∷ earlier) = by_test (leb (slot_width before) (4 * slo
     by_test true more = let some = more.some in let few = more.few in record { some = omega arith; few = omega arith }
     by_test false more = record { some = omega arith; few = omega arith }
 
--- the last slot and those before it
-tail_count-last : (ranges : List SlotRange) (range : SlotRange) → tail_count (ranges ++ range ∷ []) ≡ joined_count range (reverse ranges)
-tail_count-last ranges range =
-    let back : reverse (ranges ++ range ∷ []) ≡ range ∷ reverse ranges = reverse-append ranges (range ∷ []) in
-    rw back refl
-
 -- the slots that the rule makes one are some of those that are there
 pub record IsTail (v grown : VersionContent) : Type 0 where
   pub some : 1 ≤ tail_count (ranges_of grown.slots)
@@ -50,14 +45,6 @@ is-tail v grown h =
     let back : length (reverse (ranges_of v.slots)) ≡ length v.slots = length-reverse (ranges_of v.slots) ∙ length-map v.slots (λ (s : SlotContent). s.range) in
     record { some = omega arith; few = omega arith; length = size }
 
-snoc-last : {A : Type 0} (xs ys : List A) (x y : A) → xs ++ x ∷ [] ≡ ys ++ y ∷ [] → x ≡ y
-snoc-last [] [] x y e = cc
-snoc-last [] (z ∷ []) x y e = absurd cc
-snoc-last [] (z ∷ w ∷ ys) x y e = absurd cc
-snoc-last (z ∷ []) [] x y e = absurd cc
-snoc-last (z ∷ w ∷ xs) [] x y e = absurd cc
-snoc-last (z ∷ xs) (w ∷ ys) x y e = snoc-last xs ys x y cc
-
 -- where no slots are made one
 pub settles-alone : (v grown : VersionContent) (count : ℕ) → Grows v grown → count ≡ tail_count (ranges_of grown.slots) → count < 2 → Settles v grown grown
 settles-alone v grown count h counted less =
@@ -69,7 +56,7 @@ settles-alone v grown count h counted less =
     let front : take (length grown.slots - 1) v.slots ≡ v.slots = take_all (length grown.slots - 1) v.slots (omega arith) in
     record {
       stands = λ c s. s;
-      ranges = λ range is. h.alone one ∙ ap (slots_after_add (ranges_of v.slots)) (snoc-last (ranges_of v.slots) (ranges_of v.slots) h.slot.range range (sym ranges ∙ is));
+      ranges = λ range is. h.alone one ∙ ap (slots_after_add (ranges_of v.slots)) (same_from_push (ranges_of v.slots) (ranges_of v.slots) h.slot.range range (sym ranges ∙ is)).1;
       slots = record { slot = h.slot; alive = h.alive; slots = h.slots ∙ ap (λ l. l ++ h.slot ∷ []) (sym front) };
       number = h.number;
       edition = h.edition;

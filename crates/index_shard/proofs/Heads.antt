@@ -6,7 +6,7 @@ use Rattle.std.specs.Cmp.{nat_cmp_is}
 use Rattle.std.specs.Cmp.Lexicographic.{slice_cmp}
 use Rattle.std.proofs.lemmas.Cmp.{nat_list_cmp_total}
 use Rattle.std.proofs.lemmas.Bool.{cases_lt}
-use Rattle.std.proofs.lemmas.List.{drop_all, take_min}
+use Rattle.std.proofs.lemmas.List.{take_min, drop_min}
 use Rattle.index_shard.specs.Kept.{leading, part_of}
 
 -- each is a byte
@@ -88,13 +88,6 @@ room_next zero m h b n_is byte = absurd (omega (arith, n_is))
 room_next (suc n) m h b n_is byte =
     let same : n ≡ m = omega (arith, n_is) in
     subst (λ k. leading m (h * 256 + b + 1) [] ≤ leading k ((h + 1) * 256) []) (sym same) (least m (h * 256 + b + 1) ((h + 1) * 256) [] (omega (arith, byte)))
-
-drop_min : (n : ℕ) (xs : List ℕ) → drop (min n (length xs)) xs ≡ drop n xs
-drop_min n xs =
-    elim (cases_lt n (length xs)) [
-      | inl lt ↦ let e : min n (length xs) ≡ n = omega (arith, lt) in ap (λ k. drop k xs) e
-      | inr past ↦ let e : length xs ≤ min n (length xs) = omega (arith, past) in drop_all (min n (length xs)) xs e ∙ sym (drop_all n xs past)
-    ]
 
 -- a part that is cut by the ends of what there is
 pub part_cut : (bytes : List ℕ) (start size from upto : ℕ) (rest : List ℕ) → from ≡ min start (length bytes) → rest ≡ drop from bytes → upto ≡ min size (length rest) → take upto rest ≡ part_of bytes start size

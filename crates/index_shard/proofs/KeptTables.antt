@@ -6,6 +6,7 @@ use Rattle.std.specs.Cmp.Lexicographic.{slice_cmp}
 use Rattle.std.specs.List.{AllByRecursion, slice_get}
 use Rattle.std.specs.List.Sorted.{IsNonDecreasingBy, IsPartitionPoint}
 use Rattle.std.proofs.lemmas.List.{get_or-map, length-map, map-append, take-append-le, drop-append-le, length-append, length-drop, take_all}
+use Rattle.std.proofs.Math.Seq.{drop-append_seam}
 use Rattle.index_shard.specs.Tables.{TermEntry, addresses_at}
 use Rattle.index_shard.specs.Kept.{leading, part_of, entry_in, table_in, IsKeptIn, order_in}
 use Rattle.index_shard.specs.declared.entry.Entry.{Entry}
@@ -106,10 +107,6 @@ here bytes (x ∷ xs) (suc i) e lt is = let rest = here bytes xs i e (omega (ari
 pub entry_here : (bytes : List ℕ) (es : List Entry) (table : List TermEntry) (i : ℕ) (e : Entry) → table_in bytes es ≡ table → i < length table → e ≡ get_or es i e → IsEntryAt table i (entry_in bytes e)
 entry_here bytes es table i e same lt is = subst (λ t. IsEntryAt t i (entry_in bytes e)) same (here bytes es i e (subst (λ t. i < length t) (sym same) lt) is)
 
-behind_all : (bytes term : List ℕ) → drop (length bytes) (bytes ++ term) ≡ term
-behind_all [] term = refl
-behind_all (x ∷ xs) term = behind_all xs term
-
 -- one entry more, whose term was put behind the bytes
 pub record IsPushed (bytes term : List ℕ) (es : List Entry) (table : List TermEntry) (addresses : List ℕ) : Type 0 where
   pub kept : AllByRecursion (IsKeptIn bytes) es
@@ -120,7 +117,7 @@ pub pushed : (bytes term : List ℕ) (es mid more : List Entry) (wider : List �
 pushed bytes term es mid more wider table e same kept mid_is wider_is more_is start_is size_is head_is =
     let all : List ℕ = bytes ++ term in
     let mine : part_of all e.start e.size ≡ term =
-    ap (λ s. part_of all s e.size) start_is ∙ ap (part_of all (length bytes)) size_is ∙ ap (take (length term)) (behind_all bytes term) ∙ take_all (length term) term (le_refl (length term)) in
+    ap (λ s. part_of all s e.size) start_is ∙ ap (part_of all (length bytes)) size_is ∙ ap (take (length term)) (drop-append_seam bytes term) ∙ take_all (length term) term (le_refl (length term)) in
     let long = length-append bytes term in
     let within : e.start + e.size ≤ length all = omega (arith, long, start_is, size_is) in
     let one : IsKeptIn all e = record { within = within; head = head_is ∙ ap (leading 8 0) (sym mine) } in

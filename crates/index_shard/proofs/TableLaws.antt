@@ -14,6 +14,7 @@ use Rattle.std.proofs.lemmas.Map.Text.{is_eq-slice_cmp}
 use Rattle.gcl_model.specs.Slots.{SlotRange}
 use Rattle.index_shard.specs.Tables.{TermEntry, ShardContent, IsShard, ComesBefore, AreApart, ArePostingsIn, Precedes, IsTable, last_entry, postings_of, addresses_at, place_of, comes_from, least_term}
 
+-- what holds of all members and of one more
 pub all_push : {X : Type 0} (P : X → Type 0) (xs : List X) (y : X) → AllByRecursion P xs → P y → AllByRecursion P (xs ++ y ∷ [])
 all_push P [] y all p = (p, tt)
 all_push P (x ∷ xs) y all p = (all.0, all_push P xs y all.1 p)
@@ -37,7 +38,8 @@ table_push range (x ∷ y ∷ ys) e table postings before apart =
     let one : Precedes x e = record { terms = before_last x y ys e table.1 before; addresses = apart.0 } in
     (table.0, all_push (Precedes x) (y ∷ ys) e table.1 one, table_push range (y ∷ ys) e table.2 postings before apart.1)
 
-abbrev term_entry : List ℕ → List ℕ → TermEntry
+-- an entry of a term and its addresses
+abbrev pub term_entry : List ℕ → List ℕ → TermEntry
 term_entry term addresses = record { term = term; addresses = addresses }
 
 -- the entries of a maker after one term more
@@ -143,12 +145,13 @@ at_no_place es term e = subst (AtPlace es term) e (at_place es term)
 pub at_its_place : (es : List TermEntry) (term : List ℕ) (i : ℕ) → place_of es term ≡ Some i → (i < length es) × (addresses_at es i ≡ postings_of es term)
 at_its_place es term i e = subst (AtPlace es term) e (at_place es term)
 
-abbrev terms_of : List TermEntry → List (List ℕ)
-terms_of es = map (λ (entry : TermEntry). entry.term) es
+-- the terms of some entries
+abbrev pub names : List TermEntry → List (List ℕ)
+names es = map (λ (entry : TermEntry). entry.term) es
 
 -- where the terms before a place fail a test and the one there passes, it is the first that does
 found_at : (p : List ℕ → Bool) (es : List TermEntry) (i : ℕ) → ((k : ℕ) (d : TermEntry) → k < i → k < length es → p (get_or es k d).term ≡ false) →
-    ((d : TermEntry) → i < length es → p (get_or es i d).term ≡ true) → slice_get (terms_of es) i ≡ find p (terms_of es)
+    ((d : TermEntry) → i < length es → p (get_or es i d).term ≡ true) → slice_get (names es) i ≡ find p (names es)
 found_at p [] zero before there = refl
 found_at p [] (suc i) before there = refl
 found_at p (x ∷ xs) zero before there = rw (there x (omega arith)) refl
@@ -164,7 +167,7 @@ earlier range (x ∷ xs) table (suc k) (suc j) d low lt = earlier range xs table
 
 -- halving met the term itself
 pub least_met : (range : SlotRange) (es : List TermEntry) (i : ℕ) (low : List ℕ) (strict : Bool) → IsTable range es → i < length es → ((d : TermEntry) → slice_cmp nat_cmp (get_or es i d).term low ≡ Equal) →
-    slice_get (terms_of es) (cond strict (i + 1) i) ≡ least_term es low strict
+    slice_get (names es) (cond strict (i + 1) i) ≡ least_term es low strict
 least_met range es i low false table lt met =
     found_at (λ term. comes_from false (slice_cmp nat_cmp term low)) es i
     (λ k d below inside.
@@ -188,7 +191,7 @@ least_met range es i low true table lt met =
 
 -- halving ended between the lesser and the greater terms
 pub least_parted : (es : List TermEntry) (i : ℕ) (low : List ℕ) (strict : Bool) →
-    IsPartitionPoint (λ e. slice_cmp nat_cmp e.term low ≡ Less) (λ e. slice_cmp nat_cmp e.term low ≡ Greater) es i → slice_get (terms_of es) i ≡ least_term es low strict
+    IsPartitionPoint (λ e. slice_cmp nat_cmp e.term low ≡ Less) (λ e. slice_cmp nat_cmp e.term low ≡ Greater) es i → slice_get (names es) i ≡ least_term es low strict
 least_parted es i low strict parted =
     found_at (λ term. comes_from strict (slice_cmp nat_cmp term low)) es i
     (λ k d below inside. ap (comes_from strict) (parted.0 k d (omega arith) below))

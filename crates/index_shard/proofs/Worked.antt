@@ -1,12 +1,10 @@
 -- Tables, computed: `to be or not to be` from address 1 on.
-use Rattle.std.proofs.Common.{◌≡◌, ◌+◌, ◌*◌, true, false, ℕ, List, [], ◌∷◌, map, codes, Some, None, refl}
+use Rattle.std.proofs.Common.{◌≡◌, ◌+◌, ◌*◌, true, false, List, [], ◌∷◌, map, codes, Some, None, refl}
 use Rattle.gcl_model.specs.Slots.{slot_range}
 use Rattle.gcl_model.specs.Texts.{places}
 use Rattle.index_shard.specs.Tables.{TermEntry, ShardContent, postings_of, addresses_at, place_of, term_at, words_of, least_term, ComesBefore}
 use Rattle.index_shard.specs.Kept.{leading, part_of}
-
-abbrev entry : List ℕ → List ℕ → TermEntry
-entry term addresses = record { term = term; addresses = addresses }
+use Rattle.index_shard.proofs.TableLaws.{term_entry as entry}
 
 abbrev hamlet : List TermEntry
 hamlet = entry (codes "be") (2 ∷ 6 ∷ []) ∷ entry (codes "not") (4 ∷ []) ∷ entry (codes "or") (3 ∷ []) ∷ entry (codes "to") (1 ∷ 5 ∷ []) ∷ []

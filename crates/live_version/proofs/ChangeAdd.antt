@@ -15,7 +15,7 @@ use Rattle.index_shard.proofs.ShardWords.{shard_words_rise}
 use Rattle.live_version.specs.Contents.{SlotContent, VersionContent, IsSlot, IsVersion, LiesIn, is_of_file, is_of_files, ranges_of, files_of, dead_of, live_of, live_words}
 use Rattle.live_version.specs.Changes.{empty_version, opened, slot_of_file, version_with_file}
 use Rattle.live_version.specs.StandsFor.{StandsFor, entry_of}
-use Rattle.gcl_model.proofs.Lists.{all_append, all_weaker, all_both, all_filter, filter_kept}
+use Rattle.gcl_model.proofs.Lists.{all_append, all_weaker, all_both, all_filter, filter_all}
 use Rattle.live_version.proofs.ChangeRanges.{ranges_push}
 use Rattle.live_version.proofs.ChangeFiles.{is_of_file-inside, last_of_all, run_length}
 
@@ -147,10 +147,6 @@ file_added v file shard is few id base range is_shard placed =
       dead = let n : length (dead_of (v.slots ++ slot ∷ [])) ≡ length (dead_of v.slots) = ap length dead in omega arith;
     }
 
-all_true : (words : List Word) → AllByRecursion (λ w. true ≡ true) words
-all_true [] = tt
-all_true (w ∷ words) = (refl, all_true words)
-
 -- and it stands for the collection with that file more
 pub stands_added : (v : VersionContent) (file : FileEntry) (shard : ShardContent) (c : Collection) (tokens : List (List ℕ)) → file.id ≡ v.next_id → file.base ≡ v.next → StandsFor v c → file.len ≡ width_of tokens
     → words_of shard ≡ words_from file.base (with_boundaries tokens) → StandsFor (version_with_file v file shard) (with_file c file.name tokens)
@@ -164,7 +160,7 @@ stands_added v file shard c tokens id base stands len words =
     ∙ ap (λ n. record { id = c.next_id; base = n; len = file.len; name = file.name }) start
     ∙ ap (λ n. record { id = c.next_id; base = c.next; len = n; name = file.name }) len in
     let live : live_words slot ≡ words_from c.next (with_boundaries tokens) =
-    filter_kept (λ w. true) (words_of shard) (all_true (words_of shard)) ∙ words ∙ ap (λ n. words_from n (with_boundaries tokens)) start in
+    filter_all (words_of shard) ∙ words ∙ ap (λ n. words_from n (with_boundaries tokens)) start in
     record {
       first = stands.first;
       next = ap (λ n. n + file.len) stands.next ∙ ap (λ n. c.next + n) len;

@@ -6,6 +6,7 @@ use Rattle.address_space.specs.Runs.{FileEntry, Precedes, IsFileRun, last_file, 
 use Rattle.delete_mask.specs.Masks.{is_within}
 use Rattle.live_version.specs.Contents.{is_of_file, is_of_files}
 use Rattle.live_version.specs.Changes.{file_with_id}
+use Rattle.gcl_model.proofs.Lists.{all_kept}
 
 -- the test by which a file is deleted
 abbrev pub has_id : ℕ → FileEntry → Bool
@@ -14,6 +15,7 @@ has_id id file = eqb file.id id
 abbrev pub survives : ℕ → FileEntry → Bool
 survives id file = not (eqb file.id id)
 
+-- an address is one of a file's exactly within its bounds
 pub is_of_file-bounds : (p : ℕ) (file : FileEntry) → is_of_file p file ≡ true → (file.base ≤ p) × (p < file.base + file.len)
 is_of_file-bounds p file e =
     let both = and_parts (leb file.base p) (ltb p (file.base + file.len)) e in
@@ -66,14 +68,6 @@ all_found P t x (y ∷ ys) h e = here (t y) e (all_found P t x ys h.1)
     here : (b : Bool) → cond b (Some y) (find t ys) ≡ Some x → (find t ys ≡ Some x → P x) → P x
     here true found rest = let same : y ≡ x = cc in subst P same h.0
     here false found rest = rest found
-
-pub found_passes : {X : Type 0} (t : X → Bool) (x : X) (xs : List X) → find t xs ≡ Some x → t x ≡ true
-found_passes t x [] e = absurd cc
-found_passes t x (y ∷ ys) e = here (t y) refl e (found_passes t x ys)
-  where
-    here : (b : Bool) → t y ≡ b → cond b (Some y) (find t ys) ≡ Some x → (find t ys ≡ Some x → t x ≡ true) → t x ≡ true
-    here true is found rest = let same : y ≡ x = cc in sym (ap t same) ∙ is
-    here false is found rest = rest found
 
 pub none_passes : {X : Type 0} (t : X → Bool) (xs : List X) → find t xs ≡ None → AllByRecursion (λ x. t x ≡ false) xs
 none_passes t [] e = tt
@@ -145,21 +139,13 @@ survivors_were id (file ∷ files) p e = here (survives id file) e (survivors_we
     ]
     here false of rest = or_right (is_of_file p file) (is_of_files files p) (rest of)
 
-all_survivors : (P : FileEntry → Type 0) (id : ℕ) (files : List FileEntry) → AllByRecursion P files → AllByRecursion P (filter (survives id) files)
-all_survivors P id [] h = tt
-all_survivors P id (file ∷ files) h = here (survives id file) (all_survivors P id files h.1)
-  where
-    here : (b : Bool) → AllByRecursion P (filter (survives id) files) → AllByRecursion P (cond b (file ∷ filter (survives id) files) (filter (survives id) files))
-    here true rest = (h.0, rest)
-    here false rest = rest
-
 -- the files that survive are a run
 pub run_survives : (id : ℕ) (files : List FileEntry) → IsFileRun files → IsFileRun (filter (survives id) files)
 run_survives id [] run = tt
 run_survives id (file ∷ files) run = here (survives id file) (run_survives id files run.2)
   where
     here : (b : Bool) → IsFileRun (filter (survives id) files) → IsFileRun (cond b (file ∷ filter (survives id) files) (filter (survives id) files))
-    here true rest = (run.0, all_survivors (Precedes file) id files run.1, rest)
+    here true rest = (run.0, all_kept (Precedes file) (survives id) files run.1, rest)
     here false rest = rest
 
 pub run_left : (files more : List FileEntry) → IsFileRun (files ++ more) → IsFileRun files
@@ -226,4 +212,4 @@ before_at (file ∷ files) (suc i) d run lt = (at files i run.1 (omega arith), b
 pub next_survivor : (id : ℕ) (files : List FileEntry) (i : ℕ) (file : FileEntry) (d : FileEntry) → IsFileRun files → i < length files → file ≡ get_or files i d → IfSome (last_file (filter (survives id) (take i files))) (λ last. Precedes last file)
 next_survivor id files i file d run lt e =
     subst (λ f. IfSome (last_file (filter (survives id) (take i files))) (λ last. Precedes last f)) (sym e)
-    (last_of_all (λ last. Precedes last (get_or files i d)) (filter (survives id) (take i files)) (all_survivors (λ last. Precedes last (get_or files i d)) id (take i files) (before_at files i d run lt)))
+    (last_of_all (λ last. Precedes last (get_or files i d)) (filter (survives id) (take i files)) (all_kept (λ last. Precedes last (get_or files i d)) (survives id) (take i files) (before_at files i d run lt)))

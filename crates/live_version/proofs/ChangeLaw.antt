@@ -1,8 +1,9 @@
 -- Records and words fix every file.
 use Rattle.std.proofs.Common.{◌≡◌, ℕ, ◌+◌, List, [], ◌∷◌, ◌++◌, map, length, refl, sym, ap, ◌∙◌, arith, length-append}
+use Rattle.std.proofs.lemmas.List.{append_cancel_right}
 use Rattle.std.specs.List.{flat_map}
 use Rattle.gcl_model.specs.Texts.{Word}
-use Rattle.gcl_model.specs.Collections.{File, file_end, with_boundaries, words_from, width_of}
+use Rattle.gcl_model.specs.Collections.{Collection, File, file_end, with_boundaries, words_from, words_of, width_of}
 use Rattle.live_version.specs.Laws.{StandsForOne}
 use Rattle.live_version.specs.StandsFor.{entry_of}
 
@@ -21,15 +22,6 @@ split_words p (t ∷ ts) (u ∷ us) l r n e =
     let token : t ≡ u = ap (λ w. w.token) first in
     let later = split_words (p + 1) ts us l r (omega arith) cc in
     record { tokens = ap (λ x. x ∷ ts) token ∙ ap (λ xs. u ∷ xs) later.tokens; rest = later.rest }
-
-cut_last : (x : List ℕ) (ts us : List (List ℕ)) → length ts ≡ length us → ts ++ x ∷ [] ≡ us ++ x ∷ [] → ts ≡ us
-cut_last x [] [] n e = refl
-cut_last x [] (u ∷ us) n e = absurd (omega arith)
-cut_last x (t ∷ ts) [] n e = absurd (omega arith)
-cut_last x (t ∷ ts) (u ∷ us) n e =
-    let first : t ≡ u = cc in
-    let rest : ts ≡ us = cut_last x ts us (omega arith) cc in
-    ap (λ y. y ∷ ts) first ∙ ap (λ ys. u ∷ ys) rest
 
 same_file : (a b : File) → entry_of a ≡ entry_of b → a.tokens ≡ b.tokens → a ≡ b
 same_file a b e tokens =
@@ -52,7 +44,7 @@ same_files (x ∷ xs) (y ∷ ys) e w =
     let split = split_words x.base (with_boundaries x.tokens) (with_boundaries y.tokens) (flat_map (λ (f : File). words_from f.base (with_boundaries f.tokens)) xs) (flat_map (λ (f : File). words_from f.base (with_boundaries f.tokens)) ys)
     (omega (arith, length-append x.tokens (file_end ∷ []), length-append y.tokens (file_end ∷ []))) (w ∙ words) in
     let inner : x.tokens ++ file_end ∷ [] ≡ y.tokens ++ file_end ∷ [] = tail (with_boundaries x.tokens) (with_boundaries y.tokens) split.tokens in
-    let same : x ≡ y = same_file x y first (cut_last file_end x.tokens y.tokens (omega arith) inner) in
+    let same : x ≡ y = same_file x y first (append_cancel_right x.tokens y.tokens (file_end ∷ []) inner) in
     ap (λ f. f ∷ xs) same ∙ ap (λ fs. y ∷ fs) (same_files xs ys rest split.rest)
   where
     rest_of : List (List ℕ) → List (List ℕ)
@@ -62,10 +54,15 @@ same_files (x ∷ xs) (y ∷ ys) e w =
     tail : (ts us : List (List ℕ)) → ts ≡ us → rest_of ts ≡ rest_of us
     tail ts us same = ap rest_of same
 
+-- numbers, records and words fix a collection
+pub same_collection : (c d : Collection) → c.first ≡ d.first → c.next ≡ d.next → c.next_id ≡ d.next_id → c.dels ≡ d.dels → map entry_of c.files ≡ map entry_of d.files → words_of c ≡ words_of d → c ≡ d
+same_collection c d first next next_id dels entries words =
+    ap (λ n. record { first = n; next = c.next; next_id = c.next_id; dels = c.dels; files = c.files }) first
+    ∙ ap (λ n. record { first = d.first; next = n; next_id = c.next_id; dels = c.dels; files = c.files }) next
+    ∙ ap (λ n. record { first = d.first; next = d.next; next_id = n; dels = c.dels; files = c.files }) next_id
+    ∙ ap (λ n. record { first = d.first; next = d.next; next_id = d.next_id; dels = n; files = c.files }) dels
+    ∙ ap (λ l. record { first = d.first; next = d.next; next_id = d.next_id; dels = d.dels; files = l }) (same_files c.files d.files entries words)
+
 pub stands_for_one : StandsForOne
 stands_for_one v c d s t =
-    ap (λ n. record { first = n; next = c.next; next_id = c.next_id; dels = c.dels; files = c.files }) (sym s.first ∙ t.first)
-    ∙ ap (λ n. record { first = d.first; next = n; next_id = c.next_id; dels = c.dels; files = c.files }) (sym s.next ∙ t.next)
-    ∙ ap (λ n. record { first = d.first; next = d.next; next_id = n; dels = c.dels; files = c.files }) (sym s.next_id ∙ t.next_id)
-    ∙ ap (λ n. record { first = d.first; next = d.next; next_id = d.next_id; dels = n; files = c.files }) (sym s.dels ∙ t.dels)
-    ∙ ap (λ fs. record { first = d.first; next = d.next; next_id = d.next_id; dels = d.dels; files = fs }) (same_files c.files d.files (sym s.files ∙ t.files) (sym s.words ∙ t.words))
+    same_collection c d (sym s.first ∙ t.first) (sym s.next ∙ t.next) (sym s.next_id ∙ t.next_id) (sym s.dels ∙ t.dels) (sym s.files ∙ t.files) (sym s.words ∙ t.words)

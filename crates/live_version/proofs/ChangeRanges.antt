@@ -1,7 +1,7 @@
 -- Ranges that lie behind each other, when one comes, and when one stands in the place of some.
 use Rattle.std.proofs.Common.{◌≡◌, ℕ, ◌+◌, ◌<◌, ◌≤◌, List, [], ◌∷◌, ◌++◌, refl, arith}
 use Rattle.gcl_model.specs.Slots.{SlotRange, joined, spanned, AreRangesWithin}
-use Rattle.delete_mask.proofs.MaskLemmas.{AreRangesWithin-earlier}
+use Rattle.address_space.proofs.TierLemmas.{ranges_earlier}
 use Rattle.live_version.specs.Changes.{whole_range, LiesInside}
 
 pub ranges_push : (low end later : ℕ) (ranges : List SlotRange) (range : SlotRange) → low ≤ end → AreRangesWithin low end ranges → end ≤ range.first → range.first ≤ range.last → range.last < later
@@ -16,7 +16,7 @@ ranges_less low end [] after h = h
 ranges_less low end (range ∷ gone) after h =
     let start : low ≤ range.first = h.0 in
     let some : range.first ≤ range.last = h.1 in
-    AreRangesWithin-earlier low (range.last + 1) end after (omega arith) (ranges_less (range.last + 1) end gone after h.3)
+    ranges_earlier low (range.last + 1) end after (omega arith) (ranges_less (range.last + 1) end gone after h.3)
 
 -- some of them may go
 pub ranges_without : (low end : ℕ) (before gone after : List SlotRange) → AreRangesWithin low end (before ++ (gone ++ after)) → AreRangesWithin low end (before ++ after)
@@ -44,5 +44,5 @@ ranges_in_place low end [] (first ∷ gone) after range some inside h =
     let from : (spanned first gone).first ≤ range.first = inside.0 in
     let to : range.last ≤ (spanned first gone).last = inside.1 in
     let under : (spanned first gone).last < end = whole.inside in
-    (omega arith, some, omega arith, AreRangesWithin-earlier (range.last + 1) ((spanned first gone).last + 1) end after (omega arith) whole.behind)
+    (omega arith, some, omega arith, ranges_earlier (range.last + 1) ((spanned first gone).last + 1) end after (omega arith) whole.behind)
 ranges_in_place low end (first ∷ before) gone after range some inside h = (h.0, h.1, h.2, ranges_in_place (first.last + 1) end before gone after range some inside h.3)

@@ -11,7 +11,8 @@ use Rattle.posting_code.proofs.Rising.{rise_length}
 use Rattle.posting_access.specs.Search.{count_below}
 use Rattle.live_version.specs.Contents.{SlotContent, VersionContent, IsVersion, live_of, live_words}
 use Rattle.live_version.specs.LookUps.{is_alive}
-use Rattle.live_version.proofs.WordLemmas.{places_rise, version_is_text}
+use Rattle.live_version.proofs.WordLemmas.{version_is_text}
+use Rattle.index_shard.proofs.ShardWords.{rising_places}
 
 -- what a range has is what is below its end, less what is below its begin
 pub count_to_end : (range : SlotRange) (xs : List ℕ) → range.first ≤ range.last → count_below xs range.first + length (filter (is_within range) xs) ≡ count_below xs (range.last + 1)
@@ -109,7 +110,7 @@ all_alive (x ∷ xs) = ap (λ ps. x ∷ ps) (all_alive xs)
 -- no token has more places than there are addresses
 pub few_places : (v : VersionContent) (token : List ℕ) → IsVersion v → length (places (live_of v.slots) token) ≤ address_end
 few_places v token is =
-    let rise = places_rise v.next v.first (live_of v.slots) token (version_is_text v is).rising in
+    let rise = rising_places v.next v.first (live_of v.slots) token (version_is_text v is).rising in
     let few = rise_length v.first v.next (places (live_of v.slots) token) rise in
     let within = is.in_range in
     omega (arith, few, within)

@@ -4,14 +4,11 @@ use Rattle.std.specs.List.{AllByRecursion}
 use Rattle.std.proofs.lemmas.Bool.{true≢false, cases_Bool, cases_lt, leb-true, leb-false, le-leb, lt-leb, lt-ltb, le-ltb, or_left, or_right}
 use Rattle.gcl_model.specs.Access.{find_last, later_or}
 use Rattle.gcl_model.specs.Slots.{SlotRange}
+use Rattle.gcl_model.proofs.Lists.{all_weaker, found_passes, one_at_most}
 use Rattle.index_shard.specs.Tables.{RiseWithin}
 use Rattle.delete_mask.specs.Masks.{is_within, is_dead, dead_range}
 use Rattle.delete_mask.proofs.MaskLemmas.{is_within-inside, is_within-bounds, dead_range-within, dead_range-none}
 use Rattle.live_version.specs.LookUps.{is_alive}
-
-pub all_map : {X : Type 0} (P Q : X → Type 0) (xs : List X) → ((x : X) → P x → Q x) → AllByRecursion P xs → AllByRecursion Q xs
-all_map P Q [] f all = tt
-all_map P Q (x ∷ xs) f all = (f x all.0, all_map P Q xs f all.1)
 
 later_none : (x y : Option ℕ) → later_or x y ≡ None → (x ≡ None) × (y ≡ None)
 later_none None y e = (refl, e)
@@ -92,15 +89,6 @@ last_same alive test other (p ∷ ps) all =
       | inr a ↦ rw a rest
     ]
 
--- what was found passes
-find_passes : (test : ℕ → Bool) (ps : List ℕ) (p : ℕ) → find test ps ≡ Some p → test p ≡ true
-find_passes test [] p e = absurd cc
-find_passes test (x ∷ xs) p e =
-    elim (cases_Bool (test x)) [
-      | inl t ↦ let h = rw t at e in let is : x ≡ p = cc in ap test (sym is) ∙ t
-      | inr f ↦ find_passes test xs p (rw f at e)
-    ]
-
 last_passes_step : (test : ℕ → Bool) (x p : ℕ) (o : Option ℕ) → ((q : ℕ) → o ≡ Some q → test q ≡ true) → later_or o (cond (test x) (Some x) None) ≡ Some p → test p ≡ true
 last_passes_step test x p (Some q) ih e = ih p e
 last_passes_step test x p None ih e =
@@ -115,7 +103,7 @@ last_passes test (x ∷ xs) p e = last_passes_step test x p (find_last test xs) 
 
 rise_all : (low end : ℕ) (ps : List ℕ) → RiseWithin low end ps → AllByRecursion (λ q. low ≤ q) ps
 rise_all low end [] r = tt
-rise_all low end (x ∷ xs) r = let h = r.0 in (h, all_map (λ q. x + 1 ≤ q) (λ q. low ≤ q) xs (λ q le. omega arith) (rise_all (x + 1) end xs r.2))
+rise_all low end (x ∷ xs) r = let h = r.0 in (h, all_weaker (λ q. x + 1 ≤ q) (λ q. low ≤ q) (λ q le. omega arith) xs (rise_all (x + 1) end xs r.2))
 
 rise_below : (low end : ℕ) (ps : List ℕ) → RiseWithin low end ps → AllByRecursion (λ q. q < end) ps
 rise_below low end [] r = tt
@@ -129,7 +117,7 @@ first_is_least low end (x ∷ xs) k p r e =
       | inl t ↦
           let h = rw t at e in
           let is : x ≡ p = cc in
-          (λ le. omega arith, all_map (λ q. x + 1 ≤ q) (λ q. k ≤ q → p ≤ q) xs (λ q above le. omega arith) (rise_all (x + 1) end xs r.2))
+          (λ le. omega arith, all_weaker (λ q. x + 1 ≤ q) (λ q. k ≤ q → p ≤ q) (λ q above le. omega arith) xs (rise_all (x + 1) end xs r.2))
       | inr f ↦ let lt = leb-false k x f in (λ le. absurd (omega arith), first_is_least (x + 1) end xs k p r.2 (rw f at e))
     ]
 
@@ -163,7 +151,7 @@ last_is_greatest_step low end x xs k p r ih None is e =
       | inl t ↦
           let h = rw t at e in
           let same : x ≡ p = cc in
-          (λ le. omega arith, all_map (λ q. k < q) (λ q. q ≤ k → q ≤ p) xs (λ q lt le. absurd (omega arith)) (all_past xs k is))
+          (λ le. omega arith, all_weaker (λ q. k < q) (λ q. q ≤ k → q ≤ p) (λ q lt le. absurd (omega arith)) xs (all_past xs k is))
       | inr f ↦ let h = rw f at e in absurd cc
     ]
 
@@ -194,12 +182,12 @@ module _ (mask : List SlotRange) (low end : ℕ) (ps : List ℕ) (k p : ℕ) (de
   -- behind the dead range the search goes on
   pub next_dead : find (λ q. leb k q) ps ≡ Some p → find (λ q. leb k q) (filter (is_alive mask) ps) ≡ find (λ q. leb (dead.last + 1) q) (filter (is_alive mask) ps)
   next_dead e =
-      let from : k ≤ p = leb-true k p (find_passes (λ q. leb k q) ps p e) in
+      let from : k ≤ p = leb-true k p (found_passes (λ q. leb k q) p ps e) in
       let b = bounds in
       let b0 = b.0 in
       let b1 = b.1 in
       find_same (is_alive mask) (λ q. leb k q) (λ q. leb (dead.last + 1) q) ps
-      (all_map (λ q. k ≤ q → p ≤ q) (λ q. is_alive mask q ≡ true → leb k q ≡ leb (dead.last + 1) q) ps
+      (all_weaker (λ q. k ≤ q → p ≤ q) (λ q. is_alive mask q ≡ true → leb k q ≡ leb (dead.last + 1) q)
       (λ q least lives.
       elim (cases_lt q k) [
         | inl lt ↦ lt-leb k q lt ∙ sym (lt-leb (dead.last + 1) q (omega arith))
@@ -208,7 +196,7 @@ module _ (mask : List SlotRange) (low end : ℕ) (ps : List ℕ) (k p : ℕ) (de
           | inr within ↦ let above = least le in absurd (not_alive mask p q dead met (omega arith) within lives)
         ]
       ])
-      (first_is_least low end ps k p rise e))
+      ps (first_is_least low end ps k p rise e))
 
   -- before the dead range it goes on, by any test that says so
   pub previous_dead : (test : ℕ → Bool) → ((q : ℕ) → q < dead.first → test q ≡ true) → ((q : ℕ) → dead.first ≤ q → test q ≡ false) → find_last (λ q. leb q k) ps ≡ Some p →
@@ -219,7 +207,7 @@ module _ (mask : List SlotRange) (low end : ℕ) (ps : List ℕ) (k p : ℕ) (de
       let b0 = b.0 in
       let b1 = b.1 in
       last_same (is_alive mask) (λ q. leb q k) test ps
-      (all_map (λ q. q ≤ k → q ≤ p) (λ q. is_alive mask q ≡ true → leb q k ≡ test q) ps
+      (all_weaker (λ q. q ≤ k → q ≤ p) (λ q. is_alive mask q ≡ true → leb q k ≡ test q)
       (λ q greatest lives.
       elim (cases_lt q dead.first) [
         | inl lt ↦ le-leb q k (omega arith) ∙ sym (yes_before q lt)
@@ -228,7 +216,7 @@ module _ (mask : List SlotRange) (low end : ℕ) (ps : List ℕ) (k p : ℕ) (de
           | inr le ↦ let below = greatest le in absurd (not_alive mask p q dead met ge (omega arith) lives)
         ]
       ])
-      (last_is_greatest low end ps k p rise e))
+      ps (last_is_greatest low end ps k p rise e))
 
 all_fail_first : (test : ℕ → Bool) (ps : List ℕ) → AllByRecursion (λ q. test q ≡ false) ps → find test ps ≡ None
 all_fail_first test [] all = refl
@@ -240,10 +228,10 @@ all_fail_last test (p ∷ ps) all = let here : test p ≡ false = all.0 in rw (h
 
 -- past the end there is nothing
 pub next_out : (low end k : ℕ) (ps : List ℕ) → RiseWithin low end ps → end ≤ k → find (λ q. leb k q) ps ≡ None
-next_out low end k ps r le = all_fail_first (λ q. leb k q) ps (all_map (λ q. q < end) (λ q. leb k q ≡ false) ps (λ q lt. lt-leb k q (omega arith)) (rise_below low end ps r))
+next_out low end k ps r le = all_fail_first (λ q. leb k q) ps (all_weaker (λ q. q < end) (λ q. leb k q ≡ false) (λ q lt. lt-leb k q (omega arith)) ps (rise_below low end ps r))
 
 pub previous_out : (low end : ℕ) (ps : List ℕ) (test : ℕ → Bool) → RiseWithin low end ps → ((q : ℕ) → low ≤ q → test q ≡ false) → find_last test ps ≡ None
-previous_out low end ps test r fails = all_fail_last test ps (all_map (λ q. low ≤ q) (λ q. test q ≡ false) ps fails (rise_all low end ps r))
+previous_out low end ps test r fails = all_fail_last test ps (all_weaker (λ q. low ≤ q) (λ q. test q ≡ false) fails ps (rise_all low end ps r))
 
 -- how many dead ranges end at or after the address
 abbrev pub ahead : List SlotRange → ℕ → ℕ
@@ -254,10 +242,6 @@ ahead (dead ∷ mask) k = cond (leb k dead.last) 1 0 + ahead mask k
 abbrev pub behind : List SlotRange → ℕ → ℕ
 behind [] k = 0
 behind (dead ∷ mask) k = cond (leb dead.first k) 1 0 + behind mask k
-
-one_at_most : (b : Bool) → cond b 1 0 ≤ 1
-one_at_most true = omega arith
-one_at_most false = omega arith
 
 more_pass : (b c : Bool) → (b ≡ true → c ≡ true) → cond b 1 0 ≤ cond c 1 0
 more_pass true true f = omega arith
@@ -355,7 +339,7 @@ module _ (mask : List SlotRange) (ps : List ℕ) (k at : ℕ) where
       sym (find_none (is_alive mask) (λ q. leb (dead.last + 1) q) ps (next_out low end (dead.last + 1) ps rise le)) ∙ next_by_dead low end p dead rise same is met
 
   pub next_falls : (p : ℕ) (dead : SlotRange) → Some p ≡ find (λ q. leb at q) ps → Some dead ≡ dead_range mask p → ahead mask (dead.last + 1) < ahead mask at
-  next_falls p dead is met = ahead_falls mask at p dead (sym met) (leb-true at p (find_passes (λ q. leb at q) ps p (sym is)))
+  next_falls p dead is met = ahead_falls mask at p dead (sym met) (leb-true at p (found_passes (λ q. leb at q) p ps (sym is)))
 
   pub previous_by_none : last_alive_to at ≡ last_alive_to k → None ≡ find_last (λ q. leb q at) ps → None ≡ last_alive_to k
   previous_by_none same none = sym (last_none (is_alive mask) (λ q. leb q at) ps (sym none)) ∙ same

@@ -35,7 +35,8 @@ found_there id (file ∷ files) = here (eqb file.id id) (found_there id files)
 pub has_files : HasFilesOf
 has_files v c id s = subst (λ files. IsSome (file_with_id id files) ↔ (list_any (λ (file : File). eqb file.id id) c.files ≡ true)) (sym s.files) (found_there id c.files)
 
-both_empty : {X : Type 0} (xs ys : List X) → xs ++ ys ≡ [] → (xs ≡ []) × (ys ≡ [])
+-- two lists that make none are empty
+pub both_empty : {X : Type 0} (xs ys : List X) → xs ++ ys ≡ [] → (xs ≡ []) × (ys ≡ [])
 both_empty [] ys e = (refl, e)
 both_empty (x ∷ xs) ys e = absurd cc
 

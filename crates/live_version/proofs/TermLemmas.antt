@@ -1,5 +1,5 @@
 -- The least of the terms of several slots.
-use Rattle.std.proofs.Common.{nat_cmp, Ordering, subst, ◌≡◌, ◌⊎◌, ℕ, Bool, true, false, cond, List, [], ◌∷◌, ◌++◌, length, map, flat_map, take, get_or, bytes_eq, Option, Some, None, inl, inr, refl, sym, ap, ◌∙◌, ◌<◌, ◌+◌, ◌-◌, not}
+use Rattle.std.proofs.Common.{nat_cmp, Ordering, subst, ◌≡◌, ◌⊎◌, ℕ, Bool, true, false, cond, List, [], ◌∷◌, ◌++◌, length, flat_map, take, get_or, bytes_eq, Option, Some, None, inl, inr, refl, sym, ap, ◌∙◌, ◌<◌, ◌+◌, ◌-◌, not}
 use denote.Ref.{Bor}
 use Rattle.std.specs.Option.{option_map, option_to_list, MatchOption}
 use Rattle.std.proofs.lemmas.Bool.{or_cases, or_left, or_right}
@@ -18,6 +18,7 @@ use Rattle.gcl_model.specs.Slots.{SlotRange}
 use Rattle.gcl_model.specs.Texts.{Word}
 use Rattle.index_shard.specs.Tables.{TermEntry, ComesBefore, Precedes, IsTable, comes_from, least_term, term_at, has_address, words_of}
 use Rattle.index_shard.proofs.ShardWords.{words_at}
+use Rattle.index_shard.proofs.TableLaws.{names}
 use Rattle.live_version.specs.Contents.{SlotContent, live_words, live_of}
 use Rattle.live_version.specs.Terms.{IsLeastTerm, IsNoLater, has_term, terms_from, terms_of}
 
@@ -77,9 +78,6 @@ found_both xs ys first second found left right before after among = record {
     | inr same ↦ has_right xs ys term (right.member term (sym same ∙ is))
   ];
 }
-
-abbrev names : List TermEntry → List (List ℕ)
-names es = map (λ (entry : TermEntry). entry.term) es
 
 after_entry : (e : TermEntry) (es : List TermEntry) → AllByRecursion (Precedes e) es → AllByRecursion (λ other. IsNoLater (Some e.term) (Some other)) (names es)
 after_entry e [] all = tt

@@ -1,34 +1,26 @@
 -- The words of slots: they rise, and a look-up among them is one among the postings.
-use Rattle.std.proofs.Common.{◌≡◌, ℕ, zero, suc, ◌+◌, ◌<◌, ◌≤◌, Bool, true, not, leb, ltb, List, [], ◌∷◌, ◌++◌, length, filter, find, take, drop, bytes_eq, Option, Some, None, inl, inr, refl, sym, ap, ◌∙◌, subst, arith, le_refl, get_or, slice_get, length-append}
+use Rattle.std.proofs.Common.{◌≡◌, ℕ, zero, suc, ◌+◌, ◌<◌, ◌≤◌, Bool, true, not, leb, ltb, List, [], ◌∷◌, ◌++◌, length, filter, find, take, drop, bytes_eq, Option, Some, None, inl, inr, refl, sym, ap, ◌∙◌, subst, arith, le_refl, get_or, length-append}
 use Rattle.std.specs.List.{AllByRecursion, prefix_len}
 use Rattle.std.specs.Option.{option_or}
 use Rattle.std.proofs.lemmas.Bool.{true≢false, cases_Bool, leb-false, ltb-true}
-use Rattle.std.proofs.lemmas.List.{append-nil}
+use Rattle.std.proofs.lemmas.List.{append-nil, nil_from_length}
 use Rattle.std.proofs.lemmas.Grind.{flat_map-append}
 use Rattle.gcl_model.specs.Limits.{most_slots}
 use Rattle.gcl_model.specs.Access.{find_last, later_or}
 use Rattle.gcl_model.specs.Slots.{SlotRange, slot_range, AreRangesWithin}
 use Rattle.gcl_model.specs.Texts.{Word, IsText, places, next_place, previous_place, AreRisingBelow}
 use Rattle.index_shard.specs.Tables.{ShardContent, IsShard, RiseWithin, postings_of, words_of}
-use Rattle.index_shard.proofs.ShardWords.{rise_wider, places_are_postings, shard_words_rise}
+use Rattle.index_shard.proofs.ShardWords.{places_are_postings, shard_words_rise, rising_places}
 use Rattle.delete_mask.specs.Masks.{is_dead}
 use Rattle.live_version.specs.Contents.{SlotContent, VersionContent, IsSlot, IsVersion, is_of_files, live_words, live_of, ranges_of, dead_of, version_text}
 use Rattle.gcl_model.proofs.WordLists.{rising_earlier, rising_filter, rising_append, next_place-append, previous_place-append, none_next, none_previous}
 use Rattle.live_version.specs.LookUps.{is_alive, look_ups}
-
-pub places_rise : (next low : ℕ) (words : List Word) (term : List ℕ) → AreRisingBelow next low words → RiseWithin low next (places words term)
-places_rise next low [] term r = tt
-places_rise next low (w ∷ ws) term r =
-    let le = r.0 in
-    elim (cases_Bool (bytes_eq w.token term)) [
-      | inl e ↦ rw e (r.0, r.1, places_rise next (w.address + 1) ws term r.2)
-      | inr e ↦ rw e (rise_wider (w.address + 1) low next next (places ws term) (places_rise next (w.address + 1) ws term r.2) (omega arith) (le_refl next))
-    ]
+use Rattle.address_space.specs.Runs.{FileEntry}
 
 pub postings_rise : (shard : ShardContent) (term : List ℕ) → IsShard shard → RiseWithin shard.range.first (shard.range.last + 1) (postings_of shard.table term)
 postings_rise shard term is =
     subst (RiseWithin shard.range.first (shard.range.last + 1)) (places_are_postings shard term is)
-    (places_rise (shard.range.last + 1) shard.range.first (words_of shard) term (shard_words_rise shard is))
+    (rising_places (shard.range.last + 1) shard.range.first (words_of shard) term (shard_words_rise shard is))
 
 -- a filter by address may come before or after
 pub places-filter : (alive : ℕ → Bool) (words : List Word) (term : List ℕ) → places (filter (λ w. alive w.address) words) term ≡ filter alive (places words term)
@@ -123,13 +115,9 @@ previous_by_slot slot shard mask term k o is e f answer =
     ∙ ap (λ (s : ShardContent). find_last (λ p. leb p k) (filter (is_alive slot.mask) (postings_of s.table term))) e
     ∙ sym (ap (find_last (λ p. leb p k)) (live_places slot term is))
 
-no_members : {X : Type 0} (xs : List X) → length xs ≡ 0 → xs ≡ []
-no_members [] e = refl
-no_members (x ∷ xs) e = absurd (omega arith)
-
 -- where a slot has no file nothing is found in it
 pub no_words : (slot : SlotContent) (n : ℕ) → IsSlot slot → n ≡ length slot.files → n ≡ 0 → live_words slot ≡ []
-no_words slot n is count none = no_live_words slot is (no_members slot.files (sym count ∙ none))
+no_words slot n is count none = no_live_words slot is (nil_from_length slot.files (sym count ∙ none))
 
 -- the addresses of a slot are those of its index
 pub range_of_shard : (slot : SlotContent) (shard : ShardContent) (first last : ℕ) (range : SlotRange) → IsSlot slot → shard ≡ slot.shard → slot_range first last ≡ range → range ≡ slot.range → slot_range first last ≡ shard.range
@@ -179,21 +167,16 @@ pub previous_in_rest : (slots : List SlotContent) (slot : SlotContent) (term : L
 previous_in_rest slots slot term k none = previous_push slots slot term k ∙ ap (λ o. later_or o (previous_place (live_of slots) term k)) (sym none)
 
 -- the slot at a place, with what is behind it and before it
-pub drop_here : (slots : List SlotContent) (i : ℕ) (slot : SlotContent) → i < length slots → slot ≡ get_or slots i slot → drop i slots ≡ slot ∷ drop (i + 1) slots
-drop_here [] i slot lt is = absurd (omega arith)
-drop_here (x ∷ xs) zero slot lt is = ap (λ s. s ∷ xs) (sym is)
-drop_here (x ∷ xs) (suc i) slot lt is = let e : suc i + 1 ≡ suc (i + 1) = omega arith in rw e (drop_here xs i slot (omega arith) is)
-
 pub take_here : (slots : List SlotContent) (i : ℕ) (slot : SlotContent) → i < length slots → slot ≡ get_or slots i slot → take (suc i) slots ≡ take i slots ++ slot ∷ []
 take_here [] i slot lt is = absurd (omega arith)
 take_here (x ∷ xs) zero slot lt is = ap (λ s. s ∷ []) (sym is)
 take_here (x ∷ xs) (suc i) slot lt is = ap (λ ss. x ∷ ss) (take_here xs i slot (omega arith) is)
 
-pub got_at : {X : Type 0} (xs : List X) (i : ℕ) (x : X) → i < length xs → x ≡ get_or xs i x → slice_get xs i ≡ Some x
-got_at [] i x lt is = absurd (omega arith)
-got_at (y ∷ ys) zero x lt is = ap Some (sym is)
-got_at (y ∷ ys) (suc i) x lt is = got_at ys i x (omega arith) is
-
 -- all dead ranges and slots of a version are few
 pub look_ups_most : (v : VersionContent) → IsVersion v → look_ups v.slots ≤ most_slots + v.dels
 look_ups_most v is = let a = is.few in let b = is.dead in omega arith
+
+-- where each address below the end is of a file, so is that of each word
+pub owned_by : (files : List FileEntry) (next low : ℕ) (words : List Word) → AreRisingBelow next low words → ((p : ℕ) → p < next → is_of_files files p ≡ true) → AllByRecursion (λ w. is_of_files files w.address ≡ true) words
+owned_by files next low [] r has = tt
+owned_by files next low (w ∷ ws) r has = (has w.address r.1, owned_by files next (w.address + 1) ws r.2 has)

@@ -3,14 +3,12 @@ use Rattle.std.proofs.Common.{◌≡◌, ℕ, true, false, List, [], ◌∷◌, 
 use Rattle.gcl_model.specs.Slots.{slot_range}
 use Rattle.gcl_model.specs.Texts.{next_place, previous_place}
 use Rattle.address_space.specs.Runs.{FileEntry}
-use Rattle.index_shard.specs.Tables.{TermEntry, ShardContent}
+use Rattle.index_shard.specs.Tables.{ShardContent}
+use Rattle.index_shard.proofs.TableLaws.{term_entry as entry}
 use Rattle.live_version.specs.Contents.{SlotContent, VersionContent, slot_content, version_content, is_of_files, live_of, files_of, dead_of}
 use Rattle.live_version.specs.Changes.{file_with_id, version_without_file}
 use Rattle.live_version.specs.LookUps.{is_alive, look_ups}
 use Rattle.live_version.specs.Terms.{IsLeastTerm, terms_from, terms_of}
-
-abbrev entry : List ℕ → List ℕ → TermEntry
-entry term addresses = record { term = term; addresses = addresses }
 
 abbrev hamlet : ShardContent
 hamlet = record {

@@ -1,5 +1,6 @@
 -- Lawful histories: one version more, and numbers that are places.
 use Rattle.std.proofs.Common.{◌≡◌, ◌+◌, Bool, true, false, IsTrue, List, [], ◌∷◌, ◌++◌, length, fold, refl, ap, sym, ◌∙◌, subst, arith, length-append}
+use Rattle.std.proofs.lemmas.List.{same_from_push}
 use mathlib.Core.List.{IsPrefix}
 use Rattle.live_version.specs.Contents.{VersionContent}
 use Rattle.manifest_publish.specs.Histories.{IsOpening, IsNext, Follow, IsLawful, IsLatest}
@@ -33,7 +34,8 @@ follow-number : (u : VersionContent) (before : List VersionContent) (v : Version
 follow-number u [] v h = let n = h.0.number in omega arith
 follow-number u (x ∷ xs) v h = let n = h.0.number in let m = follow-number x xs v h.1 in omega arith
 
-latest-number_at : (before : List VersionContent) (v : VersionContent) → IsLawful (before ++ v ∷ []) → v.number ≡ length before
+-- the number of the last version is how many come before it
+pub latest-number_at : (before : List VersionContent) (v : VersionContent) → IsLawful (before ++ v ∷ []) → v.number ≡ length before
 latest-number_at [] v h = ap (λ u. u.number) h.0
 latest-number_at (x ∷ xs) v h = let n = ap (λ u. u.number) h.0 in let m = follow-number x xs v h.1 in omega arith
 
@@ -55,14 +57,10 @@ pub fold-last : {S O : Type 0} (f : O → S) (s : S) (ops : List O) (op : O) →
 fold-last f s [] op = refl
 fold-last f s (o ∷ os) op = fold-last f (f o) os op
 
--- the number of a version that may be added
-pub added-number : (history : List VersionContent) (v : VersionContent) → IsLawful (history ++ v ∷ []) → v.number ≡ length history
-added-number history v h = latest-number_at history v h
-
 -- two histories that one list begins with, where the second ends with the version that the first may be added: the second is the first and that version
 pub grown : (history longer : List VersionContent) (v : VersionContent) → IsLawful (history ++ v ∷ []) → EndsWith longer v → IsPrefix history longer → longer ≡ history ++ v ∷ []
 grown history longer v lawful ends p =
-    let n = added-number history v lawful in
+    let n = latest-number_at history v lawful in
     let m = latest-number longer v ends.0 ends.1 in
     let ends-before : longer ≡ ends.1.0 ++ v ∷ [] = ends.1.1 in
     let k : length longer ≡ length ends.1.0 + 1 = ap length ends-before ∙ length-append ends.1.0 (v ∷ []) in
@@ -75,19 +73,11 @@ pub grown-either : (history longer : List VersionContent) (v : VersionContent) (
     → longer ≡ history ++ v ∷ []
 grown-either history longer v true lawful ends covers begins = grown history longer v lawful ends (covers refl)
 grown-either history longer v false lawful ends covers begins =
-    let n = added-number history v lawful in
+    let n = latest-number_at history v lawful in
     let m = latest-number longer v ends.0 ends.1 in
     let less = prefix_length longer history (begins refl) in
     absurd (omega arith)
 
-snoc-last : (xs ys : List VersionContent) (v w : VersionContent) → xs ++ v ∷ [] ≡ ys ++ w ∷ [] → v ≡ w
-snoc-last [] [] v w e = cc e
-snoc-last [] (y ∷ []) v w e = absurd (cc e)
-snoc-last [] (y ∷ z ∷ ys) v w e = absurd (cc e)
-snoc-last (x ∷ []) [] v w e = absurd (cc e)
-snoc-last (x ∷ z ∷ xs) [] v w e = absurd (cc e)
-snoc-last (x ∷ xs) (y ∷ ys) v w e = snoc-last xs ys v w (cc e)
-
 -- a history has one last version
 pub latest-one : (history : List VersionContent) (v w : VersionContent) → IsLatest history v → IsLatest history w → v ≡ w
-latest-one history v w one other = snoc-last one.0 other.0 v w (sym one.1 ∙ other.1)
+latest-one history v w one other = (same_from_push one.0 other.0 v w (sym one.1 ∙ other.1)).1

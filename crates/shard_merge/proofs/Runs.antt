@@ -6,6 +6,7 @@ use Rattle.std.proofs.lemmas.Bool.{or_left, or_right}
 use Rattle.std.proofs.lemmas.List.{take-append-drop, drop_more, append_assoc, append-nil}
 use Rattle.std.proofs.lemmas.List.Folds.{list_any-append}
 use Rattle.std.proofs.lemmas.Grind.{flat_map-append}
+use Rattle.std.proofs.lemmas.Option.{same_Some}
 use Rattle.gcl_model.specs.Slots.{SlotRange, slot_range, joined, spanned, AreRangesWithin}
 use Rattle.gcl_model.specs.Texts.{Word, places, AreRisingBelow}
 use Rattle.address_space.specs.Runs.{FileEntry, IsFileRun, Precedes, last_file}
@@ -149,15 +150,12 @@ range_found (slot ∷ slots) n one other d e some apart at is until =
     } in
     subst (λ p. IsRangeOf (slot_range one.range.first p) (slot ∷ slots)) last (subst (λ p. IsRangeOf (slot_range p (last_of slot.range (ranges_of slots))) (slot ∷ slots)) first own)
 
-some_injective : (a b : SlotRange) → Some a ≡ Some b → a ≡ b
-some_injective a b is = cc
-
 -- what a clause says of the range is enough
 pub range_of_run : (slots : List SlotContent) (range : SlotRange) → IsRun slots → whole_range (ranges_of slots) ≡ Some range → IsRangeOf range slots
 range_of_run [] range run is = absurd cc
 range_of_run (slot ∷ slots) range run is =
     let same : slot_range slot.range.first (last_of slot.range (ranges_of slots)) ≡ range =
-    some_injective (slot_range slot.range.first (last_of slot.range (ranges_of slots))) range (ap (λ r. Some r) (sym (spanned_is slot.range (ranges_of slots))) ∙ is) in
+    same_Some (slot_range slot.range.first (last_of slot.range (ranges_of slots))) range (ap (λ r. Some r) (sym (spanned_is slot.range (ranges_of slots))) ∙ is) in
     subst (λ r. IsRangeOf r (slot ∷ slots)) same record {
       is = ap (λ r. Some r) (spanned_is slot.range (ranges_of slots));
       ordered = ordered_from run.apart.0 run.apart.1 slot.range (ranges_of slots) run.apart.2;
@@ -196,7 +194,7 @@ words_owned (slot ∷ slots) all =
     (all_weaker (λ (w : Word). is_of_files (files_of slots) w.address ≡ true) (λ (w : Word). is_of_files (slot.files ++ files_of slots) w.address ≡ true) (λ w is. of_files_back slot.files (files_of slots) w.address is) (live_of slots) (words_owned slots all.1))
 
 -- the live postings of the slots are the places among their live words
-left_places : (slots : List SlotContent) (term : List ℕ) → AllByRecursion IsSlot slots → postings_left (map part_of slots) term ≡ places (live_of slots) term
+pub left_places : (slots : List SlotContent) (term : List ℕ) → AllByRecursion IsSlot slots → postings_left (map part_of slots) term ≡ places (live_of slots) term
 left_places [] term all = refl
 left_places (slot ∷ slots) term all =
     ap (λ l. l ++ postings_left (map part_of slots) term) (sym (live_places slot term all.0))

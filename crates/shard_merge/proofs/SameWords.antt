@@ -1,11 +1,10 @@
 -- Words at rising addresses are known by the places of each token.
-use Rattle.std.proofs.Common.{◌≡◌, ℕ, ◌+◌, ◌≤◌, eqb, List, [], ◌∷◌, bytes_eq, inl, inr, refl, sym, ap, ◌∙◌, subst, arith, le_refl}
-use Rattle.std.proofs.lemmas.Bool.{true≢false, cases_Bool, or_cases, eqb-true}
+use Rattle.std.proofs.Common.{◌≡◌, ℕ, ◌+◌, ◌≤◌, List, [], ◌∷◌, bytes_eq, inl, inr, refl, sym, ap, ◌∙◌, subst, arith, le_refl}
+use Rattle.std.proofs.lemmas.Bool.{cases_Bool}
 use Rattle.std.proofs.lemmas.Slice.Eq.{bytes_eq-Decides}
 use Rattle.gcl_model.specs.Texts.{Word, places, AreRisingBelow}
-use Rattle.index_shard.specs.Tables.{ShardContent, IsShard, AreApart, has_address, postings_of, words_of}
-use Rattle.live_version.proofs.WordLemmas.{places_rise}
-use Rattle.index_shard.proofs.ShardWords.{word, lacks_earlier, shard_words_rise, places_are_postings}
+use Rattle.index_shard.specs.Tables.{ShardContent, IsShard, postings_of, words_of}
+use Rattle.index_shard.proofs.ShardWords.{word, shard_words_rise, places_are_postings}
 
 -- no place is before the first address
 first_place : (next low : ℕ) (words : List Word) (token : List ℕ) (p : ℕ) (ps : List ℕ) → AreRisingBelow next low words → places words token ≡ p ∷ ps → low ≤ p
@@ -60,32 +59,3 @@ pub shard_has_words : (shard : ShardContent) (words : List Word) → IsShard sha
     ((token : List ℕ) → postings_of shard.table token ≡ places words token) → words_of shard ≡ words
 shard_has_words shard words is rising same =
     same_words (shard.range.last + 1) shard.range.first (words_of shard) words (shard_words_rise shard is) rising (λ token. places_are_postings shard token is ∙ same token)
-
--- two tokens share no place
-pub places_apart : (next low : ℕ) (words : List Word) (a b : List ℕ) → AreRisingBelow next low words → (a ≡ b → ⊥) → AreApart (places words a) (places words b)
-places_apart next low [] a b rising other q has = refl
-places_apart next low (w ∷ ws) a b rising other q has =
-    let p = w.address in
-    let mine = places ws a in
-    let others = places ws b in
-    let early_a = lacks_earlier (p + 1) next mine p (places_rise next (p + 1) ws a rising.2) (omega arith) in
-    let early_b = lacks_earlier (p + 1) next others p (places_rise next (p + 1) ws b rising.2) (omega arith) in
-    let rest = places_apart next (p + 1) ws a b rising.2 other q in
-    elim (cases_Bool (bytes_eq w.token a)) [
-      | inl ea ↦ elim (cases_Bool (bytes_eq w.token b)) [
-        | inl eb ↦ absurd (other (sym ((bytes_eq-Decides w.token a).0 ea) ∙ (bytes_eq-Decides w.token b).0 eb))
-        | inr eb ↦ rw eb (elim (or_cases (eqb p q) (has_address mine q) (rw ea at has)) [
-          | inl e ↦ ap (has_address others) (sym (eqb-true p q e)) ∙ early_b
-          | inr e ↦ rest e
-        ])
-      ]
-      | inr ea ↦
-          let has = rw ea at has in
-          elim (cases_Bool (bytes_eq w.token b)) [
-            | inl eb ↦ rw eb (elim (cases_Bool (eqb p q)) [
-              | inl e ↦ absurd (true≢false (sym has ∙ ap (has_address mine) (sym (eqb-true p q e)) ∙ early_a))
-              | inr e ↦ rw e (rest has)
-            ])
-            | inr eb ↦ rw eb (rest has)
-          ]
-    ]

@@ -8,13 +8,12 @@ use Rattle.std.proofs.lemmas.Slice.Eq.{bytes_eq-Decides}
 use Rattle.gcl_model.specs.Slots.{SlotRange}
 use Rattle.gcl_model.specs.Texts.{Word, places}
 use Rattle.index_shard.specs.Tables.{RiseWithin, TermEntry, ComesBefore, AreApart, ArePostingsIn, last_entry, postings_of}
-use Rattle.index_shard.proofs.TableLaws.{all_push}
+use Rattle.index_shard.proofs.TableLaws.{all_push, term_entry as entry}
 use Rattle.slot_terms.proofs.Rising.{left_of_rising}
 use Rattle.slot_terms.specs.Parts.{PartContent, postings_left, IsPart, is_headed, past, IsNext}
 use Rattle.shard_merge.specs.Merged.{AreWordsOf}
 use Rattle.slot_terms.proofs.Passing.{AllPartsAfter, before_differs, past_after, after_none_left, past_others, past_tables, past_keeps_after, member_after}
-use Rattle.shard_merge.proofs.SameWords.{places_apart}
-use Rattle.live_version.proofs.WordLemmas.{places_rise}
+use Rattle.index_shard.proofs.ShardWords.{rising_places, rising_apart}
 
 -- the table has the first terms of what there was, and the parts have the rest
 pub record IsMerging (start parts : List PartContent) (table : List TermEntry) : Type 0 where
@@ -27,15 +26,17 @@ pub merging_begins : (start : List PartContent) → AllByRecursion IsPart start 
 merging_begins start tables = record { tables = tables; groups = tt; after = tt; together = λ term. refl }
 
 -- all entries come before the term
-abbrev AllBefore : List ℕ → List TermEntry → Type 0
+abbrev pub AllBefore : List ℕ → List TermEntry → Type 0
 AllBefore term es = AllByRecursion (λ e. ComesBefore e.term term) es
 
-all_before : (parts : List PartContent) (table : List TermEntry) (term : List ℕ) → list_any (λ part. is_headed part.left term) parts ≡ true →
+-- what was made comes before a term that a part has next
+pub all_before : (parts : List PartContent) (table : List TermEntry) (term : List ℕ) → list_any (λ part. is_headed part.left term) parts ≡ true →
     AllByRecursion (λ e. AllPartsAfter e.term parts) table → AllBefore term table
 all_before parts [] term any all = tt
 all_before parts (e ∷ es) term any all = (member_after parts term e.term any all.0, all_before parts es term any all.1)
 
-before_missed : (es : List TermEntry) (term : List ℕ) → AllBefore term es → postings_of es term ≡ []
+-- a term that comes behind all entries has no postings
+pub before_missed : (es : List TermEntry) (term : List ℕ) → AllBefore term es → postings_of es term ≡ []
 before_missed [] term all = refl
 before_missed (e ∷ es) term all = rw (before_differs e.term term all.0) (before_missed es term all.1)
 
@@ -76,9 +77,6 @@ merging_skips start parts table term m next = record {
   ];
 }
 
-abbrev entry : List ℕ → List ℕ → TermEntry
-entry term addresses = record { term = term; addresses = addresses }
-
 -- a term with live postings goes behind the others
 pub merging_pushes : (start parts : List PartContent) (table : List TermEntry) (term addresses : List ℕ) → IsMerging start parts table → IsNext parts term addresses →
     IsMerging start (map (past term) parts) (table ++ entry term addresses ∷ [])
@@ -117,7 +115,7 @@ all_apart range start words [] term of groups before = tt
 all_apart range start words (e ∷ es) term of groups before =
     let differs : e.term ≡ term → ⊥ = λ same. true≢false (sym ((bytes_eq-Decides e.term term).1 same) ∙ before_differs e.term term before.0) in
     let mine : places words e.term ≡ e.addresses = sym (groups.0 ∙ of.places e.term) in
-    (subst (λ l. AreApart l (places words term)) mine (places_apart (range.last + 1) range.first words e.term term of.rising differs), all_apart range start words es term of groups.1 before.1)
+    (subst (λ l. AreApart l (places words term)) mine (rising_apart (range.last + 1) range.first words e.term term of.rising differs), all_apart range start words es term of groups.1 before.1)
 
 pub may_push : (range : SlotRange) (start parts : List PartContent) (table : List TermEntry) (term addresses : List ℕ) → (words : List Word) × AreWordsOf range start words →
     IsMerging start parts table → IsNext parts term addresses → 0 < length addresses → MayPush range table term addresses
@@ -126,7 +124,7 @@ may_push range start parts table term addresses of m next some =
     let mine : places of.0 term ≡ addresses = sym (whole_start start parts table term addresses m next ∙ of.1.places term) in
     record {
       rising = last_before table term before;
-      postings = record { some = some; rising = subst (RiseWithin range.first (range.last + 1)) mine (places_rise (range.last + 1) range.first of.0 term of.1.rising) };
+      postings = record { some = some; rising = subst (RiseWithin range.first (range.last + 1)) mine (rising_places (range.last + 1) range.first of.0 term of.1.rising) };
       apart = subst (λ l. AllByRecursion (λ e. AreApart e.addresses l) table) mine (all_apart range start of.0 table term of.1 m.groups before);
     }
 
@@ -135,11 +133,7 @@ pub left_rises : (range : SlotRange) (start parts : List PartContent) (table : L
     (term : List ℕ) → RiseWithin 0 (2 ^ 56) (postings_left parts term)
 left_rises range start parts table of m in_range term =
     left_of_rising range.first (range.last + 1) (postings_of table term) (postings_left parts term) (places of.0 term) (m.together term ∙ of.1.places term)
-    (places_rise (range.last + 1) range.first of.0 term of.1.rising) (omega (arith, in_range))
-
-pub no_addresses : (addresses : List ℕ) → length addresses ≡ 0 → addresses ≡ []
-no_addresses [] none = refl
-no_addresses (p ∷ ps) none = absurd (omega arith)
+    (rising_places (range.last + 1) range.first of.0 term of.1.rising) (omega (arith, in_range))
 
 -- the table has all, where nothing is left
 pub merged_all : (start parts : List PartContent) (table : List TermEntry) → IsMerging start parts table → ((term : List ℕ) → postings_left parts term ≡ []) →

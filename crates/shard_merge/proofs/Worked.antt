@@ -1,14 +1,12 @@
 -- A merge, computed: the files `to be or not to be` at 0 to 7 and one without words at 8 and 9, of which the first is deleted.
-use Rattle.std.proofs.Common.{◌≡◌, ℕ, List, [], ◌∷◌, map, codes, Some, refl}
+use Rattle.std.proofs.Common.{◌≡◌, List, [], ◌∷◌, map, codes, Some, refl}
 use Rattle.gcl_model.specs.Slots.{slot_range}
 use Rattle.gcl_model.specs.Texts.{Word}
 use Rattle.index_shard.specs.Tables.{TermEntry, ShardContent, words_of}
+use Rattle.index_shard.proofs.TableLaws.{term_entry as entry}
 use Rattle.live_version.specs.Contents.{SlotContent, slot_content, ranges_of, live_of}
 use Rattle.live_version.specs.Changes.{whole_range}
 use Rattle.slot_terms.specs.Parts.{part_of, postings_left, past}
-
-abbrev entry : List ℕ → List ℕ → TermEntry
-entry term addresses = record { term = term; addresses = addresses }
 
 abbrev hamlet : List TermEntry
 hamlet =

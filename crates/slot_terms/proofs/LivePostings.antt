@@ -8,17 +8,11 @@ use Rattle.std.proofs.lemmas.List.Elements.{filter-append}
 use Rattle.gcl_model.specs.Slots.{SlotRange, slot_range}
 use Rattle.gcl_model.proofs.Lists.{filter_kept}
 use Rattle.posting_code.specs.Postings.{ArePostings, block_of}
-use Rattle.posting_code.proofs.Rising.{rise_drop}
-use Rattle.posting_code.proofs.Around.{take_rises}
 use Rattle.index_shard.specs.Tables.{RiseWithin}
 use Rattle.delete_mask.specs.Masks.{is_within, is_dead, dead_range, IsApart}
 use Rattle.delete_mask.proofs.MaskLemmas.{is_within-bounds, is_within-inside, dead_range-within}
 use Rattle.live_version.specs.LookUps.{is_alive}
 use Rattle.slot_terms.specs.Parts.{alive}
-
--- the members of a block rise
-pub block_rises : (list : List ℕ) (block : ℕ) → ArePostings list → ArePostings (block_of list block)
-block_rises list block rising = take_rises 0 (2 ^ 56) (drop (64 * block) list) 64 (rise_drop 0 (2 ^ 56) list (64 * block) rising)
 
 -- one block more
 pub put_more : (mask : List SlotRange) (list members out put more : List ℕ) (block : ℕ) → members ≡ block_of list block → put ≡ out ++ alive mask (take (64 * block) list) → more ≡ put ++ alive mask members →

@@ -21,7 +21,8 @@ before_differs a b before = same_term a b Less before
 pub after_differs : (a b : List ℕ) → ComesBefore a b → bytes_eq b a ≡ false
 after_differs a b before = same_term b a Greater (nat_list_cmp_total.antisymm b a ∙ ap ordering_reverse before)
 
-after_missed : (term : List ℕ) (es : List TermEntry) → AllAfter term es → postings_of es term ≡ []
+-- a term that comes before all entries has no postings
+pub after_missed : (term : List ℕ) (es : List TermEntry) → AllAfter term es → postings_of es term ≡ []
 after_missed term [] all = refl
 after_missed term (e ∷ es) all = rw (after_differs term e.term all.0) (after_missed term es all.1)
 
@@ -29,7 +30,8 @@ after_entry : (e : TermEntry) (es : List TermEntry) → AllByRecursion (Precedes
 after_entry e [] all = tt
 after_entry e (d ∷ ds) all = (all.0.terms, after_entry e ds all.1)
 
-after_earlier : (a b : List ℕ) (es : List TermEntry) → ComesBefore a b → AllAfter b es → AllAfter a es
+-- what comes after a term comes after each earlier one
+pub after_earlier : (a b : List ℕ) (es : List TermEntry) → ComesBefore a b → AllAfter b es → AllAfter a es
 after_earlier a b [] before all = tt
 after_earlier a b (e ∷ es) before all = (nat_list_cmp_total.trans a b e.term before all.0, after_earlier a b es before all.1)
 

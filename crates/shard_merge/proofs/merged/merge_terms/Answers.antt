@@ -1,9 +1,10 @@
 use Rattle.std.proofs.Common.{◌≡◌, ◌<◌, ◌++◌, [], ◌∷◌, length, map, IfSome, sym, subst, ap, ◌∙◌, arith}
+use Rattle.std.proofs.lemmas.List.{nil_from_length}
 use Rattle.gcl_model.specs.Slots.{SlotRange}
 use Rattle.index_shard.specs.Tables.{ArePostingsIn}
 use Rattle.slot_terms.specs.Parts.{IsNext, entries_left, past}
 use Rattle.slot_terms.proofs.Passing.{past_fewer}
-use Rattle.shard_merge.proofs.TermByTerm.{no_addresses, IsMerging, left_rises, may_push, merging_begins, merging_skips, merging_pushes, merged_all}
+use Rattle.shard_merge.proofs.TermByTerm.{IsMerging, left_rises, may_push, merging_begins, merging_skips, merging_pushes, merged_all}
 use Rattle.shard_merge.proofs.merged.merge_terms.Goals as goal
 
 pub next_packed-requires : goal.next_packed-requires
@@ -53,7 +54,7 @@ pub loop-maker-preserved : goal.loop-maker-preserved
 loop-maker-preserved c =
     let next : IsNext c.loop-maker.terms c.in-Some.term.now c.in-Some.postings = subst (λ o. IfSome o (λ n. IsNext c.loop-maker.terms n.0.now n.1)) c.in-Some.is c.in_ok-term.ensures.next in
     let past_it : c.next_packed.new.self ≡ map (past c.in-Some.term.now) c.loop-maker.terms = subst (λ o. IfSome o (λ n. c.next_packed.new.self ≡ map (past n.0.now) c.loop-maker.terms)) c.in-Some.is c.in_ok-term.ensures.past in
-    let empty = no_addresses c.in-Some.postings (omega (arith, c.if-len-gt0.false, c.len.ensures.value)) in
+    let empty = nil_from_length c.in-Some.postings (omega (arith, c.if-len-gt0.false, c.len.ensures.value)) in
     record {
       range = c.loop-maker.invariant.range;
       merging =

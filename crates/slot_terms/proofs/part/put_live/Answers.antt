@@ -1,6 +1,7 @@
 use Rattle.std.proofs.Common.{sym, subst, take}
 use Rattle.posting_code.specs.Postings.{ArePostings}
-use Rattle.slot_terms.proofs.LivePostings.{block_rises, put_more}
+use Rattle.posting_code.proofs.Around.{block_rises}
+use Rattle.slot_terms.proofs.LivePostings.{put_more}
 use Rattle.slot_terms.proofs.part.put_live.Goals as goal
 
 pub put_block-requires : goal.put_block-requires

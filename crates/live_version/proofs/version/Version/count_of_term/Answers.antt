@@ -1,8 +1,9 @@
 use Rattle.std.proofs.Common.{◌+◌, length, drop, ap, ◌∙◌, arith}
 use Rattle.std.proofs.lemmas.List.{drop_all}
 use Rattle.gcl_model.specs.Texts.{places}
+use Rattle.gcl_model.proofs.Lists.{drop_here}
 use Rattle.live_version.specs.Contents.{live_of, version_text}
-use Rattle.live_version.proofs.WordLemmas.{drop_here, version_is_text}
+use Rattle.live_version.proofs.WordLemmas.{version_is_text}
 use Rattle.live_version.proofs.CountLemmas.{places_more, few_places}
 use Rattle.live_version.proofs.MemberLemmas.{term_count}
 use Rattle.live_version.proofs.version.Version.count_of_term.Goals as goal

@@ -1,9 +1,11 @@
-use Rattle.std.proofs.Common.{◌+◌, slice_get, ap, sym, ◌∙◌, drop, arith}
+use Rattle.std.proofs.Common.{◌+◌, slice_get, ap, sym, ◌∙◌, drop, arith, length, refl}
 use Rattle.std.proofs.lemmas.List.{drop_all}
+use Rattle.std.proofs.lemmas.Option.{slice_get_read}
 use Rattle.gcl_model.specs.Texts.{next_place}
+use Rattle.gcl_model.proofs.Lists.{drop_here}
 use Rattle.live_version.specs.Contents.{live_of}
 use Rattle.live_version.specs.LookUps.{look_ups}
-use Rattle.live_version.proofs.WordLemmas.{version_is_text, next_from, got_at, drop_here, look_ups-cons, look_ups-drop, look_ups_most, next_in_first, next_in_rest}
+use Rattle.live_version.proofs.WordLemmas.{version_is_text, next_from, look_ups-cons, look_ups-drop, look_ups_most, next_in_first, next_in_rest}
 use Rattle.live_version.proofs.version.Version.next_of.Goals as goal
 
 pub loop-number-init : goal.loop-number-init
@@ -22,7 +24,7 @@ loop-number-init g c =
 pub next-requires : goal.next-requires
 next-requires g c =
     c.requires c.loop-number.number c.index-slots-number.result
-    (ap (λ ss. slice_get ss c.loop-number.number) (sym c.slots-slots.ensures.value) ∙ got_at c.slots-slots.result.now c.loop-number.number c.index-slots-number.result (omega arith) c.index-slots-number.is)
+    (ap (λ ss. slice_get ss c.loop-number.number) (sym c.slots-slots.ensures.value) ∙ slice_get_read c.slots-slots.result.now (length c.slots-slots.result.now) c.loop-number.number c.index-slots-number.result refl (omega arith) c.index-slots-number.is)
 
 pub returns-in-Some-clause-answer : goal.returns-in-Some-clause-answer
 returns-in-Some-clause-answer g c =

@@ -1,8 +1,9 @@
-use Rattle.std.proofs.Common.{◌≡◌, ◌-◌, suc, length, slice_get, ap, sym, ◌∙◌, take, arith}
+use Rattle.std.proofs.Common.{◌≡◌, ◌-◌, suc, length, slice_get, ap, sym, ◌∙◌, take, arith, refl}
+use Rattle.std.proofs.lemmas.Option.{slice_get_read}
 use Rattle.gcl_model.specs.Texts.{previous_place}
 use Rattle.live_version.specs.Contents.{live_of}
 use Rattle.live_version.specs.LookUps.{look_ups}
-use Rattle.live_version.proofs.WordLemmas.{version_is_text, previous_upto, got_at, take_here, look_ups-push, look_ups-take, look_ups_most, previous_in_last, previous_in_rest}
+use Rattle.live_version.proofs.WordLemmas.{version_is_text, previous_upto, take_here, look_ups-push, look_ups-take, look_ups_most, previous_in_last, previous_in_rest}
 use Rattle.live_version.proofs.version.Version.previous_of.Goals as goal
 
 pub loop-left-init : goal.loop-left-init
@@ -25,7 +26,7 @@ pub prev-requires : goal.prev-requires
 prev-requires g c =
     let within = c.loop-left.invariant.within in
     c.requires (c.loop-left.left - 1) c.index-slots-left.result
-    (ap (λ ss. slice_get ss (c.loop-left.left - 1)) (sym c.slots-slots.ensures.value) ∙ got_at c.slots-slots.result.now (c.loop-left.left - 1) c.index-slots-left.result (omega arith) c.index-slots-left.is)
+    (ap (λ ss. slice_get ss (c.loop-left.left - 1)) (sym c.slots-slots.ensures.value) ∙ slice_get_read c.slots-slots.result.now (length c.slots-slots.result.now) (c.loop-left.left - 1) c.index-slots-left.result refl (omega arith) c.index-slots-left.is)
 
 pub returns-in-Some-clause-answer : goal.returns-in-Some-clause-answer
 returns-in-Some-clause-answer g c =

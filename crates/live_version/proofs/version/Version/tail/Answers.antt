@@ -1,9 +1,9 @@
-use Rattle.std.proofs.Common.{◌≡◌, ◌-◌, ◌*◌, ◌<◌, suc, true, false, nat_le, length, List, take, reverse, Some, sym, ap, ◌∙◌, subst, arith}
+use Rattle.std.proofs.Common.{◌≡◌, ◌-◌, ◌*◌, ◌<◌, suc, true, false, nat_le, length, List, take, reverse, Some, sym, ap, ◌∙◌, subst, arith, refl}
+use Rattle.std.proofs.lemmas.Option.{slice_get_read}
 use Rattle.gcl_model.specs.Slots.{SlotRange, slot_range, slot_width, joined_count, tail_count, AreRangesWithin}
 use Rattle.live_version.specs.Contents.{SlotContent, ranges_of}
 use Rattle.live_version.proofs.PlaceLemmas.{begins_before}
 use Rattle.live_version.proofs.Tails.{counted_joined, counted_alone}
-use Rattle.live_version.proofs.WordLemmas.{got_at}
 use Rattle.live_version.proofs.version.Version.tail.Goals as goal
 use Rattle.live_version.proofs.version.Version.tail.Goals.{then-loop-at-test+else-is_joined, else-loop-at-test}
 
@@ -17,7 +17,7 @@ loop-at-preserved c =
     let last = c.index-slots-count.result in
     let within : at < length slots = c.loop-at.invariant.within in
     let some : suc (at - 1) ≡ at = omega arith in
-    let there : Some tested ≡ Some slot = sym (got_at slots (at - 1) tested (omega arith) c.index-slots-at.is) ∙ got_at slots (at - 1) slot (omega arith) c.index-slots-at-in-loop-at.is in
+    let there : Some tested ≡ Some slot = sym (slice_get_read slots (length slots) (at - 1) tested refl (omega arith) c.index-slots-at.is) ∙ slice_get_read slots (length slots) (at - 1) slot refl (omega arith) c.index-slots-at-in-loop-at.is in
     let same : tested ≡ slot = cc in
     let first : c.first.inside.first ≡ slot.range.first = ap (λ (r : SlotRange). r.first) (c.first.view_is ∙ c.range-in-loop-at.ensures.value) in
     let end : c.end.inside.last ≡ last.range.last = ap (λ (r : SlotRange). r.last) (c.end.view_is ∙ c.range-end.ensures.value) in
