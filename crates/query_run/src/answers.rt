@@ -74,6 +74,7 @@ fn answer_command<R: Wait, F: Files>(
         StopsWithin state (reply limits.now state command) lines.old lines.new engine.new) }
     ensures number { OnOk result (engine.new.version.number + wish wanted.new ≤ engine.old.version.number + 1) }
     ensures savable { OnOk result (CanBeSaved engine.new.version) }
+    ensures publisher { engine.new.publisher ≡ engine.old.publisher }
     ensures quiet { names_asked command ≡ [] → files.new ≡ files.old }
     ensures unsaved { names_kept command ≡ [] → F.held files.new ≡ F.held files.old }
     ensures saved { (state : State) → IsAt (F.held files.old) engine.old false state →
@@ -150,6 +151,7 @@ fn answer_any<R: Wait, F: Files, G: Gate>(
         StopsWithin state (answer limits.now state (record { long = long; bytes = line.now })) lines.old lines.new engine.new) }
     ensures number { OnOk result (engine.new.version.number + wish wanted.new ≤ engine.old.version.number + wish wanted.old + 1) }
     ensures savable { OnOk result (CanBeSaved engine.new.version) }
+    ensures publisher { engine.new.publisher ≡ engine.old.publisher }
     ensures quiet { names_of_line (record { long = long; bytes = line.now }) ≡ [] → files.new ≡ files.old }
     ensures unsaved { names_kept_of_line (record { long = long; bytes = line.now }) ≡ [] → F.held files.new ≡ F.held files.old }
     ensures files { (state : State) → IsAt (F.held files.old) engine.old wanted.old state →
@@ -198,6 +200,7 @@ pub fn answer_line<R: Wait, F: Files, G: Gate>(
     ensures lines { OnOk result (lines.new ≡ lines.old + 1) }
     ensures number { OnOk result (engine.new.version.number + wish wanted.new ≤ engine.old.version.number + wish wanted.old + 1) }
     ensures savable { OnOk result (CanBeSaved engine.new.version) }
+    ensures publisher { engine.new.publisher ≡ engine.old.publisher }
     ensures quiet { names_of_line (record { long = long; bytes = line.now }) ≡ [] → files.new ≡ files.old }
     ensures unsaved { names_kept_of_line (record { long = long; bytes = line.now }) ≡ [] → F.held files.new ≡ F.held files.old }
     ensures files { (state : State) → IsAt (F.held files.old) engine.old wanted.old state →

@@ -29,7 +29,7 @@ mod status;
 mod top;
 mod write;
 
-pub use limits::{IMAGE_MOST, Limits, SCRIPT_MOST};
+pub use limits::{BATCH_MOST, IMAGE_MOST, Limits, SCRIPT_MOST};
 pub use serving::serve;
 pub use status::Status;
 pub use top::run;
