@@ -14,12 +14,13 @@ use crate::changes::{add, delete};
 use crate::limits::Limits;
 use crate::listing::{count_slots, list_files};
 use crate::merging::merge_wanted;
-use crate::queries::{Asked, answer_query};
+use crate::queries::{ask_of, put_found};
 use crate::refusals::refuse;
 use crate::saving::{open, save};
 use collection::Engine;
 use gcl_model::Bytes;
 use outside::{FileError, Files, Gate};
+use query_lanes::{Asked, answer_alone};
 use script_lang::{Command, Refusal, command, put_merging};
 use std::alloc::{AllocError, Global};
 use std::sync::Wait;
@@ -35,8 +36,10 @@ fn answer_now(
     ensures { IfOk result (λ refusal. (state : State) → Keeps engine.now false state →
         Says (query_lines asked (text_of state.collection) query.now) out.old.items out.new.items refusal) }
 {
-    let pass = engine.pass()?;
-    let refused = answer_query(alloc, out, &pass, asked, query)?;
+    // no gate is told of it, so it has no number
+    let ask = ask_of(alloc, 0, asked, query)?;
+    let found = answer_alone(alloc, engine, &ask)?;
+    let refused = put_found(out, &found)?;
     Ok(refused)
 }
 

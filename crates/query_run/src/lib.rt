@@ -12,11 +12,11 @@
 #![tactic(auto)]
 
 mod answers;
+mod batches;
 mod changes;
 mod limits;
 mod listing;
 mod made_run;
-mod members;
 mod merging;
 mod queries;
 mod read;

@@ -1,0 +1,117 @@
+-- The answers to a batch change nothing, and are those of its queries.
+use Rattle.std.proofs.Common.{◌≡◌, ℕ, suc, Bool, true, false, List, [], ◌∷◌, ◌++◌, length, Option, Some, None, IsSome, refl, sym, ap, ◌∙◌, subst}
+use Rattle.std.specs.Prelude.{flat_map, if◌then◌else◌}
+use Rattle.gcl_model.specs.Texts.{Text}
+use Rattle.gcl_model.specs.Collections.{text_of}
+use Rattle.script_lang.specs.Lines.{Line}
+use Rattle.script_lang.specs.Commands.{command_of}
+use Rattle.script_lang.specs.declared.commands.Command.{Command}
+use Rattle.script_lang.specs.declared.commands.Command.TheVariants.{Blank, Add, Del, Find, Count, Top, Files, Merge, Shards, Save, Load, Wrong}
+use Rattle.script_lang.specs.declared.refusals.Refusal.TheVariants.{LongLine}
+use Rattle.query_lanes.specs.declared.asks.Ask.{Ask}
+use Rattle.query_run.specs.States.{State}
+use Rattle.query_run.specs.Answers.{Reply, unchanged, refusal_lines, reply, answer, answers, after_reply, state_after, with_later, AllAnswered, AreRead, names_asked, names_kept, names_of, names_of_line, names_kept_of, names_kept_of_line}
+use Rattle.query_run.specs.Batches.{ask_lines, IsAskedBy, AsksLine, AreAsked, Begins}
+use Rattle.query_run.specs.declared.limits.Limits.{Limits}
+
+-- of a command that asks a query
+asked_reply : (limits : Limits) (state : State) (ask : Ask) (command : Command) → IsAskedBy ask command
+    → reply limits state command ≡ Some (unchanged state (ask_lines (text_of state.collection) ask))
+asked_reply limits state ask (Find query) asks = ap (λ l. Some (unchanged state l)) (sym (asks.lines_are (text_of state.collection)))
+asked_reply limits state ask (Count query) asks = ap (λ l. Some (unchanged state l)) (sym (asks.lines_are (text_of state.collection)))
+asked_reply limits state ask (Top most query) asks = ap (λ l. Some (unchanged state l)) (sym (asks.lines_are (text_of state.collection)))
+asked_reply limits state ask Blank asks = absurd asks
+asked_reply limits state ask (Add name) asks = absurd asks
+asked_reply limits state ask (Del id) asks = absurd asks
+asked_reply limits state ask Files asks = absurd asks
+asked_reply limits state ask Merge asks = absurd asks
+asked_reply limits state ask Shards asks = absurd asks
+asked_reply limits state ask (Save name) asks = absurd asks
+asked_reply limits state ask (Load name) asks = absurd asks
+asked_reply limits state ask Wrong asks = absurd asks
+
+asks_no_name : (ask : Ask) (command : Command) → IsAskedBy ask command → (names_asked command ≡ []) × (names_kept command ≡ [])
+asks_no_name ask (Find query) asks = (refl, refl)
+asks_no_name ask (Count query) asks = (refl, refl)
+asks_no_name ask (Top most query) asks = (refl, refl)
+asks_no_name ask Blank asks = absurd asks
+asks_no_name ask (Add name) asks = absurd asks
+asks_no_name ask (Del id) asks = absurd asks
+asks_no_name ask Files asks = absurd asks
+asks_no_name ask Merge asks = absurd asks
+asks_no_name ask Shards asks = absurd asks
+asks_no_name ask (Save name) asks = absurd asks
+asks_no_name ask (Load name) asks = absurd asks
+asks_no_name ask Wrong asks = absurd asks
+
+-- the answer to a line that asks a query is that to the query, and changes nothing
+pub batch_answers : (limits : Limits) (state : State) (ask : Ask) (line : Line) → AsksLine ask line
+    → answer limits state line ≡ Some (unchanged state (ask_lines (text_of state.collection) ask))
+batch_answers limits state ask line asks =
+    ap (λ (long : Bool). if long then Some (unchanged state (refusal_lines LongLine)) else reply limits state (command_of line.bytes)) asks.short
+    ∙ asked_reply limits state ask (command_of line.bytes) asks.asks
+
+line_names : (ask : Ask) (line : Line) → AsksLine ask line → names_of_line line ≡ []
+line_names ask line asks =
+    ap (λ (long : Bool). if long then [] else names_asked (command_of line.bytes)) asks.short ∙ (asks_no_name ask (command_of line.bytes) asks.asks).0
+
+line_names_kept : (ask : Ask) (line : Line) → AsksLine ask line → names_kept_of_line line ≡ []
+line_names_kept ask line asks =
+    ap (λ (long : Bool). if long then [] else names_kept (command_of line.bytes)) asks.short ∙ (asks_no_name ask (command_of line.bytes) asks.asks).1
+
+-- a batch changes nothing
+pub batch_state : (limits : Limits) (state : State) (asks : List Ask) (batch : List Line) → AreAsked asks batch → state_after limits state batch ≡ state
+batch_state limits state [] [] are = refl
+batch_state limits state [] (line ∷ batch) are = absurd are
+batch_state limits state (ask ∷ asks) [] are = absurd are
+batch_state limits state (ask ∷ asks) (line ∷ batch) are =
+    ap (λ (o : Option Reply). state_after limits (after_reply state o) batch) (batch_answers limits state ask line are.0) ∙ batch_state limits state asks batch are.1
+
+-- its answers are those to its queries, one behind the other
+pub batch_lines : (limits : Limits) (state : State) (asks : List Ask) (batch : List Line) → AreAsked asks batch
+    → answers limits state batch ≡ flat_map (ask_lines (text_of state.collection)) asks
+batch_lines limits state [] [] are = refl
+batch_lines limits state [] (line ∷ batch) are = absurd are
+batch_lines limits state (ask ∷ asks) [] are = absurd are
+batch_lines limits state (ask ∷ asks) (line ∷ batch) are =
+    ap (λ (o : Option Reply). with_later o (answers limits (after_reply state o) batch)) (batch_answers limits state ask line are.0)
+    ∙ ap (λ l. ask_lines (text_of state.collection) ask ++ l) (batch_lines limits state asks batch are.1)
+
+-- each of its lines is answered
+pub batch_answered : (limits : Limits) (state : State) (asks : List Ask) (batch : List Line) → AreAsked asks batch → AllAnswered limits state batch
+batch_answered limits state [] [] are = tt
+batch_answered limits state [] (line ∷ batch) are = absurd are
+batch_answered limits state (ask ∷ asks) [] are = absurd are
+batch_answered limits state (ask ∷ asks) (line ∷ batch) are =
+    let is = batch_answers limits state ask line are.0 in
+    (subst IsSome (sym is) refl, subst (λ (o : Option Reply). AllAnswered limits (after_reply state o) batch) (sym is) (batch_answered limits state asks batch are.1))
+
+-- it asks the files for nothing
+pub batch_names : (asks : List Ask) (batch : List Line) → AreAsked asks batch → names_of batch ≡ []
+batch_names [] [] are = refl
+batch_names [] (line ∷ batch) are = absurd are
+batch_names (ask ∷ asks) [] are = absurd are
+batch_names (ask ∷ asks) (line ∷ batch) are = ap (λ names. names ++ names_of batch) (line_names ask line are.0) ∙ batch_names asks batch are.1
+
+-- and gives them nothing
+pub batch_names_kept : (asks : List Ask) (batch : List Line) → AreAsked asks batch → names_kept_of batch ≡ []
+batch_names_kept [] [] are = refl
+batch_names_kept [] (line ∷ batch) are = absurd are
+batch_names_kept (ask ∷ asks) [] are = absurd are
+batch_names_kept (ask ∷ asks) (line ∷ batch) are = ap (λ names. names ++ names_kept_of batch) (line_names_kept ask line are.0) ∙ batch_names_kept asks batch are.1
+
+-- it has a query for each line
+pub batch_length : (asks : List Ask) (batch : List Line) → AreAsked asks batch → length batch ≡ length asks
+batch_length [] [] are = refl
+batch_length [] (line ∷ batch) are = absurd are
+batch_length (ask ∷ asks) [] are = absurd are
+batch_length (ask ∷ asks) (line ∷ batch) are = ap suc (batch_length asks batch are.1)
+
+-- what the lines behind it open is read rightly
+pub batch_read : (limits : Limits) (state : State) (asks : List Ask) (batch rest : List Line) → AreAsked asks batch → AreRead limits state (batch ++ rest) → AreRead limits state rest
+batch_read limits state [] [] rest are read = read
+batch_read limits state [] (line ∷ batch) rest are read = absurd are
+batch_read limits state (ask ∷ asks) [] rest are read = absurd are
+batch_read limits state (ask ∷ asks) (line ∷ batch) rest are read =
+    batch_read limits state asks batch rest are.1
+    (subst (λ (o : Option Reply). AreRead limits (after_reply state o) (batch ++ rest)) (batch_answers limits state ask line are.0) read.1)
