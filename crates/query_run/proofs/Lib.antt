@@ -1,5 +1,6 @@
 -- Lemmas, and worked examples.
 pub mod BatchLemmas
+pub mod BatchSteps
 pub mod ImageLemmas
 pub mod Replies
 pub mod SaveReplies

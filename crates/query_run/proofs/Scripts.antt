@@ -206,10 +206,15 @@ module _ (limits : Limits) where
         files = all_held _ _ held come.at.files;
       }
 
+  -- a line is completed or not
+  stops_further : (s : State) (o : Option Reply) (n now : ℕ) (after : EngineContent) → StopsWithin s o n now after → n ≤ now
+  stops_further s o n now after (inl before_it) = let same = before_it.0 in omega (arith, same)
+  stops_further s o n now after (inr after_it) = let same = after_it.0 in omega (arith, same)
+
   -- a stop within a line, or behind it
   pub line_stops : (s : State) (line : Line) (n now : ℕ) (held : Option Contents) (after : EngineContent) (mid new : Option (List ℕ)) → StopsWithin s (answer limits s line) n now after →
-      HoldsWithin s (answer limits s line) (names_kept_of_line line) n now held → GetsPart mid new (answer_text limits s line) → IsStopped limits s (line ∷ []) (now - n) after.version held mid new
-  line_stops s line n now held after mid new stop holds part = by_case stop (subst (λ l. GetsPart mid new (text_of_lines l)) (sym (one_more s line)) part)
+      HoldsWithin s (answer limits s line) (names_kept_of_line line) n now held → GetsPart mid new (answer_text limits s line) → (n ≤ now) × IsStopped limits s (line ∷ []) (now - n) after.version held mid new
+  line_stops s line n now held after mid new stop holds part = (stops_further s (answer limits s line) n now after stop, by_case stop (subst (λ l. GetsPart mid new (text_of_lines l)) (sym (one_more s line)) part))
     where
       Stopped : ℕ → Type 0
       Stopped m = IsStopped limits s (line ∷ []) m after.version held mid new
@@ -270,12 +275,20 @@ module _ (limits : Limits) where
       }
 
   -- the first lines of a script, and a stop within the batch behind them
-  pub stops_from : (all batch rest : List Line) (n m : ℕ) (held held' : Option Contents) (before after : EngineContent) (w a : Bool) (mid new : Option (List ℕ)) → n ≤ length all → n ≤ m → drop n all ≡ batch ++ rest →
-      ((s : State) → IsAt held before w s → AreRead limits s (batch ++ rest) → IsStopped limits s batch (m - n) after.version held' mid new) → StopsFrom limits all n m held held' before after w a mid new
-  stops_from all batch rest n m held held' before after w a mid new within further cut stop = λ start old read come.
+  pub stops_from : (all batch rest : List Line) (n m : ℕ) (held held' : Option Contents) (before after : EngineContent) (w a : Bool) (mid new : Option (List ℕ)) → n ≤ length all → drop n all ≡ batch ++ rest →
+      ((s : State) → IsAt held before w s → AreRead limits s (batch ++ rest) → (n ≤ m) × IsStopped limits s batch (m - n) after.version held' mid new) → StopsFrom limits all n m held held' before after w a mid new
+  stops_from all batch rest n m held held' before after w a mid new within cut stop = λ start old read come.
+      let here = stop (state_after limits start (take n all)) come.at (read_next start n all (batch ++ rest) read cut) in
+      let further : n ≤ m = here.0 in
       let count : n + (m - n) ≡ m = omega (arith, further) in
-      subst (λ (k : ℕ). IsStopped limits start all k after.version held' old new) count
-      (stopped start all batch rest n (m - n) held held' before after.version w a old mid new within cut come (stop (state_after limits start (take n all)) come.at (read_next start n all (batch ++ rest) read cut)))
+      subst (λ (k : ℕ). IsStopped limits start all k after.version held' old new) count (stopped start all batch rest n (m - n) held held' before after.version w a old mid new within cut come here.1)
+
+  -- a stop where as many lines are completed as were answered
+  pub stops_on : (all : List Line) (n m : ℕ) (held held' : Option Contents) (before after : EngineContent) (w w' a b : Bool) (mid new : Option (List ℕ)) → m ≤ length all →
+      ComesOn limits all n m held held' before after w w' a b mid new → StopsFrom limits all n m held held' before after w a mid new
+  stops_on all n m held held' before after w w' a b mid new within further = λ start old read come.
+      let here = further start old read come in
+      stopped_here start all m held' after after.version w' b old new within here here.at.keeps.stands
 
   -- a stop where nothing came behind the first lines of a script
   pub stays : (all : List Line) (n : ℕ) (held : Option Contents) (engine : EngineContent) (w a : Bool) (mid : Option (List ℕ)) → n ≤ length all → StopsFrom limits all n n held held engine engine w a mid mid
