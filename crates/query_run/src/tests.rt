@@ -240,9 +240,7 @@ fn files_are_added_listed_and_deleted(rt: HostRuntime) -> Result<(), Fail> {
 }
 
 #[test]
-fn no_byte_depends_on_the_readers_or_on_where_a_batch_ends(
-    rt: HostRuntime,
-) -> Result<(), Fail> {
+fn no_byte_depends_on_the_readers_or_on_where_a_batch_ends(rt: HostRuntime) -> Result<(), Fail> {
     for (readers, batch) in [(0, 64), (1, 64), (4, 2), (4, 1), (16, 64)] {
         let limits = Limits {
             batch,
@@ -318,7 +316,10 @@ fn one_query_of_a_run_comes_before_the_merge_and_the_next_one_after_it(
         &gate,
     );
     assert_eq!(rt; status, Status::Done);
-    assert_eq!(rt; sink.written(), b"file 0 0 7\nmerging\n= 2\n= 2\n".as_slice());
+    assert_eq!(rt;
+        sink.written(),
+        b"file 0 0 7\nmerging\n= 2\n= 2\n".as_slice()
+    );
     assert!(rt; !gate.ran_out());
     assert_eq!(rt; (gate.answered_on(1), gate.answered_on(2)), (1, 2));
     Ok(())
