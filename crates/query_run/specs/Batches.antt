@@ -1,5 +1,5 @@
 -- Batches of queries in a script, and the lines that answer them.
-use Rattle.std.specs.Prelude.{◌≡◌, ℕ, ◌<◌, ◌≤◌, false, List, [], ◌∷◌, ◌++◌, length, drop, ⊤, ⊥}
+use Rattle.std.specs.Prelude.{◌≡◌, ℕ, ◌<◌, ◌≤◌, Bool, true, false, List, [], ◌∷◌, ◌++◌, length, drop, ⊤, ⊥, if◌then◌else◌}
 use Rattle.gcl_model.specs.Texts.{Text}
 use Rattle.script_lang.specs.Lines.{Line, lines}
 use Rattle.script_lang.specs.Commands.{command_of}
@@ -32,6 +32,22 @@ IsAskedBy ask _ = ⊥
 pub record AsksLine (ask : Ask) (line : Line) : Type 0 where
   pub short : line.long ≡ false
   pub asks : IsAskedBy ask (command_of line.bytes)
+
+-- whether a command asks a query
+abbrev pub is_query : Command → Bool
+is_query (Find query) = true
+is_query (Count query) = true
+is_query (Top most query) = true
+is_query _ = false
+
+-- whether a line does; a long one does not
+abbrev pub asks_query : Line → Bool
+asks_query line = if line.long then false else is_query (command_of line.bytes)
+
+-- no query comes first: there is no line, or the first one asks none
+abbrev pub BeginWithNone : List Line → Type 0
+BeginWithNone [] = ⊤
+BeginWithNone (line ∷ rest) = asks_query line ≡ false
 
 -- each query is that of the line at its place, and they are equally many
 abbrev pub AreAsked : List Ask → List Line → Type 0

@@ -1,4 +1,4 @@
-ghost use Rattle.std.specs.Prelude.{◌≡◌, ℕ, ◌+◌, ◌≤◌, ◌<◌, false, [], length, drop, flat_map, IfOk, IfSome, OnOk};
+ghost use Rattle.std.specs.Prelude.{◌≡◌, ℕ, ◌+◌, ◌≤◌, ◌<◌, false, [], length, drop, flat_map, IfOk, IfSome, IsNone, OnOk};
 ghost use Rattle.gcl_model.specs.Collections.{text_of};
 ghost use Rattle.image_file.specs.Images.{CanBeSaved};
 ghost use Rattle.collection.specs.Engines.{merge_end};
@@ -8,7 +8,7 @@ ghost use Rattle.script_lang.specs.Lines.{lines};
 ghost use Rattle.query_lanes.specs.Readers.{AreOf};
 ghost use Rattle.query_run.specs.States.{State, Keeps};
 ghost use Rattle.query_run.specs.Answers.{found_lines};
-ghost use Rattle.query_run.specs.Batches.{ask_lines, IsAskedBy, Begins, IsNextAsk};
+ghost use Rattle.query_run.specs.Batches.{ask_lines, is_query, IsAskedBy, Begins, BeginWithNone, IsNextAsk};
 ghost use Rattle.query_run.specs.Progress.{Says, wish};
 
 use crate::queries::{ask_of, put_found};
@@ -39,13 +39,22 @@ pub(crate) struct NextAsk {
 
 // The query of a line, if it asks one.
 fn ask_of_line(alloc: Global, line: &[u8], number: u64) -> Result<Option<Ask>, AllocError>
-    ensures { IfOk result (λ some. IfSome some (λ ask. IsAskedBy ask (command_of line.now))) }
+    ensures query { IfOk result (λ some. IfSome some (λ ask. IsAskedBy ask (command_of line.now))) }
+    ensures none { IfOk result (λ some. IsNone some → is_query (command_of line.now) ≡ false) }
 {
     match command(alloc, line)? {
         Command::Find(query) => Ok(Some(ask_of(alloc, number, Asked::All, &query)?)),
         Command::Count(query) => Ok(Some(ask_of(alloc, number, Asked::Number, &query)?)),
         Command::Top(most, query) => Ok(Some(ask_of(alloc, number, Asked::First(most), &query)?)),
-        _ => Ok(None),
+        Command::Blank
+        | Command::Add(_)
+        | Command::Del(_)
+        | Command::Files
+        | Command::Merge
+        | Command::Shards
+        | Command::Save(_)
+        | Command::Load(_)
+        | Command::Wrong => Ok(None),
     }
 }
 
@@ -58,7 +67,8 @@ fn next_ask(
     number: u64,
 ) -> Result<Option<NextAsk>, AllocError>
     requires { at ≤ length script.now }
-    ensures { IfOk result (λ some. IfSome some (IsNextAsk line_most script.now at)) }
+    ensures next { IfOk result (λ some. IfSome some (IsNextAsk line_most script.now at)) }
+    ensures none { IfOk result (λ some. IsNone some → BeginWithNone (lines line_most (drop at script.now))) }
 {
     let Some(cut) = line_at(script, at, line_most) else {
         return Ok(None);
@@ -92,13 +102,14 @@ pub fn take_batch(
     ensures few { IfOk result (λ batch. length batch.asks.items ≤ most) }
     ensures begins { IfOk result (λ batch. Begins batch.asks.items (lines line_most (drop at script.now)) (lines line_most (drop batch.after script.now))) }
     ensures counted { IfOk result (λ batch. at + length batch.asks.items ≤ batch.after) }
+    ensures longest { IfOk result (λ batch. length batch.asks.items < most → BeginWithNone (lines line_most (drop batch.after script.now))) }
 {
     let mut asks = Vec::new(alloc);
     let mut after = at;
     let mut number = number;
     while asks.len() < most {
         let Some(next) = next_ask(alloc, script, after, line_most, number)? else {
-            break;
+            return Ok(Batch { asks, after });
         };
         asks.push(next.ask)?;
         after = next.after;
@@ -113,8 +124,7 @@ fn put_all(out: &mut Vec<u8>, answers: &[Found]) -> Result<bool, AllocError>
 {
     let mut refused = false;
     for found in answers {
-        let is_refusal = put_found(out, found)?;
-        refused = refused || is_refusal;
+        refused |= put_found(out, found)?;
     }
     Ok(refused)
 }
