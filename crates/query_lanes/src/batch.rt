@@ -8,6 +8,7 @@ ghost use Rattle.query_lanes.specs.Lanes.{AreRun};
 ghost use Rattle.query_lanes.specs.Merges.{IsMerged, IsMergedWhere, HasOneText};
 ghost use Rattle.query_lanes.specs.Readers.{AreOf};
 
+use crate::alone::{answer_all, merge_where};
 use crate::asks::{Ask, Found};
 use crate::gather::gather;
 use crate::lanes::run_lanes;
@@ -85,12 +86,29 @@ fn run_all<R: Threads + Wait + Sync, G: Gate + Sync>(
     Ok(())
 }
 
-/// Answers a batch of queries in lanes, one for each reader, and merges beside them where that is wanted. The query at place `j`, counted
-/// from 0, goes to lane `j` modulo the number of lanes; with no reader each is answered on the engine's own pass. `works` has one for
-/// each reader, and nothing in it matters. The answers come in the order of the queries. At `Err` memory was wanted.
-///
-/// Over `to be or not to be` the batch `find "to"`, `count "be"` is answered by the list 1 to 1, 5 to 5, and the number 2.
-pub fn answer_batch<R: Threads + Wait + Sync, G: Gate + Sync>(
+// A batch that needs no lanes: the merge, where it is wanted, and then each query on the engine's own pass.
+fn answer_in_turn<R: Wait, G: Gate>(
+    rt: &R,
+    alloc: Global,
+    gate: &G,
+    asks: &[Ask],
+    wanted: bool,
+    engine: &mut Engine,
+) -> Result<Vec<Found>, AllocError>
+    requires number { engine.old.version.number < merge_end }
+    ensures answers { (c : Collection) → StandsFor engine.old.version c → IfOk result (λ answers. answers.items ≡ map (answer_in (text_of c)) asks.now) }
+    ensures merged { OnOk result (IsMergedWhere wanted engine.old engine.new) }
+    ensures err { OnErr result ((engine.new ≡ engine.old) ⊎ IsMergedWhere wanted engine.old engine.new) }
+    ensures stands { Keeps engine.old.version engine.new.version }
+    ensures publisher { engine.new.publisher ≡ engine.old.publisher }
+{
+    merge_where(rt, gate, wanted, engine)?;
+    let answers = answer_all(alloc, gate, engine, asks)?;
+    Ok(answers)
+}
+
+// A batch in lanes, one for each of these readers.
+fn answer_in_lanes<R: Threads + Wait + Sync, G: Gate + Sync>(
     rt: &R,
     alloc: Global,
     gate: &G,
@@ -117,5 +135,53 @@ pub fn answer_batch<R: Threads + Wait + Sync, G: Gate + Sync>(
         return Err(AllocError);
     }
     let answers = gather(alloc, engine, works, asks)?;
+    Ok(answers)
+}
+
+/// Answers a batch of queries in lanes, one for each reader, and merges beside them where that is wanted. The query at place `j`, counted
+/// from 0, goes to lane `j` modulo the number of lanes; with no reader each is answered on the engine's own pass. `works` has one for
+/// each reader, and nothing in it matters. The answers come in the order of the queries. At `Err` memory was wanted.
+///
+/// Over `to be or not to be` the batch `find "to"`, `count "be"` is answered by the list 1 to 1, 5 to 5, and the number 2.
+pub fn answer_batch<R: Threads + Wait + Sync, G: Gate + Sync>(
+    rt: &R,
+    alloc: Global,
+    gate: &G,
+    asks: &[Ask],
+    wanted: bool,
+    engine: &mut Engine,
+    works: &mut [Work],
+    readers: &mut [Reader],
+) -> Result<Vec<Found>, AllocError>
+    requires same { length works.old ≡ length readers.old }
+    requires few { length readers.old ≤ 16 }
+    requires of { AreOf engine.old.publisher readers.old }
+    requires number { engine.old.version.number < merge_end }
+    ensures answers { (c : Collection) → StandsFor engine.old.version c → IfOk result (λ answers. answers.items ≡ map (answer_in (text_of c)) asks.now) }
+    ensures merged { OnOk result (IsMergedWhere wanted engine.old engine.new) }
+    ensures err { OnErr result ((engine.new ≡ engine.old) ⊎ IsMergedWhere wanted engine.old engine.new) }
+    ensures stands { Keeps engine.old.version engine.new.version }
+    ensures of { AreOf engine.new.publisher readers.new }
+{
+    // one query takes no thread of its own, and no entering
+    let sides = if wanted { 1 } else { 2 };
+    if readers.is_empty() || asks.len() < sides {
+        let answers = answer_in_turn(rt, alloc, gate, asks, wanted, engine)?;
+        return Ok(answers);
+    }
+    // a reader without a query is left as it is
+    let lanes = readers.len().min(asks.len());
+    let (works_used, _) = works.split_at_mut(lanes);
+    let (readers_used, _) = readers.split_at_mut(lanes);
+    let answers = answer_in_lanes(
+        rt,
+        alloc,
+        gate,
+        asks,
+        wanted,
+        engine,
+        works_used,
+        readers_used,
+    )?;
     Ok(answers)
 }

@@ -5,8 +5,8 @@ ghost use Rattle.query_lanes.specs.declared.work.Made.{Made};
 ghost use Rattle.query_lanes.specs.Answers.{answer_in};
 ghost use Rattle.query_lanes.specs.Lanes.{AreTrusted};
 
+use crate::alone::answer_alone;
 use crate::asks::{Ask, Found};
-use crate::found::find;
 use crate::work::{Made, Work};
 use collection::Engine;
 use std::alloc::{AllocError, Global};
@@ -43,20 +43,6 @@ fn take_kept(engine: &Engine, works: &mut [Work], asks: &[Ask], j: usize) -> Opt
     Some(made.found)
 }
 
-// Answers a query on the engine's own pass.
-fn answer_again(alloc: Global, engine: &Engine, ask: &Ask) -> Result<Found, AllocError>
-    ensures { IfOk result (λ found. found ≡ answer_in (version_text engine.now.version) ask.now) }
-{
-    match &ask.query {
-        Ok(expr) => {
-            let pass = engine.pass()?;
-            let found = find(alloc, &pass, ask.asked, expr)?;
-            Ok(found)
-        }
-        Err(fault) => Ok(Found::Refused(*fault)),
-    }
-}
-
 // The answer to the query at `j`.
 fn answer_at(
     alloc: Global,
@@ -73,7 +59,7 @@ fn answer_at(
     if let Some(found) = take_kept(engine, works, asks, j) {
         return Ok(found);
     }
-    let found = answer_again(alloc, engine, &asks[j])?;
+    let found = answer_alone(alloc, engine, &asks[j])?;
     Ok(found)
 }
 

@@ -15,6 +15,7 @@
 //! a version that it entered is one of the engine's where its number is not above the engine's. Each other answer is made again.
 #![tactic(auto)]
 
+mod alone;
 mod asks;
 mod batch;
 mod enter;
@@ -26,6 +27,7 @@ mod merging;
 mod settle;
 mod work;
 
+pub use alone::answer_alone;
 pub use asks::{Ask, Asked, Found};
 pub use batch::answer_batch;
 pub use work::Work;

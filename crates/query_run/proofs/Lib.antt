@@ -1,10 +1,10 @@
 -- Lemmas, and worked examples.
+pub mod BatchLemmas
+pub mod BatchSteps
 pub mod ImageLemmas
-pub mod Passes
 pub mod Replies
 pub mod SaveReplies
 pub mod Scripts
-pub mod ShortLemmas
 pub mod Told
 mod Worked
 pub mod Writing

@@ -1,41 +1,31 @@
 -- The replies to commands, by what an engine does.
-use Rattle.std.proofs.Common.{◌≡◌, ℕ, ◌+◌, ◌-◌, ◌≤◌, ◌<◌, inl, inr, Bool, true, false, List, [], ◌∷◌, ◌++◌, map, take, length, refl, sym, ap, ◌∙◌, arith, append_assoc, append-nil, Option, None, Some, nat_lt, subst}
+use Rattle.std.proofs.Common.{◌≡◌, ℕ, ◌+◌, ◌-◌, ◌≤◌, ◌<◌, inl, inr, Bool, true, false, List, [], ◌∷◌, ◌++◌, map, length, refl, sym, ap, ◌∙◌, arith, append_assoc, append-nil, Option, None, Some, nat_lt, subst}
 use Rattle.std.specs.List.{list_any}
 use Rattle.std.proofs.lemmas.Bool.Decides.{nat_tests}
 use Rattle.std.proofs.lemmas.List.{length-append, length-map}
 use Rattle.std.proofs.lemmas.List.Folds.{list_any-append}
 use Rattle.std.proofs.lemmas.Grind.{flat_map-append}
 use Rattle.gcl_model.specs.Extents.{Extent}
-use Rattle.gcl_model.specs.Forms.{Form}
-use Rattle.gcl_model.specs.Meaning.{concordance}
 use Rattle.gcl_model.specs.Limits.{address_end}
-use Rattle.gcl_model.specs.Texts.{Text}
 use Rattle.gcl_model.specs.Tokens.{tokens_of}
 use Rattle.gcl_model.specs.Slots.{SlotRange, slot_range, slots_after_add, slots_after_merge}
-use Rattle.gcl_model.specs.Collections.{Collection, width_of, text_of, without_file, has_file}
+use Rattle.gcl_model.specs.Collections.{Collection, width_of, without_file, has_file}
 use Rattle.address_space.specs.Runs.{FileEntry}
-use Rattle.live_version.specs.Contents.{SlotContent, VersionContent, ranges_of, files_of, version_text}
+use Rattle.live_version.specs.Contents.{SlotContent, VersionContent, ranges_of, files_of}
 use Rattle.live_version.specs.Changes.{file_with_id}
 use Rattle.live_version.specs.StandsFor.{StandsFor, entry_of}
-use Rattle.live_version.proofs.PartLaws.{has_text, has_files}
+use Rattle.live_version.proofs.PartLaws.{has_files}
 use Rattle.collection.specs.Engines.{EngineContent}
 use Rattle.collection.specs.Changes.{IsAdd}
 use Rattle.collection.specs.declared.engine.Added.{Added}
 use Rattle.script_lang.specs.Answers.{file_line, gone_line, interval_line, total_line, shards_line, merging_line, is_refusal}
 use Rattle.script_lang.specs.declared.commands.Command.TheVariants.{Add}
-use Rattle.script_lang.specs.declared.refusals.Refusal.TheVariants.{Query, TooLong, NoAddresses, NoFile}
-use Rattle.gcl_parser.specs.declared.fault.QueryFault.{QueryFault}
-use Rattle.gcl_parser.specs.Grammar.{IsQueryWithin}
-use Rattle.gcl_parser.specs.Refusal.{refused}
-use Rattle.gcl_parser.specs.QueryForm.{query_form}
-use Rattle.gcl_parser.proofs.QueryForms.{query_forms_are_of_queries}
+use Rattle.script_lang.specs.declared.refusals.Refusal.TheVariants.{TooLong, NoAddresses, NoFile}
 use Rattle.script_lang.proofs.AnswerLemmas.{interval_line-plain, total_line-plain, record_line-plain}
 use Rattle.query_run.specs.States.{State, Keeps}
-use Rattle.query_run.specs.Answers.{Reply, text_of_lines, refusal_lines, unchanged, last_address, state_with_file, state_without_file, state_merged, content_reply, del_reply, list_lines, record_lines, files_lines, asked_lines, query_lines, lines_by, reply}
+use Rattle.query_run.specs.Answers.{Reply, text_of_lines, refusal_lines, unchanged, last_address, state_with_file, state_without_file, state_merged, content_reply, del_reply, list_lines, record_lines, files_lines, reply}
 use Rattle.query_run.specs.Progress.{Says, Follows, Gives, StopsWithin}
 use Rattle.query_run.specs.declared.limits.Limits.{Limits}
-use Rattle.query_run.specs.declared.queries.Asked.{Asked}
-use Rattle.query_run.specs.declared.queries.Asked.TheVariants.{All, First, Number}
 
 -- lines, and then one more
 pub one_more : (lines : List (List ℕ)) (last old mid new : List ℕ) → mid ≡ old ++ text_of_lines lines → new ≡ mid ++ last ++ 10 ∷ [] → new ≡ old ++ text_of_lines (lines ++ last ∷ [])
@@ -59,7 +49,8 @@ records_plain : (files : List FileEntry) → list_any is_refusal (record_lines f
 records_plain [] = refl
 records_plain (file ∷ files) = rw (record_line-plain file) (records_plain files)
 
-list_plain : (list : List Extent) → list_any is_refusal (list_lines list) ≡ false
+-- no line of a list is a refusal
+pub list_plain : (list : List Extent) → list_any is_refusal (list_lines list) ≡ false
 list_plain list = last_plain (map interval_line list) (length list) (intervals_plain list)
 
 -- some files, a line each, and then a number
@@ -75,36 +66,6 @@ pub files_listed : (v : VersionContent) (c : Collection) → StandsFor v c → r
 files_listed v c stands =
     let number : length (map entry_of c.files) ≡ length c.files = length-map c.files entry_of in
     ap (λ (files : List FileEntry). record_lines files ++ total_line (length files) ∷ []) stands.files ∙ ap (λ (n : ℕ). record_lines (map entry_of c.files) ++ total_line n ∷ []) number
-
--- what is asked of a list is no refusal
-asked_plain : (asked : Asked) (list : List Extent) → list_any is_refusal (asked_lines asked list) ≡ false
-asked_plain All list = list_plain list
-asked_plain (First most) list = list_plain (take most list)
-asked_plain Number list = rw (total_line-plain (length list)) refl
-
-pub no_fault : (fault : Option QueryFault) → ((wrong : QueryFault) → fault ≡ Some wrong → ⊥) → fault ≡ None
-no_fault None none = refl
-no_fault (Some wrong) none = absurd (none wrong refl)
-
--- the lines of a query are those of the one form that it stands for
-pub query_said : (asked : Asked) (text : Text) (query : List ℕ) (form : Form) (old new : List ℕ) → refused query ≡ None → IsQueryWithin query form →
-    new ≡ old ++ text_of_lines (asked_lines asked (concordance text form)) → Says (query_lines asked text query) old new false
-query_said asked text query form old new none within is =
-    let found : query_form query ≡ Some form = (query_forms_are_of_queries query form).1 within in
-    let lines : query_lines asked text query ≡ asked_lines asked (concordance text form) = ap (λ fault. lines_by asked text fault (query_form query)) none ∙ ap (lines_by asked text None) found in
-    record {
-      text = is ∙ ap (λ l. old ++ text_of_lines l) (sym lines);
-      refusal_is = sym (ap (list_any is_refusal) lines ∙ asked_plain asked (concordance text form));
-    }
-
-pub query_refused : (asked : Asked) (text : Text) (query : List ℕ) (wrong : QueryFault) (old new : List ℕ) (refusal : Bool) → refused query ≡ Some wrong →
-    Says (refusal_lines (Query wrong)) old new refusal → Says (query_lines asked text query) old new refusal
-query_refused asked text query wrong old new refusal is said =
-    let lines : query_lines asked text query ≡ refusal_lines (Query wrong) = ap (λ fault. lines_by asked text fault (query_form query)) is in
-    record {
-      text = said.text ∙ ap (λ l. old ++ text_of_lines l) (sym lines);
-      refusal_is = said.refusal_is ∙ ap (list_any is_refusal) (sym lines);
-    }
 
 -- a reply that there is
 pub gives : (told : Option Reply) (reply : Reply) (engine : EngineContent) (wanted : Bool) (old new : List ℕ) (refusal : Bool) → told ≡ Some reply → Follows reply engine wanted old new refusal →
@@ -226,12 +187,6 @@ kept_by_wish engine state keeps = record {
 -- the number of slots is that of the state
 pub slots_counted : (engine : EngineContent) (state : State) → Keeps engine false state → length engine.version.slots ≡ length state.slots
 slots_counted engine state keeps = sym (ap length keeps.slots ∙ length-map engine.version.slots (λ (slot : SlotContent). slot.range))
-
--- a query on the engine's version is one on the collection of the state
-pub asked_now : (engine : EngineContent) (state : State) (asked : Asked) (query old new : List ℕ) (refusal : Bool) → Keeps engine false state →
-    Says (query_lines asked (version_text engine.version) query) old new refusal → Says (query_lines asked (text_of state.collection) query) old new refusal
-asked_now engine state asked query old new refusal keeps said =
-    subst (λ (text : Text). Says (query_lines asked text query) old new refusal) (has_text engine.version state.collection keeps.stands) said
 
 -- a refusal, which changes nothing
 pub refused_follows : (reply : Reply) (state : State) (lines : List (List ℕ)) (before after : EngineContent) (old new : List ℕ) (refusal : Bool) → reply ≡ unchanged state lines →

@@ -1,9 +1,12 @@
 -- Answers to lists of lines that are put together, and how far a script has come.
 use Rattle.std.proofs.Common.{◌≡◌, ℕ, ◌+◌, ◌-◌, ◌≤◌, inl, inr, Bool, true, false, nat_lt, List, [], ◌∷◌, ◌++◌, length, take, drop, zero, suc, refl, sym, ap, ◌∙◌, append_assoc, append-nil, Option, Some, None, IsSome, IfSome, IsSomeAnd, length-append, subst, arith, take-add, take_all}
-use Rattle.std.proofs.lemmas.List.{take-take, take-append-drop, length-drop, drop-drop}
-use Rattle.std.specs.Prelude.{◌||◌, Err, if◌then◌else◌}
+use Rattle.std.proofs.lemmas.List.{take-append-drop, take-append-le, drop-append-le, length-drop, drop-drop}
+use Rattle.std.proofs.lemmas.List.Elements.{Contains-append_left}
+use Rattle.std.proofs.Math.Seq.{take-append_seam, drop-append_seam}
+use Rattle.std.specs.List.{list_any}
+use Rattle.std.specs.Prelude.{◌||◌, ◌⊎◌, Contains, Err, flat_map, if◌then◌else◌}
 use Rattle.std.specs.Option.{option_map}
-use Rattle.std.specs.Io.KnownBytes.{Consumes, IsAtEnd}
+use Rattle.std.specs.Io.KnownBytes.{Appends, Consumes, IsAtEnd}
 use Rattle.std.proofs.lemmas.List.Folds.{list_any-append}
 use Rattle.std.proofs.lemmas.Grind.{flat_map-append}
 use Rattle.outside.specs.Contents.{Contents}
@@ -13,7 +16,7 @@ use Rattle.gcl_model.specs.Tokens.{tokens_of}
 use Rattle.gcl_model.specs.Collections.{Collection, empty_from, has_file, width_of}
 use Rattle.live_version.specs.Contents.{VersionContent, ranges_of}
 use Rattle.script_lang.specs.Lines.{Line, lines}
-use Rattle.script_lang.specs.Answers.{file_line, gone_line}
+use Rattle.script_lang.specs.Answers.{file_line, gone_line, is_refusal}
 use Rattle.script_lang.specs.Commands.{command_of}
 use Rattle.script_lang.specs.declared.commands.Command.{Command}
 use Rattle.script_lang.specs.declared.commands.Command.TheVariants.{Blank, Add, Del, Find, Count, Top, Files, Merge, Shards, Save, Load, Wrong}
@@ -23,7 +26,7 @@ use Rattle.collection.specs.Engines.{EngineContent}
 use Rattle.query_run.specs.States.{State, opening, Keeps, IsFresh}
 use Rattle.query_run.specs.Images.{Images}
 use Rattle.query_run.specs.Answers.{Reply, text_of_lines, answer, after_reply, state_after, with_later, answers, AllAnswered, AreRead, IsRead, names_of, names_of_line, names_kept, names_kept_of, names_kept_of_line, unchanged, refusal_lines, content_reply, add_reply, image_reply, open_reply, reading_reply, last_address, state_with_file, state_without_file, reply}
-use Rattle.query_run.specs.Progress.{lines_of, answer_text, AreAnswered, HasCome, HasWritten, HoldsSaved, HoldsWithin, IsAt, StopsWithin}
+use Rattle.query_run.specs.Progress.{lines_of, answer_text, AreAnswered, ComesOn, HasCome, HasWritten, HoldsSaved, HoldsWithin, IsAt, StopsFrom, StopsWithin}
 use Rattle.query_run.specs.Runs.{GetsPart, HasAnswered, HoldsBut, IsLeftBy, IsStopped, HandsOverMore}
 use Rattle.query_run.specs.declared.limits.Limits.{Limits}
 use Rattle.query_run.proofs.Writing.{Appends-trans, Appends-none}
@@ -42,24 +45,50 @@ later_none : (o : Option Reply) → with_later o [] ≡ lines_of o
 later_none None = refl
 later_none (Some reply) = append-nil reply.lines
 
--- the next line, and those after it
-pub take_next : {T : Type 0} (n : ℕ) (all rest : List T) (line : T) → drop n all ≡ line ∷ rest → take (n + 1) all ≡ take n all ++ line ∷ []
-take_next n all rest line is = take-add n 1 all ∙ ap (λ l. take n all ++ take 1 l) is
+-- the lines that come next, and those after them
+pub take_more : {T : Type 0} (n : ℕ) (all batch rest : List T) → drop n all ≡ batch ++ rest → take (n + length batch) all ≡ take n all ++ batch
+take_more n all batch rest is = take-add n (length batch) all ∙ ap (λ l. take n all ++ take (length batch) l) is ∙ ap (λ l. take n all ++ l) (take-append_seam batch rest)
 
-pub drop_next : {T : Type 0} (n : ℕ) (all rest : List T) (line : T) → drop n all ≡ line ∷ rest → drop (n + 1) all ≡ rest
-drop_next n all rest line is = sym (drop-drop 1 n all) ∙ ap (drop 1) is
+pub drop_more : {T : Type 0} (n : ℕ) (all batch rest : List T) → drop n all ≡ batch ++ rest → drop (n + length batch) all ≡ rest
+drop_more n all batch rest is = sym (drop-drop (length batch) n all) ∙ ap (drop (length batch)) is ∙ drop-append_seam batch rest
 
--- the place of the next line lies within
-pub next_within : {T : Type 0} (n : ℕ) (all rest : List T) (line : T) → drop n all ≡ line ∷ rest → n + 1 ≤ length all
-next_within n all rest line is =
+-- their places lie within
+pub more_within : {T : Type 0} (n : ℕ) (all batch rest : List T) → n ≤ length all → drop n all ≡ batch ++ rest → n + length batch ≤ length all
+more_within n all batch rest within is =
+    let left : length all - n ≡ length batch + length rest = sym (length-drop n all) ∙ ap length is ∙ length-append batch rest in
+    omega (arith, left, within)
+
+-- some line is left at a place within
+pub place_within : {T : Type 0} (n : ℕ) (all rest : List T) (line : T) → drop n all ≡ line ∷ rest → n + 1 ≤ length all
+place_within n all rest line is =
     let left : length all - n ≡ suc (length rest) = sym (length-drop n all) ∙ ap length is in
     omega (arith, left)
+
+-- the first of some lines and others
+take_first : {T : Type 0} (k : ℕ) (xs ys : List T) → (more : List T) × (take k (xs ++ ys) ≡ take k xs ++ more)
+take_first zero xs ys = ([], refl)
+take_first (suc k) [] ys = (take (suc k) ys, refl)
+take_first (suc k) (x ∷ xs) ys =
+    let later = take_first k xs ys in
+    (later.0, ap (λ l. x ∷ l) later.1)
 
 -- nothing is left after the last one
 pub none_after : {T : Type 0} (n : ℕ) (all : List T) → drop n all ≡ [] → length all ≤ n
 none_after n all is =
     let left : length all - n ≡ 0 = sym (length-drop n all) ∙ ap length is in
     omega (arith, left)
+
+-- files that hold all of this hold it but for some names
+pub all_held : (names : List (List ℕ)) (files : Contents) (held : Option Contents) → held ≡ Some files → HoldsBut names files held
+all_held names files held is = record { contents = files; is = is; same = λ name. inl refl }
+
+-- what holds but for some names does so but for these and more
+held_more : (names more : List (List ℕ)) (files : Contents) (held : Option Contents) → HoldsBut names files held → HoldsBut (names ++ more) files held
+held_more names more files held but = record { contents = but.contents; is = but.is; same = λ name. either name (but.same name) }
+  where
+    either : (name : List ℕ) → (but.contents name ≡ files name) ⊎ Contains names name → (but.contents name ≡ files name) ⊎ Contains (names ++ more) name
+    either name (inl same) = inl same
+    either name (inr kept) = inr (Contains-append_left names more name kept)
 
 module _ (limits : Limits) where
   pub answers-append : (s : State) (xs ys : List Line) → AllAnswered limits s xs → answers limits s (xs ++ ys) ≡ answers limits s xs ++ answers limits (state_after limits s xs) ys
@@ -84,27 +113,26 @@ module _ (limits : Limits) where
       let later = answers_begin next xs ys in
       later_begin (answer limits s line) (answers limits next xs) (answers limits next (xs ++ ys)) later.0 later.1
 
-  -- the text of the answers to the lines of a beginning begins that of all
-  pub text_begins : (s : State) (all : List Line) (n : ℕ) → (more : List ℕ) × (text_of_lines (answers limits s all) ≡ text_of_lines (answers limits s (take n all)) ++ more)
-  text_begins s all n =
-      let begin = answers_begin s (take n all) (drop n all) in
-      let whole : answers limits s all ≡ answers limits s (take n all) ++ begin.0 = ap (answers limits s) (sym (take-append-drop n all)) ∙ begin.1 in
-      (text_of_lines begin.0, ap text_of_lines whole ∙ flat_map-append _ (answers limits s (take n all)) begin.0)
+  -- a part of the answers to some lines is one of those to these and more
+  pub part_of_more : (s : State) (xs ys : List Line) (old new : Option (List ℕ)) → GetsPart old new (text_of_lines (answers limits s xs)) → GetsPart old new (text_of_lines (answers limits s (xs ++ ys)))
+  part_of_more s xs ys old new part =
+      let begin = answers_begin s xs ys in
+      let whole : text_of_lines (answers limits s (xs ++ ys)) ≡ text_of_lines (answers limits s xs) ++ text_of_lines begin.0 = ap text_of_lines begin.1 ∙ flat_map-append _ (answers limits s xs) begin.0 in
+      record {
+        part = part.part;
+        rest = part.rest ++ text_of_lines begin.0;
+        whole = whole ∙ ap (λ l. l ++ text_of_lines begin.0) part.whole ∙ append_assoc part.part part.rest (text_of_lines begin.0);
+        written = part.written;
+      }
 
   -- a part of the answers to a beginning is one of all
   pub part_of_all : (s : State) (all : List Line) (n : ℕ) (old new : Option (List ℕ)) → GetsPart old new (text_of_lines (answers limits s (take n all))) → GetsPart old new (text_of_lines (answers limits s all))
   part_of_all s all n old new part =
-      let more = text_begins s all n in
-      record {
-        part = part.part;
-        rest = part.rest ++ more.0;
-        whole = more.1 ∙ ap (λ l. l ++ more.0) part.whole ∙ append_assoc part.part part.rest more.0;
-        written = part.written;
-      }
+      subst (λ (l : List Line). GetsPart old new (text_of_lines (answers limits s l))) (take-append-drop n all) (part_of_more s (take n all) (drop n all) old new part)
 
   -- nothing was answered yet
-  pub begins : (start : State) (held : Option Contents) (engine : EngineContent) (old : Option (List ℕ)) → IsAt held engine false start → HasCome limits start [] held engine false false old old
-  begins start held engine old at = record { are = record { answered = tt; refusal_is = refl; written = Appends-none old }; at = at }
+  pub begins : (start : State) (held : Option Contents) (engine : EngineContent) (w : Bool) (old : Option (List ℕ)) → IsAt held engine w start → HasCome limits start [] held engine w false old old
+  begins start held engine w old at = record { are = record { answered = tt; refusal_is = refl; written = Appends-none old }; at = at }
 
   -- the answers to a line that comes after others
   one_more : (s : State) (line : Line) → answers limits s (line ∷ []) ≡ lines_of (answer limits s line)
@@ -119,137 +147,163 @@ module _ (limits : Limits) where
   is_some : (o : Option Reply) (reply : Reply) → o ≡ Some reply → IsSome o
   is_some o reply is = subst IsSome (sym is) refl
 
-  -- a line further
-  pub goes_on : (start : State) (done : List Line) (line : Line) (held held' : Option Contents) (before after : EngineContent) (w w' a b : Bool) (old mid new : Option (List ℕ)) →
-      HasCome limits start done held before w a old mid → HasWritten limits (state_after limits start done) line after w' b mid new →
-      held' ≡ Some (after_reply (state_after limits start done) (answer limits (state_after limits start done) line)).files → HasCome limits start (done ++ line ∷ []) held' after w' (a || b) old new
-  goes_on start done line held held' before after w w' a b old mid new come step files =
-      let s : State = state_after limits start done in
+  -- a line was answered and written
+  pub line_comes : (s : State) (line : Line) (held : Option Contents) (after : EngineContent) (w refusal : Bool) (old new : Option (List ℕ)) → HasWritten limits s line after w refusal old new →
+      held ≡ Some (after_reply s (answer limits s line)).files → HasCome limits s (line ∷ []) held after w refusal old new
+  line_comes s line held after w refusal old new step files =
       let o : Option Reply = answer limits s line in
-      let all : answers limits start (done ++ line ∷ []) ≡ answers limits start done ++ step.reply.lines =
-      answers-append start done (line ∷ []) come.are.answered ∙ ap (λ l. answers limits start done ++ l) (one_more s line ∙ reply_lines o step.reply step.is) in
-      let now : state_after limits start (done ++ line ∷ []) ≡ step.reply.after = state_after-append start done (line ∷ []) ∙ reply_after s o step.reply step.is in
+      let all : answers limits s (line ∷ []) ≡ step.reply.lines = one_more s line ∙ reply_lines o step.reply step.is in
       record {
         are = record {
-          answered = all_answered-append start done (line ∷ []) come.are.answered (is_some o step.reply step.is, tt);
-          refusal_is = rw (come.are.refusal_is, step.refusal_is, all, list_any-append) refl;
-          written = rw (all, flat_map-append) (Appends-trans old mid new _ _ come.are.written step.written);
+          answered = (is_some o step.reply step.is, tt);
+          refusal_is = step.refusal_is ∙ ap (list_any is_refusal) (sym all);
+          written = subst (λ l. Appends old new (text_of_lines l)) (sym all) step.written;
         };
-        at = record {
-          files = files ∙ ap (λ (u : State). Some u.files) (reply_after s o step.reply step.is ∙ sym now);
-          keeps = subst (Keeps after w') (sym now) step.keeps;
-        };
+        at = record { files = files; keeps = subst (Keeps after w) (sym (reply_after s o step.reply step.is)) step.keeps };
       }
 
-  -- files that hold all of this hold it but for some names
-  all_held : (names : List (List ℕ)) (files : Contents) (held : Option Contents) → held ≡ Some files → HoldsBut names files held
-  all_held names files held is = record { contents = files; is = is; same = λ name. inl refl }
+  -- some lines further
+  pub goes_on : (start : State) (done batch : List Line) (held held' : Option Contents) (before after : EngineContent) (w w' a b : Bool) (old mid new : Option (List ℕ)) →
+      HasCome limits start done held before w a old mid → HasCome limits (state_after limits start done) batch held' after w' b mid new → HasCome limits start (done ++ batch) held' after w' (a || b) old new
+  goes_on start done batch held held' before after w w' a b old mid new come step =
+      let all = answers-append start done batch come.are.answered in
+      record {
+        are = record {
+          answered = all_answered-append start done batch come.are.answered step.are.answered;
+          refusal_is = rw (come.are.refusal_is, step.are.refusal_is, all, list_any-append) refl;
+          written = rw (all, flat_map-append) (Appends-trans old mid new _ _ come.are.written step.are.written);
+        };
+        at = subst (IsAt held' after w') (sym (state_after-append start done batch)) step.at;
+      }
 
-  -- what the next line opens is read rightly
-  pub read_next : (start : State) (n : ℕ) (all rest : List Line) (line : Line) → AreRead limits start all → drop n all ≡ line ∷ rest → IsRead (state_after limits start (take n all)) line
-  read_next start zero [] rest line read is = absurd (cc is)
-  read_next start zero (x ∷ xs) rest line read is = let same : x ≡ line = cc in subst (IsRead start) same read.0
-  read_next start (suc n) [] rest line read is = absurd (cc is)
-  read_next start (suc n) (x ∷ xs) rest line read is = read_next (after_reply start (answer limits start x)) n xs rest line read.1 is
+  -- what lines behind others open is read rightly
+  read_behind : (start : State) (xs ys : List Line) → AreRead limits start (xs ++ ys) → AreRead limits (state_after limits start xs) ys
+  read_behind start [] ys read = read
+  read_behind start (x ∷ xs) ys read = read_behind (after_reply start (answer limits start x)) xs ys read.1
 
-  -- a stop within the line after some that are answered
-  pub stopped : (start : State) (all rest : List Line) (line : Line) (n now : ℕ) (held held' : Option Contents) (before after : EngineContent) (w a : Bool) (old mid new : Option (List ℕ)) →
-      drop n all ≡ line ∷ rest → HasCome limits start (take n all) held before w a old mid →
-      StopsWithin (state_after limits start (take n all)) (answer limits (state_after limits start (take n all)) line) n now after →
-      HoldsWithin (state_after limits start (take n all)) (answer limits (state_after limits start (take n all)) line) (names_kept_of_line line) n now held' →
-      GetsPart mid new (answer_text limits (state_after limits start (take n all)) line) →
-      IsStopped limits start all now after.version held' old new
-  stopped start all rest line n now held held' before after w a old mid new cut come stop holds part =
-      let done : List Line = take n all in
-      let s : State = state_after limits start done in
-      let front : List (List ℕ) = answers limits start done in
-      let here : List (List ℕ) = lines_of (answer limits s line) in
-      let upto : take (n + 1) all ≡ done ++ line ∷ [] = take_next n all rest line cut in
-      let lines_upto : answers limits start (take (n + 1) all) ≡ front ++ here =
-      ap (answers limits start) upto ∙ answers-append start done (line ∷ []) come.are.answered ∙ ap (λ l. front ++ l) (one_more s line) in
-      let within : n + 1 ≤ length all = next_within n all rest line cut in
-      let text : text_of_lines (answers limits start (take (n + 1) all)) ≡ text_of_lines front ++ text_of_lines here = ap text_of_lines lines_upto ∙ flat_map-append _ front here in
-      let first : GetsPart old new (text_of_lines (answers limits start (take (n + 1) all))) = record {
-        part = text_of_lines front ++ part.part;
-        rest = part.rest;
-        whole = text ∙ ap (λ l. text_of_lines front ++ l) part.whole ∙ sym (append_assoc (text_of_lines front) part.part part.rest);
-        written = Appends-trans old mid new _ _ come.are.written part.written;
-      } in
-      by_case (stop) upto within first
-    where
-      by_case : StopsWithin (state_after limits start (take n all)) (answer limits (state_after limits start (take n all)) line) n now after →
-          take (n + 1) all ≡ take n all ++ line ∷ [] → n + 1 ≤ length all → GetsPart old new (text_of_lines (answers limits start (take (n + 1) all))) →
-          IsStopped limits start all now after.version held' old new
-      by_case (inl before_it) upto within first =
-          let Stopped : ℕ → Type 0 = λ m. IsStopped limits start all m after.version held' old new in
-          let names : names_kept_of_line line ≡ names_kept_of (take 1 (drop n all)) = sym (ap (λ (l : List Line). names_kept_of (take 1 l)) cut ∙ append-nil (names_kept_of_line line)) in
-          subst Stopped (sym before_it.0) (record {
-            within = omega (arith, within);
-            stands = before_it.1;
-            part = first;
-            files = subst (λ (l : List (List ℕ)). HoldsBut l (state_after limits start (take n all)).files held') names (holds.early before_it.0);
-          })
-      by_case (inr after_it) upto within first =
-          let Stopped : ℕ → Type 0 = λ m. IsStopped limits start all m after.version held' old new in
-          let state : state_after limits start (take (n + 1) all) ≡ after_reply (state_after limits start (take n all)) (answer limits (state_after limits start (take n all)) line) =
-          ap (state_after limits start) upto ∙ state_after-append start (take n all) (line ∷ []) in
-          subst Stopped (sym after_it.0) (record {
-            within = within;
-            stands = subst (λ (u : State). StandsFor after.version u.collection) (sym state) after_it.1;
-            part = further first;
-            files = all_held _ _ held' (holds.late after_it.0 ∙ sym (ap (λ (u : State). Some u.files) state));
-          })
-        where
-          further : GetsPart old new (text_of_lines (answers limits start (take (n + 1) all))) → GetsPart old new (text_of_lines (answers limits start (take (n + 1 + 1) all)))
-          further first =
-              let again : take (n + 1) (take (n + 1 + 1) all) ≡ take (n + 1) all = take-take (n + 1) (n + 1 + 1) all (omega arith) in
-              part_of_all start (take (n + 1 + 1) all) (n + 1) old new (subst (λ (l : List Line). GetsPart old new (text_of_lines (answers limits start l))) (sym again) first)
+  read_next : (start : State) (n : ℕ) (all rest : List Line) → AreRead limits start all → drop n all ≡ rest → AreRead limits (state_after limits start (take n all)) rest
+  read_next start n all rest read is =
+      subst (AreRead limits (state_after limits start (take n all))) is (read_behind start (take n all) (drop n all) (subst (AreRead limits start) (sym (take-append-drop n all)) read))
 
-  -- a stop after the last line
-  pub stopped_at_end : (start : State) (all : List Line) (n : ℕ) (held : Option Contents) (engine after : EngineContent) (w a : Bool) (old new : Option (List ℕ)) →
-      length all ≤ n → n ≤ length all → HasCome limits start (take n all) held engine w a old new →
-      StandsFor after.version (state_after limits start (take n all)).collection → IsStopped limits start all n after.version held old new
-  stopped_at_end start all n held engine after w a old new past within come stands =
-      let done : take n all ≡ all = take_all n all past in
-      let upto : take (n + 1) all ≡ take n all = take_all (n + 1) all (omega (arith, past)) ∙ sym done in
+  -- the first lines of a script, and then a batch
+  pub comes_on : (all batch rest : List Line) (n m : ℕ) (held held' : Option Contents) (before after : EngineContent) (w w' a b : Bool) (mid new : Option (List ℕ)) → drop n all ≡ batch ++ rest → m ≡ n + length batch →
+      ((s : State) → IsAt held before w s → AreRead limits s (batch ++ rest) → HasCome limits s batch held' after w' b mid new) →
+      ComesOn limits all n m held held' before after w w' a (a || b) mid new
+  comes_on all batch rest n m held held' before after w w' a b mid new cut count step = λ start old read come.
+      let upto : take m all ≡ take n all ++ batch = ap (λ (k : ℕ). take k all) count ∙ take_more n all batch rest cut in
+      subst (λ (l : List Line). HasCome limits start l held' after w' (a || b) old new) (sym upto)
+      (goes_on start (take n all) batch held held' before after w w' a b old mid new come (step (state_after limits start (take n all)) come.at (read_next start n all (batch ++ rest) read cut)))
+
+  -- a stop where the first lines are completed, and their answers written
+  pub stopped_here : (start : State) (all : List Line) (n : ℕ) (held : Option Contents) (engine : EngineContent) (version : VersionContent) (w a : Bool) (old new : Option (List ℕ)) →
+      n ≤ length all → HasCome limits start (take n all) held engine w a old new → StandsFor version (state_after limits start (take n all)).collection → IsStopped limits start all n version held old new
+  stopped_here start all n held engine version w a old new within come stands =
+      let first : GetsPart old new (text_of_lines (answers limits start (take n all))) = record { part = _; rest = []; whole = sym (append-nil _); written = come.are.written } in
       record {
         within = within;
         stands = stands;
-        part = record {
-          part = text_of_lines (answers limits start (take n all));
-          rest = [];
-          whole = ap (λ (l : List Line). text_of_lines (answers limits start l)) upto ∙ sym (append-nil _);
-          written = come.are.written;
-        };
+        part = subst (λ (l : List Line). GetsPart old new (text_of_lines (answers limits start l))) (sym (take-add n 1 all)) (part_of_more start (take n all) (take 1 (drop n all)) old new first);
         files = all_held _ _ held come.at.files;
       }
+
+  -- a line is completed or not
+  stops_further : (s : State) (o : Option Reply) (n now : ℕ) (after : EngineContent) → StopsWithin s o n now after → n ≤ now
+  stops_further s o n now after (inl before_it) = let same = before_it.0 in omega (arith, same)
+  stops_further s o n now after (inr after_it) = let same = after_it.0 in omega (arith, same)
+
+  -- a stop within a line, or behind it
+  pub line_stops : (s : State) (line : Line) (n now : ℕ) (held : Option Contents) (after : EngineContent) (mid new : Option (List ℕ)) → StopsWithin s (answer limits s line) n now after →
+      HoldsWithin s (answer limits s line) (names_kept_of_line line) n now held → GetsPart mid new (answer_text limits s line) → (n ≤ now) × IsStopped limits s (line ∷ []) (now - n) after.version held mid new
+  line_stops s line n now held after mid new stop holds part = (stops_further s (answer limits s line) n now after stop, by_case stop (subst (λ l. GetsPart mid new (text_of_lines l)) (sym (one_more s line)) part))
+    where
+      Stopped : ℕ → Type 0
+      Stopped m = IsStopped limits s (line ∷ []) m after.version held mid new
+
+      by_case : StopsWithin s (answer limits s line) n now after → GetsPart mid new (text_of_lines (answers limits s (line ∷ []))) → IsStopped limits s (line ∷ []) (now - n) after.version held mid new
+      by_case (inl before_it) first =
+          let none : now - n ≡ 0 = let same = before_it.0 in omega (arith, same) in
+          subst Stopped (sym none) (record {
+            within = omega arith;
+            stands = before_it.1;
+            part = first;
+            files = subst (λ (l : List (List ℕ)). HoldsBut l s.files held) (sym (append-nil (names_kept_of_line line))) (holds.early before_it.0);
+          })
+      by_case (inr after_it) first =
+          let one : now - n ≡ 1 = let same = after_it.0 in omega (arith, same) in
+          subst Stopped (sym one) (record {
+            within = omega arith;
+            stands = after_it.1;
+            part = first;
+            files = all_held _ _ held (holds.late after_it.0);
+          })
+
+  -- a stop within a batch behind the first lines of a script
+  pub stopped : (start : State) (all batch rest : List Line) (n i : ℕ) (held held' : Option Contents) (before : EngineContent) (version : VersionContent) (w a : Bool) (old mid new : Option (List ℕ)) → n ≤ length all →
+      drop n all ≡ batch ++ rest → HasCome limits start (take n all) held before w a old mid → IsStopped limits (state_after limits start (take n all)) batch i version held' mid new →
+      IsStopped limits start all (n + i) version held' old new
+  stopped start all batch rest n i held held' before version w a old mid new within cut come stop =
+      let done : List Line = take n all in
+      let s : State = state_after limits start done in
+      let some : i ≤ length batch = stop.within in
+      let ends : n + length batch ≤ length all = more_within n all batch rest within cut in
+      let upto : take (n + i) all ≡ done ++ take i batch = take-add n i all ∙ ap (λ l. done ++ take i l) cut ∙ ap (λ l. done ++ l) (take-append-le i batch rest some) in
+      let state : state_after limits start (take (n + i) all) ≡ state_after limits s (take i batch) = ap (state_after limits start) upto ∙ state_after-append start done (take i batch) in
+      let here : List Line = take (i + 1) batch in
+      let lines : answers limits start (done ++ here) ≡ answers limits start done ++ answers limits s here = answers-append start done here come.are.answered in
+      let text : text_of_lines (answers limits start (done ++ here)) ≡ text_of_lines (answers limits start done) ++ text_of_lines (answers limits s here) =
+      ap text_of_lines lines ∙ flat_map-append _ (answers limits start done) (answers limits s here) in
+      let first : GetsPart old new (text_of_lines (answers limits start (done ++ here))) = record {
+        part = text_of_lines (answers limits start done) ++ stop.part.part;
+        rest = stop.part.rest;
+        whole = text ∙ ap (λ l. text_of_lines (answers limits start done) ++ l) stop.part.whole ∙ sym (append_assoc (text_of_lines (answers limits start done)) stop.part.part stop.part.rest);
+        written = Appends-trans old mid new _ _ come.are.written stop.part.written;
+      } in
+      let begin = take_first (i + 1) batch rest in
+      let places : n + i + 1 ≡ n + (i + 1) = omega arith in
+      let next : take (n + i + 1) all ≡ (done ++ here) ++ begin.0 =
+      ap (λ (k : ℕ). take k all) places ∙ take-add n (i + 1) all ∙ ap (λ l. done ++ take (i + 1) l) cut ∙ ap (λ l. done ++ l) begin.1 ∙ sym (append_assoc done here begin.0) in
+      let left : drop (n + i) all ≡ drop i batch ++ rest = sym (drop-drop i n all) ∙ ap (drop i) cut ∙ drop-append-le i batch rest some in
+      let head = take_first 1 (drop i batch) rest in
+      let names : names_kept_of (take 1 (drop (n + i) all)) ≡ names_kept_of (take 1 (drop i batch)) ++ names_kept_of head.0 =
+      ap (λ (l : List Line). names_kept_of (take 1 l)) left ∙ ap names_kept_of head.1 ∙ flat_map-append names_kept_of_line (take 1 (drop i batch)) head.0 in
+      record {
+        within = omega (arith, some, ends);
+        stands = subst (λ (u : State). StandsFor version u.collection) (sym state) stop.stands;
+        part = subst (λ (l : List Line). GetsPart old new (text_of_lines (answers limits start l))) (sym next) (part_of_more start (done ++ here) begin.0 old new first);
+        files = subst (λ (l : List (List ℕ)). HoldsBut l (state_after limits start (take (n + i) all)).files held') (sym names)
+            (subst (λ (u : State). HoldsBut (names_kept_of (take 1 (drop i batch)) ++ names_kept_of head.0) u.files held') (sym state) (held_more _ _ _ held' stop.files));
+      }
+
+  -- the first lines of a script, and a stop within the batch behind them
+  pub stops_from : (all batch rest : List Line) (n m : ℕ) (held held' : Option Contents) (before after : EngineContent) (w a : Bool) (mid new : Option (List ℕ)) → n ≤ length all → drop n all ≡ batch ++ rest →
+      ((s : State) → IsAt held before w s → AreRead limits s (batch ++ rest) → (n ≤ m) × IsStopped limits s batch (m - n) after.version held' mid new) → StopsFrom limits all n m held held' before after w a mid new
+  stops_from all batch rest n m held held' before after w a mid new within cut stop = λ start old read come.
+      let here = stop (state_after limits start (take n all)) come.at (read_next start n all (batch ++ rest) read cut) in
+      let further : n ≤ m = here.0 in
+      let count : n + (m - n) ≡ m = omega (arith, further) in
+      subst (λ (k : ℕ). IsStopped limits start all k after.version held' old new) count (stopped start all batch rest n (m - n) held held' before after.version w a old mid new within cut come here.1)
+
+  -- a stop where as many lines are completed as were answered
+  pub stops_on : (all : List Line) (n m : ℕ) (held held' : Option Contents) (before after : EngineContent) (w w' a b : Bool) (mid new : Option (List ℕ)) → m ≤ length all →
+      ComesOn limits all n m held held' before after w w' a b mid new → StopsFrom limits all n m held held' before after w a mid new
+  stops_on all n m held held' before after w w' a b mid new within further = λ start old read come.
+      let here = further start old read come in
+      stopped_here start all m held' after after.version w' b old new within here here.at.keeps.stands
+
+  -- a stop where nothing came behind the first lines of a script
+  pub stays : (all : List Line) (n : ℕ) (held : Option Contents) (engine : EngineContent) (w a : Bool) (mid : Option (List ℕ)) → n ≤ length all → StopsFrom limits all n n held held engine engine w a mid mid
+  stays all n held engine w a mid within = λ start old read come. stopped_here start all n held engine engine.version w a old mid within come come.at.keeps.stands
 
 both_empty : (xs ys : List (List ℕ)) → xs ++ ys ≡ [] → (xs ≡ []) × (ys ≡ [])
 both_empty [] ys e = (refl, e)
 both_empty (x ∷ xs) ys e = absurd (cc e)
 
--- where all lines load no name, neither do the first of them
-pub names_of_first : (n : ℕ) (all : List Line) → names_of all ≡ [] → names_of (take n all) ≡ []
-names_of_first n all none =
-    let split : names_of all ≡ names_of (take n all) ++ names_of (drop n all) = ap names_of (sym (take-append-drop n all)) ∙ flat_map-append names_of_line (take n all) (drop n all) in
-    (both_empty (names_of (take n all)) (names_of (drop n all)) (sym split ∙ none)).0
-
--- the names that some lines and one more load
-pub names_of_next : (done : List Line) (line : Line) → names_of (done ++ line ∷ []) ≡ [] → (names_of done ≡ []) × (names_of_line line ≡ [])
-names_of_next done line none =
-    let split : names_of (done ++ line ∷ []) ≡ names_of done ++ names_of_line line = flat_map-append names_of_line done (line ∷ []) ∙ ap (λ l. names_of done ++ l) (append-nil (names_of_line line)) in
-    both_empty (names_of done) (names_of_line line) (sym split ∙ none)
-
--- the same of the names that lines give another content
-pub kept_of_first : (n : ℕ) (all : List Line) → names_kept_of all ≡ [] → names_kept_of (take n all) ≡ []
-kept_of_first n all none =
-    let split : names_kept_of all ≡ names_kept_of (take n all) ++ names_kept_of (drop n all) = ap names_kept_of (sym (take-append-drop n all)) ∙ flat_map-append names_kept_of_line (take n all) (drop n all) in
-    (both_empty (names_kept_of (take n all)) (names_kept_of (drop n all)) (sym split ∙ none)).0
-
-pub kept_of_next : (done : List Line) (line : Line) → names_kept_of (done ++ line ∷ []) ≡ [] → (names_kept_of done ≡ []) × (names_kept_of_line line ≡ [])
-kept_of_next done line none =
-    let split : names_kept_of (done ++ line ∷ []) ≡ names_kept_of done ++ names_kept_of_line line = flat_map-append names_kept_of_line done (line ∷ []) ∙ ap (λ l. names_kept_of done ++ l) (append-nil (names_kept_of_line line)) in
-    both_empty (names_kept_of done) (names_kept_of_line line) (sym split ∙ none)
+-- where no line has a name, neither has the one at a place
+pub no_name_at : (f : Line → List (List ℕ)) (n : ℕ) (all rest : List Line) (line : Line) → drop n all ≡ line ∷ rest → flat_map f all ≡ [] → f line ≡ []
+no_name_at f n all rest line is none =
+    let split : flat_map f all ≡ flat_map f (take n all) ++ (f line ++ flat_map f rest) =
+    ap (flat_map f) (sym (take-append-drop n all)) ∙ flat_map-append f (take n all) (drop n all) ∙ ap (λ (l : List Line). flat_map f (take n all) ++ flat_map f l) is in
+    (both_empty (f line) (flat_map f rest) ((both_empty (flat_map f (take n all)) (f line ++ flat_map f rest) (sym split ∙ none)).1)).0
 
 -- either of two replies leaves the files
 pick : (b : Bool) (files : Contents) (x y : Reply) → x.after.files ≡ files → y.after.files ≡ files → (if b then x else y).after.files ≡ files
@@ -372,7 +426,7 @@ pub fresh_come : (limits : Limits) (engine : EngineContent) (completed : ℕ) (c
     held ≡ Some contents → HasCome limits (opening engine.version.first contents images) (take completed all) held engine false false old old
 fresh_come limits engine completed contents images held all old fresh is =
     subst (λ (n : ℕ). HasCome limits (opening engine.version.first contents images) (take n all) held engine false false old old) (sym fresh.none)
-    (begins limits (opening engine.version.first contents images) held engine old (record { files = is; keeps = fresh_keeps engine completed contents images fresh }))
+    (begins limits (opening engine.version.first contents images) held engine false old (record { files = is; keeps = fresh_keeps engine completed contents images fresh }))
 
 -- all lines are answered
 pub ends : (limits : Limits) (start : State) (script : List ℕ) (n : ℕ) (held : Option Contents) (engine : EngineContent) (wanted refusal : Bool) (old new : Option (List ℕ)) →

@@ -9,7 +9,7 @@ use Rattle.index_shard.specs.Tables.{TermEntry}
 use Rattle.script_lang.specs.Lines.{lines}
 use Rattle.script_lang.specs.declared.commands.Command.TheVariants.{Add, Load, Merge, Save, Shards}
 use Rattle.query_run.specs.declared.limits.Limits.{Limits}
-use Rattle.query_run.specs.declared.queries.Asked.TheVariants.{All, First, Number}
+use Rattle.query_lanes.specs.declared.asks.Asked.TheVariants.{All, First, Number}
 use Rattle.query_run.specs.Images.{Images, image_of, terms_of, with_token}
 use Rattle.query_run.specs.States.{State, opening}
 use Rattle.query_run.specs.Answers.{unchanged, state_keeping, state_merged, state_opened, state_with_file, state_without_file, del_reply, files_lines, query_lines, reply, answers, state_after, output, has_refusal_by, names_of}

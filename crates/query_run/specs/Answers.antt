@@ -1,5 +1,5 @@
 -- The answer to each line, and the output of a script.
-use Rattle.std.specs.Prelude.{ℕ, ◌+◌, ◌-◌, Bool, true, false, nat_lt, List, [], ◌∷◌, ◌++◌, length, map, take, flat_map, Option, None, Some, IsSome, IfSome, ⊤, if◌then◌else◌}
+use Rattle.std.specs.Prelude.{ℕ, ◌+◌, ◌-◌, Bool, true, false, nat_lt, List, [], ◌∷◌, ◌++◌, length, map, flat_map, Option, None, Some, IsSome, IfSome, ⊤, if◌then◌else◌}
 use Rattle.std.specs.Option.{option_map}
 use Rattle.std.specs.List.{list_any}
 use Rattle.outside.specs.Contents.{changed_at}
@@ -26,8 +26,11 @@ use Rattle.gcl_parser.specs.QueryForm.{query_form}
 use Rattle.query_run.specs.Images.{image_of, IsReading}
 use Rattle.query_run.specs.States.{State, greatest_limits}
 use Rattle.query_run.specs.declared.limits.Limits.{Limits}
-use Rattle.query_run.specs.declared.queries.Asked.{Asked}
-use Rattle.query_run.specs.declared.queries.Asked.TheVariants.{All, First, Number}
+use Rattle.query_lanes.specs.declared.asks.Asked.{Asked}
+use Rattle.query_lanes.specs.declared.asks.Asked.TheVariants.{All, First, Number}
+use Rattle.query_lanes.specs.declared.asks.Found.{Found}
+use Rattle.query_lanes.specs.declared.asks.Found.TheVariants.{List as Members, Number as Total, Refused}
+use Rattle.query_lanes.specs.Answers.{found_in}
 
 -- the lines of an answer, and the state that it leaves
 pub record Reply : Type 0 where
@@ -115,16 +118,16 @@ open_reply limits state name = if nat_lt 0 state.collection.next_id then Some (u
 abbrev pub list_lines : List Extent → List (List ℕ)
 list_lines list = map interval_line list ++ total_line (length list) ∷ []
 
--- all of a list, its first members, or their number alone
-abbrev pub asked_lines : Asked → List Extent → List (List ℕ)
-asked_lines All list = list_lines list
-asked_lines (First most) list = list_lines (take most list)
-asked_lines Number list = total_line (length list) ∷ []
+-- the lines of what is found: the intervals and their number, their number alone, or the refusal
+abbrev pub found_lines : Found → List (List ℕ)
+found_lines (Members list) = list_lines list
+found_lines (Total number) = total_line number ∷ []
+found_lines (Refused fault) = refusal_lines (Query fault)
 
 -- the first fault of a query, or what is asked of the concordance list of its form
 abbrev pub lines_by : Asked → Text → Option QueryFault → Option Form → List (List ℕ)
 lines_by asked text (Some fault) form = refusal_lines (Query fault)
-lines_by asked text None (Some form) = asked_lines asked (concordance text form)
+lines_by asked text None (Some form) = found_lines (found_in asked (concordance text form))
 lines_by asked text None None = []
 
 -- the lines that answer a query over a text: over "to be" those of `count "to"` are `= 1`; a text that is not refused has a form

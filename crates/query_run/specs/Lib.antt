@@ -1,4 +1,5 @@
 pub mod Answers
+pub mod Batches
 pub mod Faults
 pub mod Images
 pub mod Progress

@@ -1,5 +1,5 @@
 -- For proofs alone: what the functions under `serve` say of a line and of some lines. No clause of `serve` or `run` speaks of these.
-use Rattle.std.specs.Prelude.{◌≡◌, Bool, ℕ, ◌+◌, ◌≤◌, List, [], ◌∷◌, ◌++◌, Option, None, Some, Result, Ok, Err, IsErrOf, ◌⊎◌, ⊤, if◌then◌else◌}
+use Rattle.std.specs.Prelude.{◌≡◌, Bool, ℕ, ◌+◌, ◌-◌, ◌||◌, ◌≤◌, List, [], ◌∷◌, ◌++◌, length, take, drop, Option, None, Some, Result, Ok, Err, IsErrOf, ◌⊎◌, ⊤, if◌then◌else◌}
 use Rattle.std.specs.List.{list_any}
 use Rattle.std.specs.Io.KnownBytes.{Appends}
 use Rattle.outside.specs.Causes.{Rose}
@@ -10,9 +10,11 @@ use Rattle.script_lang.specs.Lines.{Line}
 use Rattle.script_lang.specs.Answers.{is_refusal}
 use Rattle.script_lang.specs.declared.commands.Command.{Command}
 use Rattle.script_lang.specs.declared.commands.Command.TheVariants.{Save}
+use Rattle.query_lanes.specs.declared.asks.Ask.{Ask}
 use Rattle.query_run.specs.States.{State, Keeps}
-use Rattle.query_run.specs.Answers.{Reply, answer, answers, reply, after_reply, state_after, AllAnswered, text_of_lines}
-use Rattle.query_run.specs.Runs.{HoldsBut}
+use Rattle.query_run.specs.Answers.{Reply, answer, answers, reply, after_reply, state_after, AllAnswered, AreRead, text_of_lines}
+use Rattle.query_run.specs.Batches.{AreAsked}
+use Rattle.query_run.specs.Runs.{HoldsBut, IsStopped}
 use Rattle.query_run.specs.declared.limits.Limits.{Limits}
 use Rattle.query_run.specs.declared.run_fault.RunFault.{RunFault}
 use Rattle.query_run.specs.declared.run_fault.RunFault.TheVariants.{Write, Files}
@@ -90,6 +92,26 @@ pub record AreAnswered (limits : Limits) (start : State) (lines : List Line) (re
 pub record HasCome (limits : Limits) (start : State) (lines : List Line) (held : Option Contents) (engine : EngineContent) (wanted refusal : Bool) (old new : Option (List ℕ)) : Type 0 where
   pub are : AreAnswered limits start lines refusal old new
   pub at : IsAt held engine wanted (state_after limits start lines)
+
+-- the lines that ask a batch are answered, and the files are as they were
+abbrev pub AnswersBatch : List Ask → EngineContent → EngineContent → Bool → Bool → Bool → Option (List ℕ) → Option (List ℕ) → Type 0
+AnswersBatch asks before after w w' refusal old new = (limits : Limits) (held : Option Contents) (state : State) (batch : List Line) → AreAsked asks batch → IsAt held before w state →
+    HasCome limits state batch held after w' refusal old new
+
+-- it ended within a batch or behind it, when so many of its lines were completed
+abbrev pub StopsBatch : List Ask → ℕ → EngineContent → EngineContent → Bool → Option (List ℕ) → Option (List ℕ) → Type 0
+StopsBatch asks completed before after w old new = (limits : Limits) (held : Option Contents) (state : State) (batch : List Line) → AreAsked asks batch → IsAt held before w state →
+    IsStopped limits state batch completed after.version held old new
+
+-- where the first `n` lines of a script were answered from the start on, the first `m` lines now are
+abbrev pub ComesOn : Limits → List Line → ℕ → ℕ → Option Contents → Option Contents → EngineContent → EngineContent → Bool → Bool → Bool → Bool → Option (List ℕ) → Option (List ℕ) → Type 0
+ComesOn limits all n m held held' before after w w' a b mid new = (start : State) (old : Option (List ℕ)) → AreRead limits start all → HasCome limits start (take n all) held before w a old mid →
+    HasCome limits start (take m all) held' after w' b old new
+
+-- where the first `n` lines of a script were answered from the start on, `m` of them are completed now
+abbrev pub StopsFrom : Limits → List Line → ℕ → ℕ → Option Contents → Option Contents → EngineContent → EngineContent → Bool → Bool → Option (List ℕ) → Option (List ℕ) → Type 0
+StopsFrom limits all n m held held' before after w a mid new = (start : State) (old : Option (List ℕ)) → AreRead limits start all → HasCome limits start (take n all) held before w a old mid →
+    IsStopped limits start all m after.version held' old new
 
 -- neither count has fallen, and a fault is one of the object that it names
 pub record HasCauses {T : Type 0} (sink_before sink_now files_before files_now : ℕ) (result : Result T RunFault) : Type 0 where

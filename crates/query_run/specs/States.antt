@@ -1,7 +1,7 @@
 -- The state of a script, and how an engine keeps it.
-use Rattle.std.specs.Prelude.{◌≡◌, ℕ, ◌^◌, ◌≤◌, Bool, List, [], if◌then◌else◌}
+use Rattle.std.specs.Prelude.{◌≡◌, ℕ, ◌≤◌, Bool, List, [], if◌then◌else◌}
 use Rattle.outside.specs.Contents.{Contents}
-use Rattle.gcl_model.specs.Limits.{most_line, most_file, most_script}
+use Rattle.gcl_model.specs.Limits.{most_line, most_file, most_script, most_image, most_batch}
 use Rattle.gcl_model.specs.Collections.{File, Collection, empty_from}
 use Rattle.gcl_model.specs.Slots.{SlotRange, slots_after_merge}
 use Rattle.live_version.specs.Contents.{ranges_of}
@@ -23,13 +23,9 @@ pub record State : Type 0 where
 abbrev pub opening : ℕ → Contents → Images → State
 opening first contents images = record { collection = empty_from first; slots = []; files = contents; images = images }
 
--- how many bytes an image has at most
-abbrev pub most_image : ℕ
-most_image = 2 ^ 30
-
 -- the limits of a run
 abbrev pub greatest_limits : Limits
-greatest_limits = record { line = most_line; file = most_file; script = most_script; image = most_image }
+greatest_limits = record { line = most_line; file = most_file; script = most_script; image = most_image; batch = most_batch }
 
 -- each limit is at least 1, and none is above that of a run
 pub record AreLimits (limits : Limits) : Type 0 where
@@ -37,10 +33,12 @@ pub record AreLimits (limits : Limits) : Type 0 where
   pub some_file : 1 ≤ limits.file
   pub some_script : 1 ≤ limits.script
   pub some_image : 1 ≤ limits.image
+  pub some_batch : 1 ≤ limits.batch
   pub line : limits.line ≤ most_line
   pub file : limits.file ≤ most_file
   pub script : limits.script ≤ most_script
   pub image : limits.image ≤ most_image
+  pub batch : limits.batch ≤ most_batch
 
 -- the ranges once a merge that is wanted was made
 abbrev pub slots_soon : Bool → List SlotRange → List File → List SlotRange

@@ -14,12 +14,13 @@ use crate::changes::{add, delete};
 use crate::limits::Limits;
 use crate::listing::{count_slots, list_files};
 use crate::merging::merge_wanted;
-use crate::queries::{Asked, answer_query};
+use crate::queries::{ask_of, put_found};
 use crate::refusals::refuse;
 use crate::saving::{open, save};
 use collection::Engine;
 use gcl_model::Bytes;
 use outside::{FileError, Files, Gate};
+use query_lanes::{Asked, answer_alone};
 use script_lang::{Command, Refusal, command, put_merging};
 use std::alloc::{AllocError, Global};
 use std::sync::Wait;
@@ -35,8 +36,10 @@ fn answer_now(
     ensures { IfOk result (λ refusal. (state : State) → Keeps engine.now false state →
         Says (query_lines asked (text_of state.collection) query.now) out.old.items out.new.items refusal) }
 {
-    let pass = engine.pass()?;
-    let refused = answer_query(alloc, out, &pass, asked, query)?;
+    // no gate is told of it, so it has no number
+    let ask = ask_of(alloc, 0, asked, query)?;
+    let found = answer_alone(alloc, engine, &ask)?;
+    let refused = put_found(out, &found)?;
     Ok(refused)
 }
 
@@ -74,6 +77,7 @@ fn answer_command<R: Wait, F: Files>(
         StopsWithin state (reply limits.now state command) lines.old lines.new engine.new) }
     ensures number { OnOk result (engine.new.version.number + wish wanted.new ≤ engine.old.version.number + 1) }
     ensures savable { OnOk result (CanBeSaved engine.new.version) }
+    ensures publisher { engine.new.publisher ≡ engine.old.publisher }
     ensures quiet { names_asked command ≡ [] → files.new ≡ files.old }
     ensures unsaved { names_kept command ≡ [] → F.held files.new ≡ F.held files.old }
     ensures saved { (state : State) → IsAt (F.held files.old) engine.old false state →
@@ -150,6 +154,7 @@ fn answer_any<R: Wait, F: Files, G: Gate>(
         StopsWithin state (answer limits.now state (record { long = long; bytes = line.now })) lines.old lines.new engine.new) }
     ensures number { OnOk result (engine.new.version.number + wish wanted.new ≤ engine.old.version.number + wish wanted.old + 1) }
     ensures savable { OnOk result (CanBeSaved engine.new.version) }
+    ensures publisher { engine.new.publisher ≡ engine.old.publisher }
     ensures quiet { names_of_line (record { long = long; bytes = line.now }) ≡ [] → files.new ≡ files.old }
     ensures unsaved { names_kept_of_line (record { long = long; bytes = line.now }) ≡ [] → F.held files.new ≡ F.held files.old }
     ensures files { (state : State) → IsAt (F.held files.old) engine.old wanted.old state →
@@ -198,6 +203,7 @@ pub fn answer_line<R: Wait, F: Files, G: Gate>(
     ensures lines { OnOk result (lines.new ≡ lines.old + 1) }
     ensures number { OnOk result (engine.new.version.number + wish wanted.new ≤ engine.old.version.number + wish wanted.old + 1) }
     ensures savable { OnOk result (CanBeSaved engine.new.version) }
+    ensures publisher { engine.new.publisher ≡ engine.old.publisher }
     ensures quiet { names_of_line (record { long = long; bytes = line.now }) ≡ [] → files.new ≡ files.old }
     ensures unsaved { names_kept_of_line (record { long = long; bytes = line.now }) ≡ [] → F.held files.new ≡ F.held files.old }
     ensures files { (state : State) → IsAt (F.held files.old) engine.old wanted.old state →

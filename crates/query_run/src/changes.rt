@@ -36,6 +36,7 @@ fn add_content<R: Wait>(
         StopsWithin state (Some (content_reply state name.now content.now)) lines.old lines.new engine.new) }
     ensures number { OnOk result (engine.new.version.number ≤ engine.old.version.number + 1) }
     ensures savable { OnOk result (CanBeSaved engine.new.version) }
+    ensures publisher { engine.new.publisher ≡ engine.old.publisher }
 {
     match engine.add(rt, name, content) {
         Ok(added) => {
@@ -72,6 +73,7 @@ pub fn add<R: Wait, F: Files>(
         StopsWithin state (reply limits.now state (Add name.now)) lines.old lines.new engine.new) }
     ensures number { OnOk result (engine.new.version.number ≤ engine.old.version.number + 1) }
     ensures savable { OnOk result (CanBeSaved engine.new.version) }
+    ensures publisher { engine.new.publisher ≡ engine.old.publisher }
     ensures same { F.held files.new ≡ F.held files.old }
     ensures cause { HasFileCause (F.faults files.old) (F.faults files.new) result }
     ensures calm { OnOk result (F.faults files.new ≡ F.faults files.old) }
@@ -105,6 +107,7 @@ pub fn delete<R: Wait>(
         StopsWithin state (Some (del_reply state id)) lines.old lines.new engine.new) }
     ensures number { OnOk result (engine.new.version.number ≤ engine.old.version.number + 1) }
     ensures savable { OnOk result (CanBeSaved engine.new.version) }
+    ensures publisher { engine.new.publisher ≡ engine.old.publisher }
 {
     match engine.delete(rt, FileId(id)) {
         Ok(_receipt) => {

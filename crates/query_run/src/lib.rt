@@ -12,11 +12,11 @@
 #![tactic(auto)]
 
 mod answers;
+mod batches;
 mod changes;
 mod limits;
 mod listing;
 mod made_run;
-mod members;
 mod merging;
 mod queries;
 mod read;
@@ -29,7 +29,7 @@ mod status;
 mod top;
 mod write;
 
-pub use limits::{IMAGE_MOST, Limits, SCRIPT_MOST};
+pub use limits::{BATCH_MOST, IMAGE_MOST, Limits, SCRIPT_MOST};
 pub use serving::serve;
 pub use status::Status;
 pub use top::run;

@@ -7,7 +7,10 @@ pub const SCRIPT_MOST: u64 = 1 << 32;
 /// The most bytes that an image may have.
 pub const IMAGE_MOST: u64 = 1 << 30;
 
-/// How many bytes the parts of a run may have: each limit is at least 1, and at most that of `Limits::greatest`.
+/// The most queries that a batch may have.
+pub const BATCH_MOST: u64 = 64;
+
+/// How many bytes the parts of a run may have, and how many queries a batch: each limit is at least 1, and at most that of `Limits::greatest`.
 #[derive(Clone, Copy, Debug, PartialEq, Eq)]
 pub struct Limits {
     /// The most bytes of a line, its newline not counted: a longer line is refused.
@@ -18,6 +21,8 @@ pub struct Limits {
     pub script: u64,
     /// The most bytes of an image: a longer one is neither kept nor opened.
     pub image: u64,
+    /// The most queries that the readers share in one batch.
+    pub batch: u64,
 }
 
 impl Limits {
@@ -30,6 +35,7 @@ impl Limits {
             file: 1 << 26,
             script: SCRIPT_MOST,
             image: IMAGE_MOST,
+            batch: BATCH_MOST,
         }
     }
 
@@ -46,5 +52,7 @@ impl Limits {
             && self.script <= most.script
             && 1 <= self.image
             && self.image <= most.image
+            && 1 <= self.batch
+            && self.batch <= most.batch
     }
 }

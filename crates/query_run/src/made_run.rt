@@ -3,7 +3,7 @@ ghost use Rattle.std.specs.Io.KnownBytes.{Appends};
 ghost use Rattle.made_corpus.specs.MadeLines.{made_lines};
 ghost use Rattle.made_corpus.specs.Summary.{summary};
 ghost use Rattle.outside.specs.Causes.{Rose};
-ghost use Rattle.gcl_model.specs.Limits.{address_end, most_made};
+ghost use Rattle.gcl_model.specs.Limits.{address_end, most_made, most_readers};
 ghost use Rattle.query_run.specs.Statuses.{IsAllAnswered, IsMadeEnd};
 ghost use Rattle.query_run.specs.Runs.{WhereMade, GetsPart, IsSummed, AreTold, made_summary};
 
@@ -23,11 +23,13 @@ pub fn run_made<R: Threads + Wait + Sync, K: Sink, G: Gate + Sync>(
     rt: &R,
     alloc: Global,
     first: u64,
+    readers: usize,
     made: Made,
     sink: &mut K,
     gate: &G,
 ) -> Status
     requires in_range { first ≤ address_end }
+    requires lanes { readers ≤ most_readers }
     requires few { made.count ≤ most_made }
     ensures ends { IsMadeEnd result }
     ensures summed { result ≡ Status.Done → WhereMade first made (λ start. IsSummed made start false (K.written sink.old) (K.written sink.new)) }
@@ -36,7 +38,7 @@ pub fn run_made<R: Threads + Wait + Sync, K: Sink, G: Gate + Sync>(
     ensures write_fault { result ≡ Status.WriteFault → Rose (K.faults sink.old) (K.faults sink.new) }
     ensures calm { IsAllAnswered result → K.faults sink.new ≡ K.faults sink.old }
 {
-    let Some(answers) = answer_made(rt, alloc, first, made, gate) else {
+    let Some(answers) = answer_made(rt, alloc, first, readers, made, gate) else {
         return Status::NoMemory;
     };
     match write_summary(alloc, &answers.told, made, answers.lines, sink) {
@@ -62,10 +64,12 @@ fn answer_made<R: Threads + Wait + Sync, G: Gate + Sync>(
     rt: &R,
     alloc: Global,
     first: u64,
+    readers: usize,
     made: Made,
     gate: &G,
 ) -> Option<MadeAnswers>
     requires in_range { first ≤ address_end }
+    requires lanes { readers ≤ most_readers }
     requires few { made.count ≤ most_made }
     ensures answers { IfSome result (λ answers. WhereMade first made (λ start. AreTold made start answers.refused (⟦<SummarySink as Sink>⟧.written answers.told))) }
     ensures lines { IfSome result (λ answers. answers.lines ≡ length (made_lines made.start made.count)) }
@@ -74,7 +78,16 @@ fn answer_made<R: Threads + Wait + Sync, G: Gate + Sync>(
     let mut files = MadeFiles::new(alloc, made.start, made.count);
     let mut source = SureSource::new(alloc, script.text);
     let mut told = SummarySink::new();
-    let status = run_script(rt, alloc, first, &mut files, &mut source, &mut told, gate);
+    let status = run_script(
+        rt,
+        alloc,
+        first,
+        readers,
+        &mut files,
+        &mut source,
+        &mut told,
+        gate,
+    );
     let refused = match status {
         Status::Done => false,
         Status::DoneWithRefusals => true,

@@ -21,6 +21,7 @@ pub fn merge_wanted<R: Wait, G: Gate>(
     ensures made { OnOk result (wanted.new ≡ false) }
     ensures number { OnOk result (engine.new.version.number ≤ engine.old.version.number + wish wanted.old) }
     ensures savable { OnOk result (CanBeSaved engine.old.version → CanBeSaved engine.new.version) }
+    ensures publisher { engine.new.publisher ≡ engine.old.publisher }
     ensures err { OnErr result (engine.new ≡ engine.old) }
 {
     if !*wanted {

@@ -84,6 +84,7 @@ fn adopt<R: Wait>(
         StopsWithin state (Some (reading_reply state (state.images bytes.now))) lines.old lines.new engine.new) }
     ensures number { OnOk result (engine.new.version.number ≤ engine.old.version.number + 1) }
     ensures savable { OnOk result (CanBeSaved engine.new.version) }
+    ensures publisher { engine.new.publisher ≡ engine.old.publisher }
 {
     let files = version.file_count();
     match engine.adopt(rt, version) {
@@ -117,6 +118,7 @@ fn open_content<R: Wait>(
         StopsWithin state (Some (reading_reply state (state.images content.now))) lines.old lines.new engine.new) }
     ensures number { OnOk result (engine.new.version.number ≤ engine.old.version.number + 1) }
     ensures savable { OnOk result (CanBeSaved engine.new.version) }
+    ensures publisher { engine.new.publisher ≡ engine.old.publisher }
 {
     match read_image(alloc, content) {
         Ok(version) => {
@@ -152,6 +154,7 @@ pub fn open<R: Wait, F: Files>(
         StopsWithin state (reply limits.now state (Load name.now)) lines.old lines.new engine.new) }
     ensures number { OnOk result (engine.new.version.number ≤ engine.old.version.number + 1) }
     ensures savable { OnOk result (CanBeSaved engine.new.version) }
+    ensures publisher { engine.new.publisher ≡ engine.old.publisher }
     ensures unasked { 0 < engine.old.version.next_id → files.new ≡ files.old }
     ensures same { F.held files.new ≡ F.held files.old }
     ensures cause { HasFileCause (F.faults files.old) (F.faults files.new) result }

@@ -1,6 +1,6 @@
 ghost use Rattle.std.specs.Prelude.{◌≡◌, ◌≤◌, true, false, [], Some, IfSome, IsSomeAnd, length};
 ghost use Rattle.outside.specs.Causes.{Rose};
-ghost use Rattle.gcl_model.specs.Limits.{address_end, most_line, most_script};
+ghost use Rattle.gcl_model.specs.Limits.{address_end, most_line, most_readers, most_script};
 ghost use Rattle.script_lang.specs.Lines.{lines};
 ghost use Rattle.query_run.specs.Statuses.{IsFinished, IsAllAnswered};
 ghost use Rattle.query_run.specs.States.{greatest_limits};
@@ -16,17 +16,19 @@ use std::alloc::Global;
 use std::sync::Wait;
 use std::thread::Threads;
 
-/// Opens an engine that begins at this address, answers the script of the source on it, and ends it.
+/// Opens an engine that begins at this address, with at most so many readers, answers the script of the source on it, and ends it.
 pub fn run_script<R: Threads + Wait + Sync, F: Files, S: Source, K: Sink, G: Gate + Sync>(
     rt: &R,
     alloc: Global,
     first: u64,
+    readers: usize,
     files: &mut F,
     source: &mut S,
     sink: &mut K,
     gate: &G,
 ) -> Status
     requires in_range { first ≤ address_end }
+    requires few { readers ≤ most_readers }
     ensures never_usage { ¬ (result ≡ Status.Usage) }
 
     // Where the source tells the script and the files tell what they hold, and of what the lines open it is said rightly what
@@ -62,7 +64,7 @@ pub fn run_script<R: Threads + Wait + Sync, F: Files, S: Source, K: Sink, G: Gat
     ensures unasked { IfSome (S.left source.old) (λ script. names_of (lines most_line script) ≡ [] → files.new ≡ files.old) }
     ensures unsaved { IfSome (S.left source.old) (λ script. names_kept_of (lines most_line script) ≡ [] → F.held files.new ≡ F.held files.old) }
 {
-    let mut opened = match Engine::open(rt, alloc, first, 0) {
+    let mut opened = match Engine::open(rt, alloc, first, readers) {
         Ok(opened) => opened,
         Err(OpenFault::NoMemory) => return Status::NoMemory,
         // the address is not above the end

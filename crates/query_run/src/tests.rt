@@ -1,9 +1,14 @@
-ghost use Rattle.query_run.specs.States.{AreLimits};
+ghost use Rattle.std.specs.Prelude.{◌≤◌, length, IfOk};
+ghost use Rattle.gcl_model.specs.Limits.{most_readers};
+ghost use Rattle.query_lanes.specs.Readers.{AreOf};
+ghost use Rattle.query_run.specs.States.{AreLimits, IsFresh};
 
 use crate::{Limits, Status, run, serve};
 use collection::{Engine, Opened};
 use gcl_model::Bytes;
-use outside::{FreeGate, MemFiles, MemSink, MemSource, SureFiles, SureSink, SureSource};
+use outside::{
+    FreeGate, MemFiles, MemSink, MemSource, Sink, SureFiles, SureSink, SureSource, TurnGate,
+};
 use script_lang::{put_file, put_gone};
 use std::alloc::{AllocError, Global};
 use std::sync::Wait;
@@ -68,21 +73,33 @@ fn answered<R: Threads + Wait + Sync + AllocGlobal>(
     Ok((status, sink.written().to_vec(alloc)?))
 }
 
-// The status of `serve` by these limits, the number of lines that it completed, and what was written.
-fn served<R: Threads + Wait + Sync + AllocGlobal>(
+// An engine and its readers.
+fn opened<R: Wait>(rt: &R, alloc: Global, readers: usize) -> Result<Opened, AllocError>
+    requires { readers ≤ most_readers }
+    ensures fresh { IfOk result (λ opened. IsFresh opened.engine opened.lines) }
+    ensures readers { IfOk result (λ opened. AreOf opened.engine.publisher opened.readers.items × (length opened.readers.items ≤ most_readers)) }
+{
+    match Engine::open(rt, alloc, 0, readers) {
+        Ok(opened) => Ok(opened),
+        Err(_) => Err(AllocError),
+    }
+}
+
+// The status of `serve` with so many readers and by these limits, and the number of lines that it completed.
+fn served_into<R: Threads + Wait + Sync + AllocGlobal, K: Sink>(
     rt: &R,
+    readers: usize,
     limits: &Limits,
     script: &[u8],
-) -> Result<(Status, u64, Vec<u8>), AllocError>
-    requires { AreLimits limits.now }
+    sink: &mut K,
+) -> Result<(Status, u64), AllocError>
+    requires readers { readers ≤ most_readers }
+    requires limits { AreLimits limits.now }
 {
     let alloc = rt.alloc();
     let mut files = SureFiles::new(alloc, held(alloc)?);
     let mut source = SureSource::new(alloc, Bytes::copy_of(alloc, script)?);
-    let mut sink = SureSink::new(alloc);
-    let Ok(mut opened) = Engine::open(rt, alloc, 0, 0) else {
-        return Err(AllocError);
-    };
+    let mut opened = opened(rt, alloc, readers)?;
     let status = serve(
         rt,
         alloc,
@@ -90,7 +107,7 @@ fn served<R: Threads + Wait + Sync + AllocGlobal>(
         limits,
         &mut files,
         &mut source,
-        &mut sink,
+        sink,
         &FreeGate,
     );
     let Opened {
@@ -99,6 +116,22 @@ fn served<R: Threads + Wait + Sync + AllocGlobal>(
         lines,
     } = opened;
     engine.end(rt);
+    Ok((status, lines))
+}
+
+// The same over a sink that never fails, and what was written.
+fn served<R: Threads + Wait + Sync + AllocGlobal>(
+    rt: &R,
+    readers: usize,
+    limits: &Limits,
+    script: &[u8],
+) -> Result<(Status, u64, Vec<u8>), AllocError>
+    requires readers { readers ≤ most_readers }
+    requires limits { AreLimits limits.now }
+{
+    let alloc = rt.alloc();
+    let mut sink = SureSink::new(alloc);
+    let (status, lines) = served_into(rt, readers, limits, script, &mut sink)?;
     Ok((status, lines, sink.written().to_vec(alloc)?))
 }
 
@@ -154,33 +187,141 @@ fn failing<R: Threads + Wait + Sync + AllocGlobal>(
     Ok((status, sink.written().to_vec(alloc)?))
 }
 
+// Scripts over the files above, each with its output.
+const SCRIPTS: [(&str, &[u8], &[u8]); 10] = [
+    (
+        "a word is found",
+        b"add a\nfind \"to\"\n",
+        b"file 0 0 7\n1 1\n5 5\n= 2\n",
+    ),
+    ("no line has no answer", b"", b""),
+    ("an empty line has no answer", b"\n", b""),
+    ("the last line needs no newline", b"files", b"= 0\n"),
+    (
+        "an address is never given twice",
+        b"add a\nadd b\ndel 000\nadd a\nfind \"to\"\n",
+        b"file 0 0 7\nfile 1 8 9\ngone 0\nfile 2 10 17\n11 11\n15 15\n= 2\n",
+    ),
+    (
+        "files are listed",
+        b"add a\r\n  add\tb \nfiles\ndel 0\nfiles\n",
+        b"file 0 0 7\nfile 1 8 9\n0 0 7 a\n1 8 9 b\n= 2\ngone 0\n1 8 9 b\n= 1\n",
+    ),
+    (
+        "queries in a row are answered in their order",
+        b"add a\ncount \"to\"\nfind \"to be\"\ncount \"not\"\ntop 1 \"be\"\ncount \"or\"",
+        b"file 0 0 7\n= 2\n1 2\n5 6\n= 2\n= 1\n2 2\n= 1\n= 1\n",
+    ),
+    (
+        "queries beside a merge see what was before it",
+        b"add p\nadd a\ndel 0\nmerge\nfind \"to\"\n\ncount \"be\"\ncount \"hamlet\"\nshards\n",
+        b"file 0 0 14\nfile 1 15 22\ngone 0\nmerging\n16 16\n20 20\n= 2\n= 2\n= 0\nshards 1\n",
+    ),
+    (
+        "an edit ends a batch",
+        b"add a\ncount \"to\"\ncount \"be\"\nadd a\ncount \"to\"\nmerge\ncount \"be\"\n",
+        b"file 0 0 7\n= 2\n= 2\nfile 1 8 15\n= 4\nmerging\n= 4\n",
+    ),
+    (
+        "a script may end in a batch",
+        b"add b\nmerge\nfind \"to\"\r\n  count \"<file!>\"",
+        b"file 0 0 1\nmerging\n= 0\n= 1\n",
+    ),
+];
+
 #[test]
 fn files_are_added_listed_and_deleted(rt: HostRuntime) -> Result<(), Fail> {
-    let cases: [(&str, &[u8], &[u8]); 6] = [
-        (
-            "a word is found",
-            b"add a\nfind \"to\"\n",
-            b"file 0 0 7\n1 1\n5 5\n= 2\n",
-        ),
-        ("no line has no answer", b"", b""),
-        ("an empty line has no answer", b"\n", b""),
-        ("the last line needs no newline", b"files", b"= 0\n"),
-        (
-            "an address is never given twice",
-            b"add a\nadd b\ndel 000\nadd a\nfind \"to\"\n",
-            b"file 0 0 7\nfile 1 8 9\ngone 0\nfile 2 10 17\n11 11\n15 15\n= 2\n",
-        ),
-        (
-            "files are listed",
-            b"add a\r\n  add\tb \nfiles\ndel 0\nfiles\n",
-            b"file 0 0 7\nfile 1 8 9\n0 0 7 a\n1 8 9 b\n= 2\ngone 0\n1 8 9 b\n= 1\n",
-        ),
-    ];
-    for (name, script, output) in cases {
+    for (name, script, output) in SCRIPTS {
         let (status, written) = answered(&rt, &[], script)?;
         assert_eq!(rt; written.as_slice(), output, "{name}");
         assert_eq!(rt; status, Status::Done, "{name}");
     }
+    Ok(())
+}
+
+#[test]
+fn no_byte_depends_on_the_readers_or_on_where_a_batch_ends(rt: HostRuntime) -> Result<(), Fail> {
+    for (readers, batch) in [(0, 64), (1, 64), (4, 2), (4, 1), (16, 64)] {
+        let limits = Limits {
+            batch,
+            ..Limits::greatest()
+        };
+        assert!(rt; limits.are_allowed());
+        for (name, script, output) in SCRIPTS {
+            let (status, _, written) = served(&rt, readers, &limits, script)?;
+            assert_eq!(rt; written.as_slice(), output, "{name}, {readers} and {batch}");
+            assert_eq!(rt; status, Status::Done, "{name}, {readers} and {batch}");
+        }
+    }
+    Ok(())
+}
+
+// 500 lines, with a merge before the queries of each five.
+fn merging_script(alloc: Global) -> Result<Vec<u8>, AllocError> {
+    let mut script = Vec::new(alloc);
+    for _ in 0..100 {
+        script.extend_from_slice(
+            b"add a\nmerge\nfind \"to be\"\ncount [3]\ntop 2 \"be\"..\"not\"\n",
+        )?;
+    }
+    Ok(script)
+}
+
+#[test]
+fn merges_all_along_give_the_same_bytes_with_any_readers(rt: HostRuntime) -> Result<(), Fail> {
+    let script = merging_script(rt.alloc())?;
+    let limits = Limits::greatest();
+    let (_, lines, want) = served(&rt, 0, &limits, script.as_slice())?;
+    assert_eq!(rt; lines, 500);
+    for readers in [1, 2, 4, 16, 1, 2, 4, 16, 16, 4] {
+        let (status, lines, written) = served(&rt, readers, &limits, script.as_slice())?;
+        assert!(rt; written.as_slice() == want.as_slice(), "{readers} readers");
+        assert_eq!(rt; status, Status::Done, "{readers} readers");
+        assert_eq!(rt; lines, 500, "{readers} readers");
+    }
+    Ok(())
+}
+
+#[test]
+fn the_lines_of_a_batch_are_completed_before_their_answers_are_written(
+    rt: HostRuntime,
+) -> Result<(), Fail> {
+    let script = b"add a\nmerge\ncount \"to\"\ncount \"be\"\ncount \"or\"\nfiles\n";
+    let mut sink = MemSink::new(rt.alloc(), [3].to_vec(rt.alloc())?);
+    let (status, lines) = served_into(&rt, 4, &Limits::greatest(), script, &mut sink)?;
+    assert_eq!(rt; status, Status::WriteFault);
+    assert_eq!(rt; lines, 5);
+    assert_eq!(rt; sink.written(), b"file 0 0 7\nmerging\n".as_slice());
+    Ok(())
+}
+
+#[test]
+fn one_query_of_a_run_comes_before_the_merge_and_the_next_one_after_it(
+    rt: HostRuntime,
+) -> Result<(), Fail> {
+    let alloc = rt.alloc();
+    let words = list(alloc, &[b"--readers=1"])?;
+    let mut files = SureFiles::new(alloc, held(alloc)?);
+    let script = b"add a\nmerge\ncount \"to\"\ncount \"be\"\n";
+    let mut source = SureSource::new(alloc, Bytes::copy_of(alloc, script)?);
+    let mut sink = SureSink::new(alloc);
+    let gate = TurnGate::new();
+    let status = run(
+        &rt,
+        alloc,
+        words.as_slice(),
+        &mut files,
+        &mut source,
+        &mut sink,
+        &gate,
+    );
+    assert_eq!(rt; status, Status::Done);
+    assert_eq!(rt;
+        sink.written(),
+        b"file 0 0 7\nmerging\n= 2\n= 2\n".as_slice()
+    );
+    assert!(rt; !gate.ran_out());
+    assert_eq!(rt; (gate.answered_on(1), gate.answered_on(2)), (1, 2));
     Ok(())
 }
 
@@ -521,6 +662,7 @@ fn limited(line: u64, file: u64, script: u64) -> Limits {
         file,
         script,
         image: 200,
+        batch: 64,
     }
 }
 
@@ -577,7 +719,7 @@ fn each_limit_is_exact(rt: HostRuntime) -> Result<(), Fail> {
     for (line, file, script, text, (want, lines, output)) in cases {
         let limits = limited(line, file, script);
         assert!(rt; limits.are_allowed(), "{text:?}");
-        let (status, completed, written) = served(&rt, &limits, text)?;
+        let (status, completed, written) = served(&rt, 0, &limits, text)?;
         assert_eq!(rt; written.as_slice(), output, "{text:?}");
         assert_eq!(rt; status, want, "{text:?}");
         assert_eq!(rt; completed, lines, "{text:?}");
@@ -664,9 +806,10 @@ fn an_image_may_have_so_many_bytes(rt: HostRuntime) -> Result<(), Fail> {
             file: 100,
             script: 100,
             image,
+            batch: 64,
         };
         assert!(rt; limits.are_allowed(), "{script:?}");
-        let (_, _, written) = served(&rt, &limits, script)?;
+        let (_, _, written) = served(&rt, 0, &limits, script)?;
         assert_eq!(rt; written.as_slice(), output, "{script:?}");
     }
     Ok(())

@@ -82,7 +82,16 @@ pub fn run<R: Threads + Wait + Sync, F: Files, S: Source, K: Sink, G: Gate + Syn
         Err(AllocError) => return Status::NoMemory,
     };
     match options.made {
-        None => run_script(rt, alloc, options.first, files, source, sink, gate),
-        Some(made) => run_made(rt, alloc, options.first, made, sink, gate),
+        None => run_script(
+            rt,
+            alloc,
+            options.first,
+            options.readers,
+            files,
+            source,
+            sink,
+            gate,
+        ),
+        Some(made) => run_made(rt, alloc, options.first, options.readers, made, sink, gate),
     }
 }

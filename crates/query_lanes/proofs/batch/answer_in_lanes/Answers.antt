@@ -1,7 +1,7 @@
 use Rattle.std.proofs.Common.{length, ◌∙◌}
 use Rattle.query_lanes.proofs.LaneLemmas.{all_trusted}
 use Rattle.query_lanes.proofs.ReaderLemmas.{are_of}
-use Rattle.query_lanes.proofs.batch.answer_batch.Goals as goal
+use Rattle.query_lanes.proofs.batch.answer_in_lanes.Goals as goal
 
 -- the argument of the whole: what the lanes made counts by what their readers were told before and after
 pub gather-requires : goal.gather-requires

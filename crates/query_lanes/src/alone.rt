@@ -1,0 +1,65 @@
+ghost use Rattle.std.specs.Prelude.{◌≡◌, ◌<◌, map, IfOk, OnOk, OnErr};
+ghost use Rattle.collection.specs.Engines.{merge_end};
+ghost use Rattle.live_version.specs.Contents.{version_text};
+ghost use Rattle.query_lanes.specs.Answers.{answer_in};
+ghost use Rattle.query_lanes.specs.Merges.{IsMergedWhere, HasOneText};
+
+use crate::asks::{Ask, Found};
+use crate::found::find;
+use crate::merging::merge;
+use collection::Engine;
+use outside::Gate;
+use std::alloc::{AllocError, Global};
+use std::sync::Wait;
+
+/// Answers a query on the engine's own pass.
+pub fn answer_alone(alloc: Global, engine: &Engine, ask: &Ask) -> Result<Found, AllocError>
+    ensures { IfOk result (λ found. found ≡ answer_in (version_text engine.now.version) ask.now) }
+{
+    match &ask.query {
+        Ok(expr) => {
+            let pass = engine.pass()?;
+            let found = find(alloc, &pass, ask.asked, expr)?;
+            Ok(found)
+        }
+        Err(fault) => Ok(Found::Refused(*fault)),
+    }
+}
+
+/// Answers all queries there, in their order. The gate is told of each query, but of no answer: those of lanes alone are told.
+pub fn answer_all<G: Gate>(
+    alloc: Global,
+    gate: &G,
+    engine: &Engine,
+    asks: &[Ask],
+) -> Result<Vec<Found>, AllocError>
+    ensures { IfOk result (λ answers. answers.items ≡ map (answer_in (version_text engine.now.version)) asks.now) }
+{
+    let mut answers = Vec::with_capacity(alloc, asks.len())?;
+    for ask in asks {
+        gate.before_query(ask.number);
+        let found = answer_alone(alloc, engine, ask)?;
+        answers.push(found)?;
+    }
+    Ok(answers)
+}
+
+/// Merges where that is wanted.
+pub fn merge_where<R: Wait, G: Gate>(
+    rt: &R,
+    gate: &G,
+    wanted: bool,
+    engine: &mut Engine,
+) -> Result<(), AllocError>
+    requires { engine.old.version.number < merge_end }
+    ensures merged { OnOk result (IsMergedWhere wanted engine.old engine.new) }
+    ensures text { OnOk result (HasOneText engine.old engine.new) }
+    ensures err { OnErr result (engine.new ≡ engine.old) }
+{
+    if wanted {
+        return merge(rt, gate, engine);
+    }
+    // by it the history is known to be lawful
+    let _version = engine.version();
+    Ok(())
+}

@@ -1,0 +1,237 @@
+-- Batches: the queries of lines, their answers, and what becomes of the engine.
+use Rattle.std.proofs.Common.{◌≡◌, ℕ, suc, ◌+◌, ◌≤◌, Bool, true, false, List, [], ◌∷◌, ◌++◌, length, map, Option, Some, None, IsSome, refl, sym, ap, ◌∙◌, subst, arith, append_assoc, append-nil}
+use Rattle.std.specs.Prelude.{◌||◌, flat_map, if◌then◌else◌}
+use Rattle.std.specs.List.{list_any}
+use Rattle.std.proofs.lemmas.List.Folds.{list_any-append}
+use Rattle.std.proofs.lemmas.Grind.{flat_map-append}
+use Rattle.gcl_model.specs.Texts.{Text}
+use Rattle.gcl_model.specs.Forms.{Form}
+use Rattle.gcl_model.specs.Meaning.{concordance}
+use Rattle.gcl_model.specs.Collections.{text_of}
+use Rattle.live_version.specs.Contents.{version_text}
+use Rattle.live_version.proofs.PartLaws.{has_text}
+use Rattle.collection.specs.Engines.{EngineContent}
+use Rattle.gcl_parser.specs.declared.fault.QueryFault.{QueryFault}
+use Rattle.gcl_parser.specs.Grammar.{IsQueryWithin}
+use Rattle.gcl_parser.specs.Refusal.{refused}
+use Rattle.gcl_parser.specs.QueryForm.{query_form}
+use Rattle.gcl_parser.proofs.QueryForms.{query_forms_are_of_queries}
+use Rattle.script_lang.specs.Lines.{Line}
+use Rattle.script_lang.specs.Commands.{command_of}
+use Rattle.script_lang.specs.Answers.{is_refusal}
+use Rattle.script_lang.specs.declared.commands.Command.{Command}
+use Rattle.script_lang.specs.declared.commands.Command.TheVariants.{Blank, Add, Del, Find, Count, Top, Files, Merge, Shards, Save, Load, Wrong}
+use Rattle.script_lang.specs.declared.refusals.Refusal.TheVariants.{LongLine, Query}
+use Rattle.query_lanes.specs.declared.asks.Ask.{Ask}
+use Rattle.query_lanes.specs.declared.asks.Asked.{Asked}
+use Rattle.query_lanes.specs.declared.asks.Found.{Found}
+use Rattle.query_lanes.specs.Answers.{answer_in, found_in}
+use Rattle.query_lanes.specs.Merges.{IsMergedWhere}
+use Rattle.query_run.specs.States.{State, Keeps}
+use Rattle.query_run.specs.Answers.{Reply, text_of_lines, found_lines, query_lines, lines_by, unchanged, refusal_lines, reply, answer, answers, after_reply, state_after, with_later, AllAnswered, AreRead, names_asked, names_kept, names_of, names_of_line, names_kept_of, names_kept_of_line}
+use Rattle.query_run.specs.Batches.{ask_lines, asks_query, IsAskOf, IsAskedBy, AsksLine, AreAsked, Begins, BeginWithNone}
+use Rattle.query_run.specs.Progress.{Says, wish}
+use Rattle.query_run.specs.declared.limits.Limits.{Limits}
+
+-- the lines of a query that is not refused are those of the one form that it stands for
+pub lines_of_form : (asked : Asked) (query : List ℕ) (form : Form) (text : Text) → refused query ≡ None → IsQueryWithin query form
+    → found_lines (found_in asked (concordance text form)) ≡ query_lines asked text query
+lines_of_form asked query form text none within =
+    let found : query_form query ≡ Some form = (query_forms_are_of_queries query form).1 within in
+    sym (ap (λ fault. lines_by asked text fault (query_form query)) none ∙ ap (lines_by asked text None) found)
+
+-- and of one that is refused its fault
+pub lines_of_fault : (asked : Asked) (query : List ℕ) (wrong : QueryFault) (text : Text) → refused query ≡ Some wrong → refusal_lines (Query wrong) ≡ query_lines asked text query
+lines_of_fault asked query wrong text is = sym (ap (λ fault. lines_by asked text fault (query_form query)) is)
+
+pub no_fault : (fault : Option QueryFault) → ((wrong : QueryFault) → fault ≡ Some wrong → ⊥) → fault ≡ None
+no_fault None none = refl
+no_fault (Some wrong) none = absurd (none wrong refl)
+
+-- a query on the engine's version is one on the collection of the state
+pub asked_now : (engine : EngineContent) (state : State) (asked : Asked) (query : List ℕ) (ask : Ask) (found : Found) (old new : List ℕ) (refusal : Bool) → Keeps engine false state →
+    IsAskOf asked query ask → found ≡ answer_in (version_text engine.version) ask → Says (found_lines found) old new refusal → Says (query_lines asked (text_of state.collection) query) old new refusal
+asked_now engine state asked query ask found old new refusal keeps is_ask is said =
+    subst (λ lines. Says lines old new refusal)
+    (ap found_lines is ∙ ap (λ (text : Text). ask_lines text ask) (has_text engine.version state.collection keeps.stands) ∙ is_ask.lines_are (text_of state.collection)) said
+
+-- a batch of no line
+pub begins_none : (all : List Line) → Begins [] all all
+begins_none all = record { batch = []; whole = refl; are = tt }
+
+asked_more : (asks : List Ask) (batch : List Line) (ask : Ask) (line : Line) → AreAsked asks batch → AsksLine ask line → AreAsked (asks ++ ask ∷ []) (batch ++ line ∷ [])
+asked_more [] [] ask line are is = (is, tt)
+asked_more [] (other ∷ batch) ask line are is = absurd are
+asked_more (other ∷ asks) [] ask line are is = absurd are
+asked_more (other ∷ asks) (first ∷ batch) ask line are is = (are.0, asked_more asks batch ask line are.1 is)
+
+-- a line more
+pub begins_more : (asks : List Ask) (all left rest : List Line) (ask : Ask) (line : Line) → Begins asks all left → left ≡ line ∷ rest → AsksLine ask line → Begins (asks ++ ask ∷ []) all rest
+begins_more asks all left rest ask line begins next is = record {
+  batch = begins.batch ++ line ∷ [];
+  whole = begins.whole ∙ ap (λ l. begins.batch ++ l) next ∙ sym (append_assoc begins.batch (line ∷ []) rest);
+  are = asked_more asks begins.batch ask line begins.are is;
+}
+
+-- no query comes first where the first line asks none
+pub begin_with_none : (all rest : List Line) (line : Line) → all ≡ line ∷ rest → asks_query line ≡ false → BeginWithNone all
+begin_with_none all rest line is none = subst BeginWithNone (sym is) none
+
+-- with the lines ahead, those so far are all, and so are the refusals
+pub record SaysWith (ahead all : List (List ℕ)) (old now : List ℕ) (refusal : Bool) : Type 0 where
+  pub text : now ++ text_of_lines ahead ≡ old ++ text_of_lines all
+  pub refusal_is : (refusal || list_any is_refusal ahead) ≡ list_any is_refusal all
+
+-- nothing is said yet
+pub says_none : (all : List (List ℕ)) (old : List ℕ) → SaysWith all all old old false
+says_none all old = record { text = refl; refusal_is = refl }
+
+or_assoc : (a b c : Bool) → ((a || b) || c) ≡ (a || (b || c))
+or_assoc true b c = refl
+or_assoc false b c = refl
+
+or_none : (a : Bool) → (a || false) ≡ a
+or_none true = refl
+or_none false = refl
+
+-- some lines more
+pub says_more : (lines ahead all : List (List ℕ)) (old mid new : List ℕ) (a b : Bool) → SaysWith (lines ++ ahead) all old mid a → Says lines mid new b → SaysWith ahead all old new (a || b)
+says_more lines ahead all old mid new a b so_far said = record {
+  text = ap (λ l. l ++ text_of_lines ahead) said.text ∙ append_assoc mid (text_of_lines lines) (text_of_lines ahead)
+      ∙ ap (λ l. mid ++ l) (sym (flat_map-append _ lines ahead)) ∙ so_far.text;
+  refusal_is = or_assoc a b (list_any is_refusal ahead) ∙ ap (λ (r : Bool). a || (r || list_any is_refusal ahead)) said.refusal_is
+      ∙ ap (λ (r : Bool). a || r) (sym (list_any-append is_refusal lines ahead)) ∙ so_far.refusal_is;
+}
+
+-- all is said
+pub says_all : (all : List (List ℕ)) (old now : List ℕ) (refusal : Bool) → SaysWith [] all old now refusal → Says all old now refusal
+says_all all old now refusal said = record {
+  text = sym (append-nil now) ∙ said.text;
+  refusal_is = sym (or_none refusal) ∙ said.refusal_is;
+}
+
+found_asks : (text : Text) (asks : List Ask) → flat_map found_lines (map (answer_in text) asks) ≡ flat_map (ask_lines text) asks
+found_asks text [] = refl
+found_asks text (ask ∷ asks) = ap (λ l. ask_lines text ask ++ l) (found_asks text asks)
+
+-- the answers to some queries over a text
+pub asks_said : (text : Text) (asks : List Ask) (found : List Found) (old new : List ℕ) (refusal : Bool) → found ≡ map (answer_in text) asks → Says (flat_map found_lines found) old new refusal →
+    Says (flat_map (ask_lines text) asks) old new refusal
+asks_said text asks found old new refusal is said = subst (λ lines. Says lines old new refusal) (ap (flat_map found_lines) is ∙ found_asks text asks) said
+
+-- beside a batch the engine keeps the state, with the merge made where it was wanted
+pub merged_keeps : (wanted : Bool) (old new : EngineContent) (state : State) → IsMergedWhere wanted old new → Keeps old wanted state → Keeps new false state
+merged_keeps true old new state merged keeps = record {
+  stands = merged.1.change.stands state.collection keeps.stands;
+  slots = keeps.slots ∙ sym (merged.1.change.ranges state.collection keeps.stands);
+}
+merged_keeps false old new state merged keeps = subst (λ (e : EngineContent). Keeps e false state) (sym merged) keeps
+
+-- a merge that was wanted took one number
+pub merged_number : (wanted : Bool) (old new : EngineContent) → IsMergedWhere wanted old new → new.version.number ≤ old.version.number + wish wanted
+merged_number true old new merged = let next = merged.1.change.number in omega (arith, next)
+merged_number false old new merged =
+    let same : new.version.number ≡ old.version.number = ap (λ (e : EngineContent). e.version.number) merged in
+    omega (arith, same)
+
+-- of a command that asks a query
+asked_reply : (limits : Limits) (state : State) (ask : Ask) (command : Command) → IsAskedBy ask command
+    → reply limits state command ≡ Some (unchanged state (ask_lines (text_of state.collection) ask))
+asked_reply limits state ask (Find query) asks = ap (λ l. Some (unchanged state l)) (sym (asks.lines_are (text_of state.collection)))
+asked_reply limits state ask (Count query) asks = ap (λ l. Some (unchanged state l)) (sym (asks.lines_are (text_of state.collection)))
+asked_reply limits state ask (Top most query) asks = ap (λ l. Some (unchanged state l)) (sym (asks.lines_are (text_of state.collection)))
+asked_reply limits state ask Blank asks = absurd asks
+asked_reply limits state ask (Add name) asks = absurd asks
+asked_reply limits state ask (Del id) asks = absurd asks
+asked_reply limits state ask Files asks = absurd asks
+asked_reply limits state ask Merge asks = absurd asks
+asked_reply limits state ask Shards asks = absurd asks
+asked_reply limits state ask (Save name) asks = absurd asks
+asked_reply limits state ask (Load name) asks = absurd asks
+asked_reply limits state ask Wrong asks = absurd asks
+
+asks_no_name : (ask : Ask) (command : Command) → IsAskedBy ask command → (names_asked command ≡ []) × (names_kept command ≡ [])
+asks_no_name ask (Find query) asks = (refl, refl)
+asks_no_name ask (Count query) asks = (refl, refl)
+asks_no_name ask (Top most query) asks = (refl, refl)
+asks_no_name ask Blank asks = absurd asks
+asks_no_name ask (Add name) asks = absurd asks
+asks_no_name ask (Del id) asks = absurd asks
+asks_no_name ask Files asks = absurd asks
+asks_no_name ask Merge asks = absurd asks
+asks_no_name ask Shards asks = absurd asks
+asks_no_name ask (Save name) asks = absurd asks
+asks_no_name ask (Load name) asks = absurd asks
+asks_no_name ask Wrong asks = absurd asks
+
+-- the answer to a line that asks a query is that to the query, and changes nothing
+pub batch_answers : (limits : Limits) (state : State) (ask : Ask) (line : Line) → AsksLine ask line
+    → answer limits state line ≡ Some (unchanged state (ask_lines (text_of state.collection) ask))
+batch_answers limits state ask line asks =
+    ap (λ (long : Bool). if long then Some (unchanged state (refusal_lines LongLine)) else reply limits state (command_of line.bytes)) asks.short
+    ∙ asked_reply limits state ask (command_of line.bytes) asks.asks
+
+line_names : (ask : Ask) (line : Line) → AsksLine ask line → names_of_line line ≡ []
+line_names ask line asks =
+    ap (λ (long : Bool). if long then [] else names_asked (command_of line.bytes)) asks.short ∙ (asks_no_name ask (command_of line.bytes) asks.asks).0
+
+line_names_kept : (ask : Ask) (line : Line) → AsksLine ask line → names_kept_of_line line ≡ []
+line_names_kept ask line asks =
+    ap (λ (long : Bool). if long then [] else names_kept (command_of line.bytes)) asks.short ∙ (asks_no_name ask (command_of line.bytes) asks.asks).1
+
+-- a batch changes nothing
+pub batch_state : (limits : Limits) (state : State) (asks : List Ask) (batch : List Line) → AreAsked asks batch → state_after limits state batch ≡ state
+batch_state limits state [] [] are = refl
+batch_state limits state [] (line ∷ batch) are = absurd are
+batch_state limits state (ask ∷ asks) [] are = absurd are
+batch_state limits state (ask ∷ asks) (line ∷ batch) are =
+    ap (λ (o : Option Reply). state_after limits (after_reply state o) batch) (batch_answers limits state ask line are.0) ∙ batch_state limits state asks batch are.1
+
+-- its answers are those to its queries, one behind the other
+pub batch_lines : (limits : Limits) (state : State) (asks : List Ask) (batch : List Line) → AreAsked asks batch
+    → answers limits state batch ≡ flat_map (ask_lines (text_of state.collection)) asks
+batch_lines limits state [] [] are = refl
+batch_lines limits state [] (line ∷ batch) are = absurd are
+batch_lines limits state (ask ∷ asks) [] are = absurd are
+batch_lines limits state (ask ∷ asks) (line ∷ batch) are =
+    ap (λ (o : Option Reply). with_later o (answers limits (after_reply state o) batch)) (batch_answers limits state ask line are.0)
+    ∙ ap (λ l. ask_lines (text_of state.collection) ask ++ l) (batch_lines limits state asks batch are.1)
+
+-- each of its lines is answered
+pub batch_answered : (limits : Limits) (state : State) (asks : List Ask) (batch : List Line) → AreAsked asks batch → AllAnswered limits state batch
+batch_answered limits state [] [] are = tt
+batch_answered limits state [] (line ∷ batch) are = absurd are
+batch_answered limits state (ask ∷ asks) [] are = absurd are
+batch_answered limits state (ask ∷ asks) (line ∷ batch) are =
+    let is = batch_answers limits state ask line are.0 in
+    (subst IsSome (sym is) refl, subst (λ (o : Option Reply). AllAnswered limits (after_reply state o) batch) (sym is) (batch_answered limits state asks batch are.1))
+
+-- it asks the files for nothing
+pub batch_names : (asks : List Ask) (batch : List Line) → AreAsked asks batch → names_of batch ≡ []
+batch_names [] [] are = refl
+batch_names [] (line ∷ batch) are = absurd are
+batch_names (ask ∷ asks) [] are = absurd are
+batch_names (ask ∷ asks) (line ∷ batch) are = ap (λ names. names ++ names_of batch) (line_names ask line are.0) ∙ batch_names asks batch are.1
+
+-- and gives them nothing
+pub batch_names_kept : (asks : List Ask) (batch : List Line) → AreAsked asks batch → names_kept_of batch ≡ []
+batch_names_kept [] [] are = refl
+batch_names_kept [] (line ∷ batch) are = absurd are
+batch_names_kept (ask ∷ asks) [] are = absurd are
+batch_names_kept (ask ∷ asks) (line ∷ batch) are = ap (λ names. names ++ names_kept_of batch) (line_names_kept ask line are.0) ∙ batch_names_kept asks batch are.1
+
+-- it has a query for each line
+pub batch_length : (asks : List Ask) (batch : List Line) → AreAsked asks batch → length batch ≡ length asks
+batch_length [] [] are = refl
+batch_length [] (line ∷ batch) are = absurd are
+batch_length (ask ∷ asks) [] are = absurd are
+batch_length (ask ∷ asks) (line ∷ batch) are = ap suc (batch_length asks batch are.1)
+
+-- what the lines behind it open is read rightly
+pub batch_read : (limits : Limits) (state : State) (asks : List Ask) (batch rest : List Line) → AreAsked asks batch → AreRead limits state (batch ++ rest) → AreRead limits state rest
+batch_read limits state [] [] rest are read = read
+batch_read limits state [] (line ∷ batch) rest are read = absurd are
+batch_read limits state (ask ∷ asks) [] rest are read = absurd are
+batch_read limits state (ask ∷ asks) (line ∷ batch) rest are read =
+    batch_read limits state asks batch rest are.1
+    (subst (λ (o : Option Reply). AreRead limits (after_reply state o) (batch ++ rest)) (batch_answers limits state ask line are.0) read.1)
