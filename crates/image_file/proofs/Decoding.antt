@@ -2,6 +2,7 @@
 use Rattle.std.proofs.Common.{◌≡◌, ℕ, ◌+◌, ◌-◌, ◌^◌, ◌<◌, ◌≤◌, List, [], ◌∷◌, ◌++◌, length, flat_map, get_or, refl, sym, ap, ◌∙◌, subst, arith}
 use Rattle.std.specs.List.{AllByRecursion}
 use Rattle.std.proofs.lemmas.List.{append_assoc, append_cancel_left, append-nil}
+use Rattle.std.proofs.Math.Nat.{ne_of_lt}
 use Rattle.byteorder.specs.Endian.{little_bytes, little_number}
 use Rattle.byteorder.specs.Numbers.{little_number-reads_back, length-bytes_low_first}
 use Rattle.posting_code.specs.Numbers.{spelling}
@@ -15,6 +16,7 @@ use Rattle.image_file.specs.declared.format.Format.TheVariants.{One, Two}
 use Rattle.image_file.specs.Fields.{Fields, eight_bytes, long_text, short_text, differences, long_file, short_file, short_files, mark, files_bytes, term_bytes, head_bytes, image_bytes}
 use Rattle.image_file.specs.Images.{most_term}
 use Rattle.image_file.specs.Written.{CanPack, ArePacked, FitsLong, FitsShort}
+use Rattle.image_file.proofs.TermTables.{entry_is}
 
 -- lists of the same length, and what stands behind them
 pub split_same : (xs ys r s : List ℕ) → length xs ≡ length ys → xs ++ r ≡ ys ++ s → (xs ≡ ys) × (r ≡ s)
@@ -167,9 +169,6 @@ pub record CanWrite (format : Format) (first : ℕ) (e : TermEntry) : Type 0 whe
   pub some : 0 < length e.addresses
   pub rising : RiseWithin first (2 ^ 56) e.addresses
 
-entry_is : (x y : TermEntry) → x.term ≡ y.term → x.addresses ≡ y.addresses → x ≡ y
-entry_is x y term addresses = ap (λ t. record { term = t; addresses = x.addresses }) term ∙ ap (λ l. record { term = y.term; addresses = l }) addresses
-
 pub term_same : (format : Format) (first : ℕ) (x y : TermEntry) (r s : List ℕ) → CanWrite format first x → CanWrite format first y → term_bytes format first x ++ r ≡ term_bytes format first y ++ s → (x ≡ y) × (r ≡ s)
 term_same One first x y r s px py is =
     let whole = sym (three (long_text x.term) (eight_bytes (length x.addresses)) (differences first x.addresses) r) ∙ is
@@ -216,14 +215,11 @@ pub record AreWritable (format : Format) (f : Fields) : Type 0 where
   pub few_terms : length f.terms ≤ 2 ^ 56
   pub terms : AllByRecursion (CanWrite format f.first) f.terms
 
-apart : (a b : ℕ) → a < b → a ≡ b → ⊥
-apart a b lt same = omega arith
-
 pub marks_same : (a b : Format) (r s : List ℕ) → mark a ++ r ≡ mark b ++ s → a ≡ b
 marks_same One One r s is = refl
 marks_same Two Two r s is = refl
-marks_same One Two r s is = absurd (apart 49 50 (omega arith) (ap (λ l. get_or l 7 0) is))
-marks_same Two One r s is = absurd (apart 49 50 (omega arith) (sym (ap (λ l. get_or l 7 0) is)))
+marks_same One Two r s is = absurd (ne_of_lt {a = 49} {b = 50} (omega arith) (ap (λ l. get_or l 7 0) is))
+marks_same Two One r s is = absurd (ne_of_lt {a = 49} {b = 50} (omega arith) (sym (ap (λ l. get_or l 7 0) is)))
 
 -- the fields of an image, one after the other
 pub image-parts : (format : Format) (f : Fields) → image_bytes format f ≡

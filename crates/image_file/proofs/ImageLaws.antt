@@ -7,8 +7,9 @@ use Rattle.posting_code.specs.Postings.{RiseWithin}
 use Rattle.posting_code.proofs.Rising.{rise_wider}
 use Rattle.address_space.proofs.WordLemmas.{words_are_text}
 use Rattle.index_shard.specs.Tables.{TermEntry, postings_of}
+use Rattle.index_shard.proofs.ShardWords.{rising_places}
 use Rattle.live_version.specs.StandsFor.{entry_of}
-use Rattle.live_version.proofs.WordLemmas.{places_rise}
+use Rattle.live_version.proofs.ChangeLaw.{same_collection}
 use Rattle.shard_merge.proofs.SameWords.{same_words}
 use Rattle.image_file.specs.declared.format.Format.{Format}
 use Rattle.image_file.specs.declared.format.Format.TheVariants.{One, Two}
@@ -18,7 +19,6 @@ use Rattle.image_file.specs.Laws.{HasSpelling, HasOneSpelling, SpellsOne, IsOfOn
 use Rattle.image_file.proofs.TermTables.{one_table, table_of, table_is, table_all, few_terms, own_postings}
 use Rattle.image_file.proofs.Packing.{sound_packs, packed_few, few_words}
 use Rattle.image_file.proofs.Decoding.{AreWritable, CanWrite, image_same}
-use Rattle.image_file.proofs.OneCollection.{same_collection}
 
 pub has_spelling : HasSpelling
 has_spelling c said short =
@@ -44,7 +44,7 @@ can_write format next first words (e ∷ es) terms end rising is own some short 
       record {
         short = short.0;
         some = some.0;
-        rising = rise_wider first first next (2 ^ 56) e.addresses (subst (RiseWithin first next) list (places_rise next first words e.term rising)) (omega arith) end;
+        rising = rise_wider first first next (2 ^ 56) e.addresses (subst (RiseWithin first next) list (rising_places next first words e.term rising)) (omega arith) end;
       },
       can_write format next first words es terms end rising is own.1 some.1 short.1,
     )

@@ -6,7 +6,7 @@ use Rattle.std.proofs.lemmas.List.{append-nil, drop_more}
 use Rattle.gcl_model.specs.Texts.{Word}
 use Rattle.gcl_model.specs.Limits.{address_end}
 use Rattle.gcl_model.specs.Collections.{Collection, File, IsToken, width_of, empty_from, file_end, with_boundaries, with_file, without_file, words_from, words_of}
-use Rattle.gcl_model.proofs.Lists.{all_append, all_left}
+use Rattle.gcl_model.proofs.Lists.{all_append, all_left, all_right}
 use Rattle.address_space.proofs.CollectionLemmas.{adding_keeps_soundness, deleting_keeps_soundness, start_is_sound}
 use Rattle.live_version.specs.Changes.{HasTokens, empty_version}
 use Rattle.gcl_model.specs.Names.{is_name}
@@ -42,14 +42,10 @@ added_short c name tokens short all =
     subst (AllByRecursion (λ (w : Word). length w.token < 2 ^ 56)) (sym words)
     (all_append (λ (w : Word). length w.token < 2 ^ 56) (words_of c) (file_words file) short (omega arith, tokens_short (c.next + 1) tokens all))
 
-left_of : (xs ys : List Word) → AllByRecursion (λ (w : Word). length w.token < 2 ^ 56) (xs ++ ys) → AllByRecursion (λ (w : Word). length w.token < 2 ^ 56) ys
-left_of [] ys all = all
-left_of (x ∷ xs) ys all = left_of xs ys all.1
-
 files_short : (id : ℕ) (files : List File) → AllByRecursion (λ (w : Word). length w.token < 2 ^ 56) (flat_map file_words files)
     → AllByRecursion (λ (w : Word). length w.token < 2 ^ 56) (flat_map file_words (filter (λ file. not (eqb file.id id)) files))
 files_short id [] all = tt
-files_short id (file ∷ files) all = by_test (eqb file.id id) (files_short id files (left_of (file_words file) (flat_map file_words files) all))
+files_short id (file ∷ files) all = by_test (eqb file.id id) (files_short id files (all_right (λ (w : Word). length w.token < 2 ^ 56) (file_words file) (flat_map file_words files) all))
   where
     by_test : (t : Bool) → AllByRecursion (λ (w : Word). length w.token < 2 ^ 56) (flat_map file_words (filter (λ other. not (eqb other.id id)) files))
         → AllByRecursion (λ (w : Word). length w.token < 2 ^ 56) (flat_map file_words (cond (not t) (file ∷ filter (λ other. not (eqb other.id id)) files) (filter (λ other. not (eqb other.id id)) files)))

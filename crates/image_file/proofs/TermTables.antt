@@ -9,20 +9,14 @@ use Rattle.std.proofs.lemmas.Cmp.{nat_list_cmp_total}
 use Rattle.std.proofs.lemmas.Map.Lookups.{exact_bytes}
 use Rattle.std.proofs.lemmas.Slice.Eq.{bytes_eq-Decides}
 use Rattle.gcl_model.specs.Texts.{Word, places}
-use Rattle.gcl_model.proofs.Lists.{all_both, all_weaker}
+use Rattle.gcl_model.proofs.Lists.{all_both}
 use Rattle.index_shard.specs.Tables.{TermEntry, ComesBefore, postings_of}
-use Rattle.slot_terms.proofs.Passing.{AllAfter, before_differs, after_differs}
+use Rattle.index_shard.proofs.TableLaws.{term_entry as entry}
+use Rattle.slot_terms.proofs.Passing.{AllAfter, after_earlier, after_missed, before_differs}
 use Rattle.image_file.specs.Images.{AreTermsOf, TermsRise}
 
 pub reversed : (a b : List ℕ) → slice_cmp nat_cmp a b ≡ Greater → ComesBefore b a
 reversed a b is = nat_list_cmp_total.antisymm b a ∙ ap ordering_reverse is
-
-pub after_missed : (term : List ℕ) (es : List TermEntry) → AllAfter term es → postings_of es term ≡ []
-after_missed term [] all = refl
-after_missed term (e ∷ es) all = rw (after_differs term e.term all.0) (after_missed term es all.1)
-
-pub after_earlier : (a b : List ℕ) (es : List TermEntry) → ComesBefore a b → AllAfter b es → AllAfter a es
-after_earlier a b es before all = all_weaker (λ (e : TermEntry). ComesBefore b e.term) (λ (e : TermEntry). ComesBefore a e.term) (λ e is. nat_list_cmp_total.trans a b e.term before is) es all
 
 pub own_first : (e : TermEntry) (es : List TermEntry) → postings_of (e ∷ es) e.term ≡ e.addresses
 own_first e es = rw ((bytes_eq-Decides e.term e.term).1 refl) refl
@@ -38,7 +32,8 @@ none_of_some (x ∷ xs) some is = absurd cc
 abbrev AreSome : List TermEntry → Type 0
 AreSome es = AllByRecursion (λ e. 0 < length e.addresses) es
 
-entry_is : (x y : TermEntry) → x.term ≡ y.term → x.addresses ≡ y.addresses → x ≡ y
+-- an entry is known by its term and its addresses
+pub entry_is : (x y : TermEntry) → x.term ≡ y.term → x.addresses ≡ y.addresses → x ≡ y
 entry_is x y term addresses =
     ap (λ t. record { term = t; addresses = x.addresses }) term ∙ ap (λ l. record { term = y.term; addresses = l }) addresses
 
@@ -75,9 +70,6 @@ pub one_table : (words : List Word) (xs ys : List TermEntry) → AreTermsOf word
 one_table words xs ys a b = same_terms xs ys a.rising b.rising a.some b.some (λ t. a.places t ∙ sym (b.places t))
 
 -- the table of some words, made word by word from the last one on
-
-abbrev entry : List ℕ → List ℕ → TermEntry
-entry term addresses = record { term = term; addresses = addresses }
 
 -- with a word before the first term, at it, or somewhere behind it
 abbrev put_by : Ordering → Word → TermEntry → (es rest : List TermEntry) → List TermEntry

@@ -1,9 +1,10 @@
 -- Images, computed.
-use Rattle.std.proofs.Common.{◌≡◌, ℕ, ◌≤◌, List, [], ◌∷◌, ◌++◌, codes, true, length, refl, arith}
+use Rattle.std.proofs.Common.{◌≡◌, ◌≤◌, List, [], ◌∷◌, ◌++◌, codes, true, length, refl, arith}
 use Rattle.gcl_model.specs.Collections.{Collection, file_start, file_end, words_of}
 use Rattle.gcl_model.specs.Names.{is_name}
 use Rattle.gcl_model.specs.Texts.{places}
 use Rattle.index_shard.specs.Tables.{TermEntry, postings_of}
+use Rattle.index_shard.proofs.TableLaws.{term_entry as entry}
 use Rattle.image_file.specs.declared.format.Format.{Format}
 use Rattle.image_file.specs.declared.format.Format.TheVariants.{One, Two}
 use Rattle.image_file.specs.Fields.{differences, image_bytes}
@@ -16,9 +17,6 @@ differences-from_three = refl
 -- of a file "a" with "to be or not to be" and an empty file "b", the first deleted
 abbrev only_b : Collection
 only_b = record { first = 0; next = 10; next_id = 2; dels = 0; files = record { id = 1; name = 98 ∷ []; base = 8; tokens = [] } ∷ [] }
-
-abbrev entry : List ℕ → List ℕ → TermEntry
-entry term addresses = record { term = term; addresses = addresses }
 
 abbrev terms_of_b : List TermEntry
 terms_of_b = entry file_end (9 ∷ []) ∷ entry file_start (8 ∷ []) ∷ []

@@ -1,24 +1,22 @@
 -- The terms that were written, and those that are still to come.
-use Rattle.std.proofs.Common.{◌≡◌, ℕ, ◌+◌, ◌-◌, ◌^◌, ◌<◌, ◌≤◌, true, List, [], ◌∷◌, ◌++◌, length, map, flat_map, drop, get_or, bytes_eq, inl, inr, refl, sym, ap, ◌∙◌, subst, arith, length-append}
-use Rattle.std.specs.List.{AllByRecursion, list_any}
+use Rattle.std.proofs.Common.{◌≡◌, ℕ, ◌+◌, ◌-◌, ◌^◌, ◌<◌, ◌≤◌, List, [], ◌∷◌, ◌++◌, length, map, flat_map, drop, get_or, bytes_eq, inl, inr, refl, sym, ap, ◌∙◌, subst, arith, length-append}
+use Rattle.std.specs.List.{AllByRecursion}
 use Rattle.std.proofs.lemmas.Bool.{cases_Bool, cases_lt}
-use Rattle.std.proofs.lemmas.List.{append_assoc, append-nil, drop_more}
-use Rattle.std.proofs.lemmas.Grind.{flat_map-append}
+use Rattle.std.proofs.lemmas.List.{append_assoc, drop_more, flat_map_more}
 use Rattle.std.proofs.lemmas.Slice.Eq.{bytes_eq-Decides}
 use Rattle.gcl_model.specs.Texts.{Word, places}
-use Rattle.gcl_model.proofs.WordLists.{places-append}
 use Rattle.posting_code.specs.Numbers.{spelling}
 use Rattle.posting_code.specs.Postings.{RiseWithin}
 use Rattle.posting_code.proofs.Numbers.{spelling-small, spelling-more}
 use Rattle.posting_code.proofs.Rising.{rise_wider}
-use Rattle.index_shard.specs.Tables.{TermEntry, ComesBefore, postings_of}
-use Rattle.index_shard.proofs.TableLaws.{all_push}
-use Rattle.live_version.specs.Contents.{SlotContent, VersionContent, IsSlot, IsVersion, files_of, live_of, live_words}
-use Rattle.live_version.proofs.WordLemmas.{live_places, live_of_rise, places_rise}
-use Rattle.slot_terms.specs.Parts.{PartContent, IsNext, is_headed, part_of, past, postings_left}
-use Rattle.slot_terms.proofs.Passing.{AllPartsAfter, before_differs, member_after}
-use Rattle.shard_merge.proofs.Runs.{parts_are_tables}
-use Rattle.shard_merge.proofs.TermByTerm.{IsMerging, merging_begins, merging_skips, merging_pushes, merged_all}
+use Rattle.index_shard.specs.Tables.{TermEntry, ComesBefore}
+use Rattle.index_shard.proofs.TableLaws.{all_push, term_entry as entry}
+use Rattle.index_shard.proofs.ShardWords.{rising_places}
+use Rattle.live_version.specs.Contents.{VersionContent, IsVersion, files_of, live_of}
+use Rattle.live_version.proofs.WordLemmas.{live_of_rise}
+use Rattle.slot_terms.specs.Parts.{PartContent, IsNext, part_of, past, postings_left}
+use Rattle.shard_merge.proofs.Runs.{left_places, parts_are_tables}
+use Rattle.shard_merge.proofs.TermByTerm.{AllBefore, all_before, before_missed, IsMerging, merging_begins, merging_skips, merging_pushes, merged_all}
 use Rattle.image_file.specs.declared.format.Format.TheVariants.{Two}
 use Rattle.gcl_model.specs.Collections.{Collection, IsSound}
 use Rattle.live_version.specs.StandsFor.{StandsFor}
@@ -29,30 +27,9 @@ use Rattle.image_file.proofs.Packing.{forgotten_sound, sound_packs}
 use Rattle.image_file.specs.Images.{AreShort, AreTermsOf, CanBeSaved, Spells, TermsRise, fields_of, forgotten}
 use Rattle.image_file.specs.Written.{ArePacked, IsTermText, IsTextOf}
 
--- the live postings of the slots are the places among their live words
-left_places : (slots : List SlotContent) (term : List ℕ) → AllByRecursion IsSlot slots → postings_left (map part_of slots) term ≡ places (live_of slots) term
-left_places [] term all = refl
-left_places (slot ∷ slots) term all =
-    ap (λ l. l ++ postings_left (map part_of slots) term) (sym (live_places slot term all.0))
-    ∙ ap (λ l. places (live_words slot) term ++ l) (left_places slots term all.1)
-    ∙ sym (places-append (live_words slot) (live_of slots) term)
-
--- all entries come before the term
-abbrev AllBefore : List ℕ → List TermEntry → Type 0
-AllBefore term es = AllByRecursion (λ e. ComesBefore e.term term) es
-
-all_before : (parts : List PartContent) (table : List TermEntry) (term : List ℕ) → list_any (λ part. is_headed part.left term) parts ≡ true →
-    AllByRecursion (λ e. AllPartsAfter e.term parts) table → AllBefore term table
-all_before parts [] term any all = tt
-all_before parts (e ∷ es) term any all = (member_after parts term e.term any all.0, all_before parts es term any all.1)
-
 pub rising_push : (es : List TermEntry) (e : TermEntry) → TermsRise es → AllBefore e.term es → TermsRise (es ++ e ∷ [])
 rising_push [] e rise before = (tt, tt)
 rising_push (d ∷ ds) e rise before = (all_push (λ (later : TermEntry). ComesBefore d.term later.term) ds e rise.0 before.0, rising_push ds e rise.1 before.1)
-
-before_missed : (es : List TermEntry) (term : List ℕ) → AllBefore term es → postings_of es term ≡ []
-before_missed [] term all = refl
-before_missed (e ∷ es) term all = rw (before_differs e.term term all.0) (before_missed es term all.1)
 
 -- some terms of the version were written, and the parts have the rest
 pub record IsWriting (v : VersionContent) (parts : List PartContent) (number : ℕ) (text : List ℕ) (table : List TermEntry) : Type 0 where
@@ -95,9 +72,6 @@ writing_skips v parts count bytes term w next = (
   },
 )
 
-abbrev entry : List ℕ → List ℕ → TermEntry
-entry term addresses = record { term = term; addresses = addresses }
-
 spelled_some : (n : ℕ) → n < 2 ^ 56 → 0 < length (spelling n)
 spelled_some n lt = elim (cases_lt n 128) [
   | inl small ↦ subst (λ bs. 0 < length bs) (sym (spelling-small n small)) (omega arith)
@@ -108,9 +82,6 @@ pub term_longer : (first : ℕ) (e : TermEntry) → length e.term < 2 ^ 56 → 0
 term_longer first e short =
     let some = spelled_some (length e.term) short in
     omega (arith, some, length-append (spelling (length e.term)) e.term, length-append (short_text e.term) (spelling (length e.addresses - 1)), length-append (short_text e.term ++ spelling (length e.addresses - 1)) (differences first e.addresses))
-
-flat_push : (f : TermEntry → List ℕ) (es : List TermEntry) (e : TermEntry) → flat_map f (es ++ e ∷ []) ≡ flat_map f es ++ f e
-flat_push f es e = flat_map-append f es (e ∷ []) ∙ ap (λ l. flat_map f es ++ l) (append-nil (f e))
 
 pub writing_pushes : (v : VersionContent) (parts : List PartContent) (count : ℕ) (bytes more term addresses : List ℕ) → Writes v parts count bytes → IsNext parts term addresses → 0 < length addresses → length term < 2 ^ 56 →
     more ≡ bytes ++ short_term v.first (entry term addresses) → Writes v (map (past term) parts) (count + 1) more
@@ -127,7 +98,7 @@ writing_pushes v parts count bytes more term addresses w next some short is =
         some = all_push (λ (d : TermEntry). 0 < length d.addresses) w.0 e w.1.some some;
         short = all_push (λ (d : TermEntry). length d.term < 2 ^ 56) w.0 e w.1.short short;
         count = omega (arith, counted, length-append w.0 (e ∷ []));
-        bytes = is ∙ ap (λ bs. bs ++ short_term v.first e) w.1.bytes ∙ sym (flat_push (term_bytes Two v.first) w.0 e);
+        bytes = is ∙ ap (λ bs. bs ++ short_term v.first e) w.1.bytes ∙ flat_map_more (term_bytes Two v.first) [] w.0 e;
         few = subst (λ bs. count + 1 ≤ length bs) (sym is) (omega (arith, few, longer, length-append bytes (short_term v.first e)));
       },
     )
@@ -173,7 +144,7 @@ may_write v parts count bytes term addresses is short w next some =
     record {
       short = placed_short (2 ^ 56) (live_of v.slots) term short (subst (λ l. 0 < length l) list some);
       rising = subst (RiseWithin v.first (2 ^ 56)) (sym list)
-          (rise_wider v.first v.first v.next (2 ^ 56) (places (live_of v.slots) term) (places_rise v.next v.first (live_of v.slots) term (live_of_rise v.first v.next v.slots is.apart is.slots)) (omega arith) end);
+          (rise_wider v.first v.first v.next (2 ^ 56) (places (live_of v.slots) term) (rising_places v.next v.first (live_of v.slots) term (live_of_rise v.first v.next v.slots is.apart is.slots)) (omega arith) end);
     }
 
 -- one difference more

@@ -1,7 +1,7 @@
 -- The addresses that were read of a term, and those that any image of the bytes still has.
-use Rattle.std.proofs.Common.{◌≡◌, ℕ, zero, suc, ◌+◌, ◌-◌, ◌^◌, ◌<◌, ◌≤◌, Bool, true, false, ◌||◌, eqb, List, [], ◌∷◌, ◌++◌, length, Some, inl, inr, refl, sym, ap, ◌∙◌, subst, arith, length-append, le_refl}
-use Rattle.std.specs.List.{AllByRecursion}
-use Rattle.std.proofs.lemmas.Bool.{true≢false, cases_Bool, or_left, or_right, eqb-true, eq-eqb, ne_eqb}
+use Rattle.std.proofs.Common.{◌≡◌, ℕ, zero, suc, ◌+◌, ◌-◌, ◌^◌, ◌<◌, ◌≤◌, Bool, true, false, ◌||◌, eqb, List, [], ◌∷◌, ◌++◌, length, Option, Some, None, inl, inr, refl, sym, ap, ◌∙◌, subst, arith, length-append, le_refl}
+use Rattle.std.specs.List.{AllByRecursion, list_any}
+use Rattle.std.proofs.lemmas.Bool.{true≢false, cases_Bool, or_cases, or_left, or_right, eqb-true, eqb-false, eq-eqb, ne_eqb, or_parts}
 use Rattle.std.proofs.lemmas.List.{append_assoc, append-nil}
 use Rattle.std.proofs.lemmas.List.Folds.{list_any-append}
 use Rattle.posting_code.specs.Numbers.{spelling}
@@ -149,14 +149,6 @@ next_is bound next start role before addresses rest all end p more gap behind en
     let same = cut.0 in
     (omega (arith, same, from, le), cut.1)
 
-or_false_left : (a b : Bool) → (a || b) ≡ false → a ≡ false
-or_false_left false b is = refl
-or_false_left true b is = absurd cc
-
-or_false_right : (a b : Bool) → (a || b) ≡ false → b ≡ false
-or_false_right false b is = is
-or_false_right true b is = absurd cc
-
 or_turned : (a b c : Bool) → (a || (b || c)) ≡ ((b || (a || false)) || c)
 or_turned true true c = refl
 or_turned true false c = refl
@@ -184,7 +176,7 @@ sees_push start now after addresses p all one = record {
 -- the address was seen neither before nor since
 pub fresh_at : (start now : SeenContent) (addresses : List ℕ) (p : ℕ) (role : Role) → SeesAll start now addresses → role_in start.files p ≡ Some role → is_seen now p ≡ false → is_seen start p ≡ false
 fresh_at start now addresses p role sees is none =
-    or_false_right (has_address addresses p) (is_seen start p) (sym (sees.seen p (role_of_files start.files p role is)) ∙ none)
+    (or_parts (has_address addresses p) (is_seen start p) (sym (sees.seen p (role_of_files start.files p role is)) ∙ none)).1
 
 pub addresses_step : (first next number : ℕ) (start : SeenContent) (role : Role) (whole : List ℕ) (i before : ℕ) (now : SeenContent) (addresses rest : List ℕ) (bound gap : ℕ) (behind : List ℕ) (after : SeenContent) → next ≤ 2 ^ 56 → i < number →
     AreRead first next number start role whole i before now addresses rest bound → IsPacked rest gap behind → bound ≤ before + gap → before + gap < next → role_in start.files (before + gap) ≡ Some role → is_seen now (before + gap) ≡ false →

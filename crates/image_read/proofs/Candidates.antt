@@ -1,22 +1,24 @@
 -- What an image says of a sound collection.
-use Rattle.std.proofs.Common.{◌≡◌, ℕ, ◌+◌, ◌<◌, ◌≤◌, Bool, true, false, ◌&&◌, eqb, leb, ltb, bytes_eq, List, [], ◌∷◌, ◌++◌, length, map, flat_map, get_or, Some, inl, inr, refl, sym, ap, ◌∙◌, subst, arith, length-append}
+use Rattle.std.proofs.Common.{◌≡◌, ℕ, zero, suc, ◌+◌, ◌-◌, ◌*◌, ◌^◌, ◌<◌, ◌≤◌, Bool, true, false, ◌||◌, eqb, bytes_eq, List, [], ◌∷◌, ◌++◌, length, map, flat_map, find, get_or, Option, Some, None, inl, inr, refl, sym, ap, ◌∙◌, subst, arith, length-append, ◌&&◌, leb, ltb}
 use Rattle.std.specs.List.{AllByRecursion, list_any}
-use Rattle.std.proofs.lemmas.Bool.{true≢false, cases_Bool, or_cases, or_left, or_right, eqb-false, eq-eqb, ne_eqb, le-leb, lt-ltb, le-ltb, leb-true, ltb-true}
+use Rattle.std.specs.Option.{option_map}
+use Rattle.std.proofs.lemmas.Bool.{true≢false, cases_Bool, or_cases, or_left, or_right, eqb-true, eqb-false, eq-eqb, ne_eqb, lt-leb, le-leb, lt-ltb, le-ltb, leb-true, ltb-true}
 use Rattle.std.proofs.lemmas.List.Folds.{list_any-append}
 use Rattle.std.proofs.lemmas.Slice.Eq.{bytes_eq-Decides}
+use Rattle.std.proofs.Math.Nat.{ne_of_lt}
 use Rattle.gcl_model.specs.Texts.{Word, places, AreRisingBelow}
 use Rattle.gcl_model.specs.Collections.{Collection, File, AreFilesFrom, IsToken, file_start, file_end, with_boundaries, words_from, words_of, width_of}
 use Rattle.gcl_model.proofs.Lists.{all_append, all_weaker}
 use Rattle.posting_code.specs.Postings.{RiseWithin}
-use Rattle.live_version.proofs.WordLemmas.{places_rise}
 use Rattle.address_space.specs.Runs.{FileEntry}
 use Rattle.address_space.proofs.CollectionLemmas.{up_to}
 use Rattle.address_space.proofs.WordLemmas.{words_are_text}
 use Rattle.index_shard.specs.Tables.{TermEntry, AreApart, has_address, postings_of}
+use Rattle.index_shard.proofs.ShardWords.{rising_places, rising_apart}
 use Rattle.slot_terms.proofs.Passing.{AllAfter, before_differs}
-use Rattle.shard_merge.proofs.SameWords.{places_apart}
 use Rattle.live_version.specs.Contents.{is_of_file, is_of_files}
 use Rattle.live_version.specs.StandsFor.{entry_of}
+use Rattle.live_version.proofs.ChangeFiles.{is_of_file-inside, is_of_file-bounds, is_of_file-behind}
 use Rattle.image_file.specs.declared.format.Format.{Format}
 use Rattle.image_file.specs.Images.{AreTermsOf, CanBeSaid, SpellsWith, TermsRise, AreShort}
 use Rattle.image_file.proofs.TermTables.{own_postings}
@@ -33,43 +35,18 @@ all_files c at id (file ∷ files) h =
       all_files c (file.base + width_of file.tokens) (file.id + 1) files h.5,
     )
 
--- an address is one of a file's, or not
-pub inside : (p : ℕ) (file : FileEntry) → file.base ≤ p → p < file.base + file.len → is_of_file p file ≡ true
-inside p file le lt = rw (le-leb file.base p le, lt-ltb p (file.base + file.len) lt) refl
-
-pub behind : (p : ℕ) (file : FileEntry) → file.base + file.len ≤ p → is_of_file p file ≡ false
-behind p file le = by_left (leb file.base p) (ltb p (file.base + file.len)) (le-ltb p (file.base + file.len) le)
-  where
-    by_left : (a b : Bool) → b ≡ false → (a && b) ≡ false
-    by_left true b is = is
-    by_left false b is = refl
-
-pub within : (p : ℕ) (file : FileEntry) → is_of_file p file ≡ true → (file.base ≤ p) × (p < file.base + file.len)
-within p file is = (leb-true file.base p (first _ _ is), ltb-true p (file.base + file.len) (second _ _ is))
-  where
-    first : (a b : Bool) → (a && b) ≡ true → a ≡ true
-    first true b is = refl
-    first false b is = absurd cc
-
-    second : (a b : Bool) → (a && b) ≡ true → b ≡ true
-    second true b is = is
-    second false b is = absurd cc
-
 pub role_here : (p : ℕ) (file : FileEntry) (files : List FileEntry) → is_of_file p file ≡ true → role_in (file ∷ files) p ≡ Some (role_of_file p file)
 role_here p file files is = rw is refl
 
 pub role_later : (p : ℕ) (file : FileEntry) (files : List FileEntry) → is_of_file p file ≡ false → role_in (file ∷ files) p ≡ role_in files p
 role_later p file files is = rw is refl
 
-unequal : (a b : ℕ) → a < b → a ≡ b → ⊥
-unequal a b lt same = omega arith
-
 -- a token is none of the boundary
 pub start_is_no_token : IsToken file_start → ⊥
-start_is_no_token is = unequal 33 62 (omega arith) (sym (ap (λ ts. get_or (get_or ts 0 []) 5 0) is))
+start_is_no_token is = ne_of_lt {a = 33} {b = 62} (omega arith) (sym (ap (λ ts. get_or (get_or ts 0 []) 5 0) is))
 
 pub end_is_no_token : IsToken file_end → ⊥
-end_is_no_token is = unequal 33 62 (omega arith) (sym (ap (λ ts. get_or (get_or ts 0 []) 6 0) is))
+end_is_no_token is = ne_of_lt {a = 33} {b = 62} (omega arith) (sym (ap (λ ts. get_or (get_or ts 0 []) 6 0) is))
 
 pub role_of-token : (t : List ℕ) → IsToken t → role_of t ≡ Inner
 role_of-token t is = elim (cases_Bool (bytes_eq t file_start)) [
@@ -101,7 +78,7 @@ role-inner p file other not_last = rw (ne_eqb p file.base (λ e. other (sym e)),
 inner_words : (file : FileEntry) (files : List FileEntry) (at p : ℕ) (tokens : List (List ℕ)) → at ≤ file.base → file.base < p → p + length tokens + 1 ≡ file.base + file.len → AllByRecursion IsToken tokens →
     AreWordsOf (file ∷ files) at (words_from p (tokens ++ file_end ∷ []))
 inner_words file files at p [] from lt is all =
-    let here = inside p file (omega arith) (omega arith) in (
+    let here = is_of_file-inside p file (omega arith) (omega arith) in (
       record {
         from = omega arith;
         role = role_here p file files here ∙ ap (λ r. Some r) (role-last p file (λ e. omega arith) (omega arith));
@@ -110,7 +87,7 @@ inner_words file files at p [] from lt is all =
       tt,
     )
 inner_words file files at p (t ∷ ts) from lt is all =
-    let here = inside p file (omega arith) (omega arith) in (
+    let here = is_of_file-inside p file (omega arith) (omega arith) in (
       record {
         from = omega arith;
         role = role_here p file files here ∙ ap (λ r. Some r) (role-inner p file (λ e. omega arith) (λ e. omega arith) ∙ sym (role_of-token t all.0));
@@ -122,7 +99,7 @@ inner_words file files at p (t ∷ ts) from lt is all =
 later_words : (file : FileEntry) (files : List FileEntry) (at : ℕ) (words : List Word) → at ≤ file.base → AreWordsOf files (file.base + file.len) words → AreWordsOf (file ∷ files) at words
 later_words file files at words from all =
     all_weaker (λ (w : Word). IsWordOf files (file.base + file.len) w.address w.token) (λ (w : Word). IsWordOf (file ∷ files) at w.address w.token)
-    (λ w is. let le : file.base + file.len ≤ w.address = is.from in record { from = omega arith; role = role_later w.address file files (behind w.address file le) ∙ is.role; token = is.token }) words all
+    (λ w is. let le : file.base + file.len ≤ w.address = is.from in record { from = omega arith; role = role_later w.address file files (is_of_file-behind w.address file le) ∙ is.role; token = is.token }) words all
 
 pub collection_words : (c : Collection) (at id : ℕ) (files : List File) → AreFilesFrom c at id files →
     AreWordsOf (map entry_of files) at (flat_map (λ (f : File). words_from f.base (with_boundaries f.tokens)) files)
@@ -132,7 +109,7 @@ collection_words c at id (file ∷ files) h =
     let e = entry_of file in
     let first : IsWordOf (e ∷ map entry_of files) at file.base file_start = record {
       from = h.0;
-      role = role_here file.base e (map entry_of files) (inside file.base e (omega arith) (omega arith)) ∙ ap (λ r. Some r) (role-first e);
+      role = role_here file.base e (map entry_of files) (is_of_file-inside file.base e (omega arith) (omega arith)) ∙ ap (λ r. Some r) (role-first e);
       token = λ is. absurd cc;
     } in
     all_append (λ (w : Word). IsWordOf (e ∷ map entry_of files) at w.address w.token) (words_from file.base (with_boundaries file.tokens)) (flat_map (λ (f : File). words_from f.base (with_boundaries f.tokens)) files)
@@ -163,7 +140,7 @@ each_entry format first next files words (e ∷ es) terms all rising is own some
         some = some.0;
         token = one.1.token;
         fills = record {
-          rising = subst (RiseWithin first next) list (places_rise next first words e.term rising);
+          rising = subst (RiseWithin first next) list (rising_places next first words e.term rising);
           roles = all_weaker (λ p. IsWordOf files first p e.term) (λ p. role_in files p ≡ Some (role_of e.term)) (λ p w. w.role) e.addresses facts;
         };
       },
@@ -175,7 +152,7 @@ apart_later : (next first : ℕ) (words : List Word) (e : TermEntry) (es : List 
 apart_later next first words e [] rising mine after own = tt
 apart_later next first words e (d ∷ ds) rising mine after own =
     let other : e.term ≡ d.term → ⊥ = λ same. true≢false (sym ((bytes_eq-Decides e.term d.term).1 same) ∙ before_differs e.term d.term after.0) in
-    let apart = places_apart next first words e.term d.term rising other in
+    let apart = rising_apart next first words e.term d.term rising other in
     (subst (λ l. AreApart l d.addresses) mine (subst (AreApart (places words e.term)) own.0 apart), apart_later next first words e ds rising mine after.1 own.1)
 
 pub terms_apart : (next first : ℕ) (words : List Word) (es : List TermEntry) → AreRisingBelow next first words → TermsRise es → AllByRecursion (λ (d : TermEntry). places words d.term ≡ d.addresses) es → TermsApart es
@@ -200,7 +177,7 @@ words_cover (file ∷ files) p is =
     let rest = flat_map (λ (f : File). words_from f.base (with_boundaries f.tokens)) files in
     list_any-append (λ (w : Word). eqb w.address p) here rest ∙ (elim (or_cases (is_of_file p (entry_of file)) (is_of_files (map entry_of files) p) is) [
       | inl h ↦
-          let at = within p (entry_of file) h in
+          let at = is_of_file-bounds p (entry_of file) h in
           or_left (has_word here p) (has_word rest p) (word_from file.base p (with_boundaries file.tokens) at.0 (omega (arith, at.1, length-append file.tokens (file_end ∷ []))))
       | inr h ↦ or_right (has_word here p) (has_word rest p) (words_cover files p h)
     ])

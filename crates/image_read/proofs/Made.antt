@@ -1,10 +1,11 @@
 -- The collection of some records and a table that has a term at each of their addresses.
-use Rattle.std.proofs.Common.{◌≡◌, ℕ, zero, suc, ◌+◌, ◌-◌, ◌<◌, ◌≤◌, true, false, eqb, bytes_eq, List, [], ◌∷◌, ◌++◌, length, map, flat_map, Option, Some, None, inl, inr, refl, sym, ap, ◌∙◌, subst, arith}
-use Rattle.std.specs.List.{AllByRecursion, range_with_len}
+use Rattle.std.proofs.Common.{◌≡◌, ℕ, zero, suc, ◌+◌, ◌-◌, ◌<◌, ◌≤◌, Bool, true, false, ◌||◌, bytes_eq, List, [], ◌∷◌, ◌++◌, length, map, flat_map, get_or, Option, Some, None, inl, inr, refl, sym, ap, ◌∙◌, subst, arith, length-append, eqb}
+use Rattle.std.specs.List.{AllByRecursion, list_any, range_with_len}
 use Rattle.std.specs.Option.{option_map, option_to_list}
-use Rattle.std.proofs.lemmas.Bool.{cases_Bool, or_cases, or_left, or_right, eqb-true, lt-leb}
+use Rattle.std.proofs.lemmas.Bool.{true≢false, cases_Bool, cases_lt, or_left, or_right, eqb-false, lt-leb, or_cases, eqb-true}
 use Rattle.std.proofs.lemmas.Grind.{flat_map-append}
 use Rattle.std.proofs.lemmas.Slice.Eq.{bytes_eq-Decides}
+use Rattle.std.proofs.lemmas.Option.{same_Some}
 use Rattle.gcl_model.specs.Texts.{Word}
 use Rattle.gcl_model.specs.Collections.{Collection, File, AreFilesFrom, IsToken, file_start, file_end, with_boundaries, words_from, width_of}
 use Rattle.address_space.specs.Runs.{FileEntry}
@@ -12,11 +13,12 @@ use Rattle.index_shard.specs.Tables.{TermEntry, has_address, term_at}
 use Rattle.index_shard.proofs.ShardWords.{word, words_at}
 use Rattle.live_version.specs.Contents.{is_of_file, is_of_files}
 use Rattle.live_version.specs.StandsFor.{entry_of}
+use Rattle.live_version.proofs.ChangeFiles.{is_of_file-inside, is_of_file-behind, is_of_file-bounds}
 use Rattle.image_file.specs.declared.format.Format.{Format}
-use Rattle.image_read.specs.declared.places.Role.{Role}
 use Rattle.image_read.specs.declared.places.Role.TheVariants.{Start, Inner, End}
 use Rattle.image_read.specs.Reading.{AreAllEntries, AreAllFiles, IsEntry, is_covered, role_in, role_of, role_of_file}
-use Rattle.image_read.proofs.Candidates.{inside, behind, within, role_here, role_later, role-first, role-inner, role-last}
+use Rattle.image_read.proofs.Candidates.{role_here, role_later, role-first, role-inner, role-last}
+use Rattle.image_read.proofs.TermTracking.{member_all}
 
 -- the token at an address, where the table has one
 abbrev pub token_or : Option (List ℕ) → List ℕ
@@ -48,20 +50,17 @@ pub record IsWordTable (table : List TermEntry) (files : List FileEntry) (at : �
 
 next_table : (table : List TermEntry) (e : FileEntry) (es : List FileEntry) (at : ℕ) → at ≤ e.base → IsWordTable table (e ∷ es) at → IsWordTable table es (e.base + e.len)
 next_table table e es at le is = record {
-  role = λ q t from has. sym (role_later q e es (behind q e from)) ∙ is.role q t (omega arith) has;
+  role = λ q t from has. sym (role_later q e es (is_of_file-behind q e from)) ∙ is.role q t (omega arith) has;
   token = is.token;
   covered = λ q of. is.covered q (or_right (is_of_file q e) (is_of_files es q) of);
 }
 
-some_same : (a b : Role) → Some a ≡ Some b → a ≡ b
-some_same a b is = cc
-
 -- the role of what stands at an address of the first file
 first_role : (table : List TermEntry) (e : FileEntry) (es : List FileEntry) (at q : ℕ) (t : List ℕ) → at ≤ e.base → IsWordTable table (e ∷ es) at → is_of_file q e ≡ true → term_at table q ≡ Some t → role_of t ≡ role_of_file q e
 first_role table e es at q t le is of has =
-    let lies = within q e of in
+    let lies = is_of_file-bounds q e of in
     let from : e.base ≤ q = lies.0 in
-    some_same (role_of t) (role_of_file q e) (sym (is.role q t (omega arith) has) ∙ role_here q e es of)
+    same_Some (role_of t) (role_of_file q e) (sym (is.role q t (omega arith) has) ∙ role_here q e es of)
 
 start_only : (t : List ℕ) → role_of t ≡ Start → t ≡ file_start
 start_only t is = elim (cases_Bool (bytes_eq t file_start)) [
@@ -125,12 +124,12 @@ file_words : (table : List TermEntry) (e : FileEntry) (es : List FileEntry) (at 
 file_words table e es at le two is =
     let n = e.len - 2 in
     let ts = tokens_at table (e.base + 1) n in
-    let of : (q : ℕ) → e.base ≤ q → q < e.base + e.len → is_of_files (e ∷ es) q ≡ true = λ q from lt. or_left (is_of_file q e) (is_of_files es q) (inside q e from lt) in
+    let of : (q : ℕ) → e.base ≤ q → q < e.base + e.len → is_of_files (e ∷ es) q ≡ true = λ q from lt. or_left (is_of_file q e) (is_of_files es q) (is_of_file-inside q e from lt) in
     let first = is.covered e.base (of e.base (omega arith) (omega arith)) in
-    let is_first : first.0 ≡ file_start = start_only first.0 (first_role table e es at e.base first.0 le is (inside e.base e (omega arith) (omega arith)) first.1 ∙ role-first e) in
+    let is_first : first.0 ≡ file_start = start_only first.0 (first_role table e es at e.base first.0 le is (is_of_file-inside e.base e (omega arith) (omega arith)) first.1 ∙ role-first e) in
     let q = e.base + 1 + n in
     let last = is.covered q (of q (omega arith) (omega arith)) in
-    let is_last : last.0 ≡ file_end = end_only last.0 (first_role table e es at q last.0 le is (inside q e (omega arith) (omega arith)) last.1 ∙ role-last q e (λ same. omega arith) (omega arith)) in
+    let is_last : last.0 ≡ file_end = end_only last.0 (first_role table e es at q last.0 le is (is_of_file-inside q e (omega arith) (omega arith)) last.1 ∙ role-last q e (λ same. omega arith) (omega arith)) in
     let whole : e.len ≡ 1 + (n + 1) = omega arith in
     let long = length-tokens_at table (e.base + 1) n in
     let next : e.base + 1 + n ≡ e.base + 1 + length ts = omega arith in
@@ -197,7 +196,7 @@ files_words table (e ∷ es) next next_id id at end all is le ends =
 inner_tokens : (table : List TermEntry) (e : FileEntry) (es : List FileEntry) (at p n : ℕ) → at ≤ e.base → IsWordTable table (e ∷ es) at → e.base < p → p + n + 1 ≤ e.base + e.len → AllByRecursion IsToken (tokens_at table p n)
 inner_tokens table e es at p zero le is from until = tt
 inner_tokens table e es at p (suc n) le is from until =
-    let of = inside p e (omega arith) (omega arith) in
+    let of = is_of_file-inside p e (omega arith) (omega arith) in
     let here = is.covered p (or_left (is_of_file p e) (is_of_files es p) of) in
     let role : role_of here.0 ≡ Inner = first_role table e es at p here.0 le is of here.1 ∙ role-inner p e (λ same. omega arith) (λ same. omega arith) in
     let token : IsToken here.0 = is.token p here.0 here.1 role in
@@ -225,13 +224,6 @@ made_entries table next next_id id at (e ∷ es) all =
 
 -- a table that was read is one of such words
 
-all_has : (P : ℕ → Type 0) (ps : List ℕ) (p : ℕ) → AllByRecursion P ps → has_address ps p ≡ true → P p
-all_has P [] p all has = absurd cc
-all_has P (q ∷ qs) p all has = elim (or_cases (eqb q p) (has_address qs p) has) [
-  | inl h ↦ subst P (eqb-true q p h) all.0
-  | inr h ↦ all_has P qs p all.1 h
-]
-
 record IsFound (files : List FileEntry) (q : ℕ) (t : List ℕ) : Type 0 where
   pub role : role_in files q ≡ Some (role_of t)
   pub token : role_of t ≡ Inner → IsToken t
@@ -242,7 +234,7 @@ found format first next files (e ∷ es) q t each has = elim (cases_Bool (has_ad
   | inl h ↦
       let has = rw h at has in
       let same : e.term ≡ t = cc in
-      subst (IsFound files q) same record { role = all_has (λ p. role_in files p ≡ Some (role_of e.term)) e.addresses q each.0.fills.roles h; token = each.0.token }
+      subst (IsFound files q) same record { role = member_all (λ p. role_in files p ≡ Some (role_of e.term)) e.addresses q each.0.fills.roles h; token = each.0.token }
   | inr h ↦ found format first next files es q t each.1 (rw h at has)
 ]
 

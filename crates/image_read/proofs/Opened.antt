@@ -4,7 +4,7 @@ use Rattle.std.specs.List.{AllByRecursion}
 use Rattle.std.proofs.lemmas.List.{append-nil}
 use Rattle.gcl_model.specs.Texts.{Word}
 use Rattle.gcl_model.specs.Slots.{SlotRange, ranges_spanned, spanned}
-use Rattle.gcl_model.proofs.Lists.{filter_kept}
+use Rattle.gcl_model.proofs.Lists.{filter_all}
 use Rattle.address_space.specs.Runs.{FileEntry, range_of}
 use Rattle.index_shard.specs.Tables.{IsShard, ShardContent, TermEntry, term_at, words_of}
 use Rattle.live_version.specs.Changes.{opened}
@@ -74,12 +74,8 @@ words_owned format first next files bytes shard read =
     let table = word_table format first next 0 files shard.table read.terms.2.all in
     owned_between files shard.table (λ q t has. role_of_files files q _ (table.role q t (omega arith) has)) shard.range.first (shard.range.last - shard.range.first + 1)
 
-all_alive : (ws : List Word) → AllByRecursion (λ (w : Word). true ≡ true) ws
-all_alive [] = tt
-all_alive (w ∷ ws) = (refl, all_alive ws)
-
 slot_words : (range : SlotRange) (shard : ShardContent) (files : List FileEntry) → live_of (slot_content range shard [] files ∷ []) ≡ words_of shard
-slot_words range shard files = append-nil _ ∙ filter_kept (λ w. true) (words_of shard) (all_alive (words_of shard))
+slot_words range shard files = append-nil _ ∙ filter_all (words_of shard)
 
 shard_is : (shard : ShardContent) (range : SlotRange) → shard.range ≡ range → shard ≡ record { range = range; table = shard.table }
 shard_is shard range is = ap (λ r. record { range = r; table = shard.table }) is

@@ -2,21 +2,22 @@
 use Rattle.std.proofs.Common.{◌≡◌, ℕ, zero, suc, ◌+◌, ◌-◌, ◌<◌, ◌≤◌, Bool, true, false, ◌||◌, eqb, List, [], ◌∷◌, ◌++◌, length, take, get_or, set, Some, None, inl, inr, refl, sym, ap, ◌∙◌, subst, arith, length-append, le_refl}
 use Rattle.std.specs.List.{AllByRecursion, prefix_len}
 use Rattle.std.specs.List.Sorted.{IsNonDecreasingBy}
-use Rattle.std.proofs.lemmas.Bool.{cases_Bool, cases_lt, or_cases, or_left, or_right, eqb-true, eqb-false, le-leb, lt-leb, leb-true, leb-false}
+use Rattle.std.proofs.lemmas.Bool.{true≢false, cases_Bool, cases_lt, or_cases, or_left, or_right, eqb-true, eqb-false, eq-eqb, ne_eqb, leb-true, leb-false, le-leb, lt-leb}
 use Rattle.std.proofs.lemmas.Grind.{get_or_default_zero}
 use Rattle.std.proofs.lemmas.List.{get_or-append_right, get_or-set_other, get_or-set_same, get_or_append_left}
 use Rattle.std.proofs.lemmas.List.Sums.{prefix_len_stops}
 use Rattle.address_space.specs.Runs.{FileEntry, IsFileRun, Precedes}
 use Rattle.live_version.specs.Contents.{is_of_file, is_of_files}
+use Rattle.live_version.proofs.ChangeFiles.{is_of_file-inside, is_of_file-behind, is_of_file-bounds, is_of_file-before}
 use Rattle.image_read.specs.declared.places.Role.{Role}
 use Rattle.image_read.specs.Reading.{IsPlaces, IsRankOf, SeenContent, Sees, ends_by, rank, role_in, role_of_file, widths}
 use Rattle.image_read.proofs.AddressTracking.{role_of_files}
-use Rattle.image_read.proofs.Candidates.{inside, behind, within, role_here, role_later}
+use Rattle.image_read.proofs.Candidates.{role_here, role_later}
 
 pub rank-small : (files : List FileEntry) (p : ℕ) → is_of_files files p ≡ true → rank files p < widths files
 rank-small [] p is = absurd cc
 rank-small (file ∷ files) p is = elim (cases_Bool (is_of_file p file)) [
-  | inl h ↦ let at = within p file h in let a : file.base ≤ p = at.0 in let b : p < file.base + file.len = at.1 in rw h (omega arith)
+  | inl h ↦ let at = is_of_file-bounds p file h in let a : file.base ≤ p = at.0 in let b : p < file.base + file.len = at.1 in rw h (omega arith)
   | inr h ↦ let rest : is_of_files files p ≡ true = rw h at is in let small = rank-small files p rest in rw h (omega (arith, small))
 ]
 
@@ -26,14 +27,14 @@ rank-same (file ∷ files) p q ip iq same = elim (cases_Bool (is_of_file p file)
   | inl h ↦ elim (cases_Bool (is_of_file q file)) [
     | inl g ↦
         let same : p - file.base ≡ q - file.base = rw (h, g) at same in
-        let a = within p file h in
-        let b = within q file g in
+        let a = is_of_file-bounds p file h in
+        let b = is_of_file-bounds q file g in
         let c : file.base ≤ p = a.0 in
         let d : file.base ≤ q = b.0 in
         omega arith
     | inr g ↦
         let same : p - file.base ≡ file.len + rank files q = rw (h, g) at same in
-        let a = within p file h in
+        let a = is_of_file-bounds p file h in
         let c : file.base ≤ p = a.0 in
         let d : p < file.base + file.len = a.1 in
         absurd (omega (arith, same))
@@ -43,7 +44,7 @@ rank-same (file ∷ files) p q ip iq same = elim (cases_Bool (is_of_file p file)
       elim (cases_Bool (is_of_file q file)) [
         | inl g ↦
             let same : file.len + rank files p ≡ q - file.base = rw (h, g) at same in
-            let b = within q file g in
+            let b = is_of_file-bounds q file g in
             let c : file.base ≤ q = b.0 in
             let d : q < file.base + file.len = b.1 in
             absurd (omega (arith, same))
@@ -63,37 +64,34 @@ rank-at [] i p d lt before is = absurd (omega arith)
 rank-at (file ∷ files) zero p d lt before is = rw is (omega arith)
 rank-at (file ∷ files) (suc i) p d lt before is =
     let rest = rank-at files i p d (omega arith) before.1 is in
-    let skip = behind p file before.0 in
+    let skip = is_of_file-behind p file before.0 in
     rw skip (omega (arith, rest))
 
 pub role-at : (files : List FileEntry) (i p : ℕ) (d : FileEntry) → i < length files → EndBefore files i p → is_of_file p (get_or files i d) ≡ true → role_in files p ≡ Some (role_of_file p (get_or files i d))
 role-at [] i p d lt before is = absurd (omega arith)
 role-at (file ∷ files) zero p d lt before is = role_here p file files is
-role-at (file ∷ files) (suc i) p d lt before is = role_later p file files (behind p file before.0) ∙ role-at files i p d (omega arith) before.1 is
+role-at (file ∷ files) (suc i) p d lt before is = role_later p file files (is_of_file-behind p file before.0) ∙ role-at files i p d (omega arith) before.1 is
 
 pub of_files_at : (files : List FileEntry) (i p : ℕ) (d : FileEntry) → i < length files → is_of_file p (get_or files i d) ≡ true → is_of_files files p ≡ true
 of_files_at [] i p d lt is = absurd (omega arith)
 of_files_at (file ∷ files) zero p d lt is = or_left (is_of_file p file) (is_of_files files p) is
 of_files_at (file ∷ files) (suc i) p d lt is = or_right (is_of_file p file) (is_of_files files p) (of_files_at files i p d (omega arith) is)
 
-before_file : (p : ℕ) (file : FileEntry) → p < file.base → is_of_file p file ≡ false
-before_file p file lt = rw (lt-leb file.base p lt) refl
-
 none_after : (p : ℕ) (file : FileEntry) (files : List FileEntry) → p < file.base → AllByRecursion (Precedes file) files → role_in files p ≡ None
 none_after p file [] lt all = refl
 none_after p file (next ∷ files) lt all =
     let order : file.base + file.len ≤ next.base = all.0.addresses in
-    role_later p next files (before_file p next (omega arith)) ∙ none_after p file files lt all.1
+    role_later p next files (is_of_file-before p next (omega arith)) ∙ none_after p file files lt all.1
 
 -- between the files before a place and the one there is no file
 pub role-none : (files : List FileEntry) (i p : ℕ) (d : FileEntry) → IsFileRun files → i < length files → EndBefore files i p → p < (get_or files i d).base → role_in files p ≡ None
 role-none [] i p d run lt before less = absurd (omega arith)
-role-none (file ∷ files) zero p d run lt before less = role_later p file files (before_file p file less) ∙ none_after p file files less run.1
-role-none (file ∷ files) (suc i) p d run lt before less = role_later p file files (behind p file before.0) ∙ role-none files i p d run.2 (omega arith) before.1 less
+role-none (file ∷ files) zero p d run lt before less = role_later p file files (is_of_file-before p file less) ∙ none_after p file files less run.1
+role-none (file ∷ files) (suc i) p d run lt before less = role_later p file files (is_of_file-behind p file before.0) ∙ role-none files i p d run.2 (omega arith) before.1 less
 
 pub role-past : (files : List FileEntry) (p : ℕ) → EndBefore files (length files) p → role_in files p ≡ None
 role-past [] p before = refl
-role-past (file ∷ files) p before = role_later p file files (behind p file before.0) ∙ role-past files p before.1
+role-past (file ∷ files) p before = role_later p file files (is_of_file-behind p file before.0) ∙ role-past files p before.1
 
 -- the ends of files rise
 ends_later : (e : FileEntry) (files : List FileEntry) → AllByRecursion (Precedes e) files → (j : ℕ) (d : FileEntry) → j < length files → e.base + e.len ≤ (get_or files j d).base + (get_or files j d).len
@@ -143,7 +141,7 @@ met s files p i e item same at within some here is =
     first_left files p i e (at ∙ ap (prefix_len (ends_by p)) (sym same)) (omega (arith, within, some, long)) (subst (λ (f : FileEntry). f ≡ get_or files i f) (sym equal) here)
 
 pub left_of : (files : List FileEntry) (p i : ℕ) (e : FileEntry) → IsFirstLeft files p i e → e.base ≤ p → is_of_file p e ≡ true
-left_of files p i e left le = inside p e le left.until
+left_of files p i e left le = is_of_file-inside p e le left.until
 
 pub left_rank : (files : List FileEntry) (p i : ℕ) (e : FileEntry) → IsFirstLeft files p i e → e.base ≤ p → widths (take i files) + (p - e.base) ≡ rank files p
 left_rank files p i e left le =
@@ -189,7 +187,7 @@ role_differs files p role other is differ some = let same : Some other ≡ Some 
 later_from : (p : ℕ) (file : FileEntry) (files : List FileEntry) → AllByRecursion (Precedes file) files → is_of_files files p ≡ true → file.base + file.len ≤ p
 later_from p file [] all is = absurd cc
 later_from p file (next ∷ files) all is = elim (or_cases (is_of_file p next) (is_of_files files p) is) [
-  | inl h ↦ let at = within p next h in let a : next.base ≤ p = at.0 in let order : file.base + file.len ≤ next.base = all.0.addresses in omega arith
+  | inl h ↦ let at = is_of_file-bounds p next h in let a : next.base ≤ p = at.0 in let order : file.base + file.len ≤ next.base = all.0.addresses in omega arith
   | inr h ↦ later_from p file files all.1 h
 ]
 
@@ -211,13 +209,13 @@ unrank [] k run lt = absurd (omega arith)
 unrank (file ∷ files) k run lt = elim (cases_lt k file.len) [
   | inl less ↦
       let p = file.base + k in
-      let here = inside p file (omega arith) (omega arith) in
+      let here = is_of_file-inside p file (omega arith) (omega arith) in
       let is : p - file.base ≡ k = omega arith in
       (p, record { of = or_left (is_of_file p file) (is_of_files files p) here; at = rw here is })
   | inr more ↦
       let later = unrank files (k - file.len) run.2 (omega arith) in
       let p = later.0 in
-      let skip = behind p file (later_from p file files run.1 later.1.of) in
+      let skip = is_of_file-behind p file (later_from p file files run.1 later.1.of) in
       let is = later.1.at in
       (p, record { of = or_right (is_of_file p file) (is_of_files files p) later.1.of; at = rw skip (omega (arith, is)) })
 ]

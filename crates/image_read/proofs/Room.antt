@@ -8,10 +8,10 @@ use Rattle.posting_code.specs.Postings.{RiseWithin}
 use Rattle.address_space.specs.Runs.{FileEntry, IsFileRun}
 use Rattle.index_shard.specs.Tables.{TermEntry, has_address}
 use Rattle.live_version.specs.Contents.{is_of_file, is_of_files}
+use Rattle.live_version.proofs.ChangeFiles.{is_of_file-inside}
 use Rattle.image_file.specs.declared.format.Format.{Format}
 use Rattle.image_file.specs.Fields.{differences, eight_bytes, term_bytes}
 use Rattle.image_read.specs.Reading.{AreTermBytes, HasNoTerms, count_bytes, is_covered, text_bytes, widths}
-use Rattle.image_read.proofs.Candidates.{inside}
 use Rattle.image_read.proofs.TermTracking.{term_parts}
 
 abbrev one_if : Bool → ℕ
@@ -143,7 +143,7 @@ all-from_to P p (suc n) rest each all = (each p (omega arith) (omega arith), all
 all-places : (es : List FileEntry) → AllByRecursion (λ q. is_of_files es q ≡ true) (places_of es)
 all-places [] = tt
 all-places (e ∷ es) =
-    all-from_to (λ q. is_of_files (e ∷ es) q ≡ true) e.base e.len (places_of es) (λ q le lt. or_left (is_of_file q e) (is_of_files es q) (inside q e le lt))
+    all-from_to (λ q. is_of_files (e ∷ es) q ≡ true) e.base e.len (places_of es) (λ q le lt. or_left (is_of_file q e) (is_of_files es q) (is_of_file-inside q e le lt))
     (all_weaker (λ q. is_of_files es q ≡ true) (λ q. is_of_files (e ∷ es) q ≡ true) (λ q of. or_right (is_of_file q e) (is_of_files es q) of) (places_of es) (all-places es))
 
 -- those of files from an address on rise

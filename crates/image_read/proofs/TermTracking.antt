@@ -1,21 +1,21 @@
 -- The terms that were read, and those that any image of the bytes still has.
-use Rattle.std.proofs.Common.{◌≡◌, ℕ, ◌+◌, ◌-◌, ◌^◌, ◌<◌, ◌≤◌, Bool, true, false, ◌||◌, eqb, List, [], ◌∷◌, ◌++◌, length, flat_map, Option, Some, None, inl, inr, refl, sym, ap, ◌∙◌, subst, arith, length-append, le_refl}
-use Rattle.std.specs.List.{AllByRecursion}
-use Rattle.std.specs.Option.{IfSome}
-use Rattle.std.proofs.lemmas.Bool.{true≢false, cases_Bool, or_cases, or_left, or_right, eqb-true, eq-eqb}
+use Rattle.std.proofs.Common.{◌≡◌, ℕ, zero, suc, ◌+◌, ◌-◌, ◌^◌, ◌<◌, ◌≤◌, Bool, true, false, ◌||◌, eqb, List, [], ◌∷◌, ◌++◌, length, flat_map, nat_cmp, Option, Some, inl, inr, refl, sym, ap, ◌∙◌, subst, arith, length-append, le_refl, None}
+use Rattle.std.specs.List.{AllByRecursion, list_any}
+use Rattle.std.specs.Option.{option_map, IfSome}
+use Rattle.std.proofs.lemmas.Bool.{true≢false, cases_Bool, or_cases, or_left, or_right, eqb-true, eq-eqb, false_from_ne_true, or_parts}
 use Rattle.std.proofs.lemmas.Cmp.{nat_list_cmp_total}
-use Rattle.std.proofs.lemmas.Grind.{flat_map-append}
-use Rattle.std.proofs.lemmas.List.{append_assoc, append-nil}
+use Rattle.std.proofs.lemmas.List.{append_assoc, append-nil, flat_map_more}
 use Rattle.std.proofs.lemmas.List.Folds.{list_any-append}
 use Rattle.gcl_model.specs.Slots.{SlotRange}
 use Rattle.gcl_model.proofs.Lists.{all_right, all_weaker}
 use Rattle.posting_code.specs.Numbers.{spelling}
 use Rattle.posting_code.specs.Postings.{RiseWithin}
 use Rattle.posting_code.proofs.Rising.{rise_wider}
-use Rattle.index_shard.specs.Tables.{TermEntry, AreApart, ArePostingsIn, ComesBefore, has_address}
-use Rattle.index_shard.proofs.TableLaws.{all_push}
+use Rattle.index_shard.specs.Tables.{TermEntry, AreApart, ArePostingsIn, ComesBefore, has_address, last_entry}
+use Rattle.index_shard.proofs.TableLaws.{all_push, term_entry as entry}
 use Rattle.address_space.specs.Runs.{FileEntry}
-use Rattle.live_version.specs.Contents.{is_of_file, is_of_files}
+use Rattle.live_version.specs.Contents.{LiesIn, is_of_file, is_of_files}
+use Rattle.live_version.proofs.ChangeFiles.{is_of_file-bounds}
 use Rattle.image_file.specs.declared.format.Format.{Format}
 use Rattle.image_file.specs.declared.format.Format.TheVariants.{One, Two}
 use Rattle.image_file.specs.Fields.{differences, eight_bytes, long_text, short_text, term_bytes}
@@ -25,8 +25,8 @@ use Rattle.image_file.proofs.Writing.{rising_push}
 use Rattle.image_read.specs.declared.places.Role.{Role}
 use Rattle.image_read.specs.Reading.{AreAllEntries, AreEntries, AreTermBytes, FillRole, HasNoAddresses, HasNoTerms, IsAddressesFront, IsEntry, IsFixed, IsTextFront, SeenContent, SeesAll, TermsApart, count_bytes, is_covered, is_seen, role_in, role_of, text_bytes}
 use Rattle.image_read.specs.Tables.{AreReadTerms, HasNoNextTerm, HasNoTerm, HoldsTerms, IsNextTerm, IsRangeOf, IsTermFront, MayFollow, PutsTerm, last_term}
-use Rattle.image_read.proofs.Candidates.{within}
 use Rattle.image_read.proofs.Fronts.{eight_front}
+use Rattle.image_read.proofs.AddressTracking.{role_of_files}
 
 -- a term is a text, a number of addresses and their differences
 pub term_parts : (format : Format) (first : ℕ) (e : TermEntry) (rest : List ℕ) →
@@ -44,6 +44,7 @@ all_members P [] each = tt
 all_members P (p ∷ ps) each =
     (each p (or_left (eqb p p) (has_address ps p) (eq-eqb p p refl)), all_members P ps (λ q has. each q (or_right (eqb p q) (has_address ps q) has)))
 
+-- and what holds of all members holds of one
 pub member_all : (P : ℕ → Type 0) (ps : List ℕ) (p : ℕ) → AllByRecursion P ps → has_address ps p ≡ true → P p
 member_all P [] p all has = absurd cc
 member_all P (q ∷ qs) p all has = elim (or_cases (eqb q p) (has_address qs p) has) [
@@ -51,35 +52,20 @@ member_all P (q ∷ qs) p all has = elim (or_cases (eqb q p) (has_address qs p) 
   | inr h ↦ member_all P qs p all.1 h
 ]
 
-not_both : (a : Bool) → (a ≡ true → ⊥) → a ≡ false
-not_both true wrong = absurd (wrong refl)
-not_both false wrong = refl
-
 -- an address of a term that stands apart is under none of the others
 uncovered : (table : List TermEntry) (addresses : List ℕ) (p : ℕ) → AllByRecursion (λ (d : TermEntry). AreApart d.addresses addresses) table → has_address addresses p ≡ true → is_covered table p ≡ false
 uncovered [] addresses p apart has = refl
 uncovered (d ∷ ds) addresses p apart has =
-    let here : has_address d.addresses p ≡ false = not_both (has_address d.addresses p) (λ h. true≢false (sym has ∙ apart.0 p h)) in
+    let here : has_address d.addresses p ≡ false = false_from_ne_true (has_address d.addresses p) (λ h. true≢false (sym has ∙ apart.0 p h)) in
     rw here (uncovered ds addresses p apart.1 has)
 
 -- and an address that is seen nowhere is of no other term
 apart_from : (table : List TermEntry) (addresses : List ℕ) → ((p : ℕ) → has_address addresses p ≡ true → is_covered table p ≡ false) → AllByRecursion (λ (d : TermEntry). AreApart d.addresses addresses) table
 apart_from [] addresses none = tt
 apart_from (d ∷ ds) addresses none = (
-  (λ p has. not_both (has_address addresses p) (λ h. true≢false (sym (or_left (has_address d.addresses p) (is_covered ds p) has) ∙ none p h))),
-  apart_from ds addresses (λ p h. later (has_address d.addresses p) (is_covered ds p) (none p h)),
+  (λ p has. false_from_ne_true (has_address addresses p) (λ h. true≢false (sym (or_left (has_address d.addresses p) (is_covered ds p) has) ∙ none p h))),
+  apart_from ds addresses (λ p h. (or_parts (has_address d.addresses p) (is_covered ds p) (none p h)).1),
 )
-  where
-    later : (a b : Bool) → (a || b) ≡ false → b ≡ false
-    later false b is = is
-    later true b is = absurd cc
-
-of_files : (files : List FileEntry) (p : ℕ) (role : Role) → role_in files p ≡ Some role → is_of_files files p ≡ true
-of_files [] p role is = absurd cc
-of_files (file ∷ files) p role is = elim (cases_Bool (is_of_file p file)) [
-  | inl h ↦ or_left (is_of_file p file) (is_of_files files p) h
-  | inr h ↦ or_right (is_of_file p file) (is_of_files files p) (of_files files p role (rw h at is))
-]
 
 -- the addresses of a term that may stand next were seen nowhere
 unseen_next : (format : Format) (first next : ℕ) (places : SeenContent) (table : List TermEntry) (e : TermEntry) → HoldsTerms format first next places table → IsEntry format first next places.files e →
@@ -87,7 +73,7 @@ unseen_next : (format : Format) (first next : ℕ) (places : SeenContent) (table
 unseen_next format first next places table e holds entry apart =
     all_members (λ p. is_seen places p ≡ false) e.addresses
     (λ p has.
-    holds.seen p (of_files places.files p (role_of e.term) (member_all (λ q. role_in places.files q ≡ Some (role_of e.term)) e.addresses p entry.fills.roles has))
+    holds.seen p (role_of_files places.files p (role_of e.term) (member_all (λ q. role_in places.files q ≡ Some (role_of e.term)) e.addresses p entry.fills.roles has))
     ∙ uncovered table e.addresses p apart has)
 
 pub no_next_term : (format : Format) (first next : ℕ) (files : List FileEntry) (table : List TermEntry) (whole : List ℕ) → HasNoTerm format (last_term table) whole → HasNoNextTerm format first next files table whole
@@ -125,16 +111,13 @@ apart_push : (table : List TermEntry) (e : TermEntry) → TermsApart table → A
 apart_push [] e apart all = (tt, tt)
 apart_push (d ∷ ds) e apart all = (all_push (λ (f : TermEntry). AreApart d.addresses f.addresses) ds e apart.0 all.0, apart_push ds e apart.1 all.1)
 
-abbrev entry : List ℕ → List ℕ → TermEntry
-entry term addresses = record { term = term; addresses = addresses }
-
 -- a term that was read stands apart from those before it
 pub read_apart : (format : Format) (first next : ℕ) (places : SeenContent) (table : List TermEntry) (role : Role) (whole addresses rest : List ℕ) → HoldsTerms format first next places table →
     IsAddressesFront format first next places role whole addresses rest → AllByRecursion (λ (d : TermEntry). AreApart d.addresses addresses) table
 read_apart format first next places table role whole addresses rest holds is =
     apart_from table addresses
     (λ p has.
-    sym (holds.seen p (of_files places.files p role (member_all (λ q. role_in places.files q ≡ Some role) addresses p is.fills.roles has)))
+    sym (holds.seen p (role_of_files places.files p role (member_all (λ q. role_in places.files q ≡ Some role) addresses p is.fills.roles has)))
     ∙ member_all (λ q. is_seen places q ≡ false) addresses p is.unseen has)
 
 pub read_entry : (format : Format) (first next : ℕ) (files : List FileEntry) (places : SeenContent) (last : Option (List ℕ)) (whole term : List ℕ) (role : Role) (behind addresses rest : List ℕ) → IsTermFront format last whole term role behind →
@@ -188,7 +171,7 @@ in_range : (range : SlotRange) (files : List FileEntry) (p : ℕ) (role : Role) 
 in_range range [] p role lie is = absurd cc
 in_range range (file ∷ files) p role lie is = elim (cases_Bool (is_of_file p file)) [
   | inl h ↦
-      let at = within p file h in
+      let at = is_of_file-bounds p file h in
       let a : range.first ≤ file.base = lie.0.0 in
       let b : file.base + file.len ≤ range.last + 1 = lie.0.1 in
       let c : file.base ≤ p = at.0 in
@@ -268,9 +251,6 @@ terms_stop format first next number start whole i table places rest lt read none
     let has = has_next_entry format first next number start whole i table places rest lt read all is in
     none has.0 (flat_map (term_bytes format first) has.1) (subst (λ fs. IsNextTerm format first next fs table rest has.0 (flat_map (term_bytes format first) has.1)) (sym read.files) has.2.next_term)
 
-flat_push : (f : TermEntry → List ℕ) (es : List TermEntry) (e : TermEntry) → flat_map f (es ++ e ∷ []) ≡ flat_map f es ++ f e
-flat_push f es e = flat_map-append f es (e ∷ []) ∙ ap (λ l. flat_map f es ++ l) (append-nil (f e))
-
 pub terms_step : (format : Format) (first next number : ℕ) (start : List FileEntry) (whole : List ℕ) (i : ℕ) (table : List TermEntry) (places after : SeenContent) (rest : List ℕ) (e : TermEntry) (behind : List ℕ) → next ≤ 2 ^ 56 → i < number →
     AreTermsRead format first next number start whole i table places rest → rest ≡ term_bytes format first e ++ behind → after.files ≡ places.files → HoldsTerms format first next after (table ++ e ∷ []) →
     AreTermsRead format first next number start whole (i + 1) (table ++ e ∷ []) after behind
@@ -283,7 +263,7 @@ terms_step format first next number start whole i table places after rest e behi
       holds = holds;
       bytes =
           read.bytes ∙ ap (λ l. flat_map (term_bytes format first) table ++ l) at ∙ sym (append_assoc (flat_map (term_bytes format first) table) (term_bytes format first e) behind)
-          ∙ ap (λ l. l ++ behind) (sym (flat_push (term_bytes format first) table e));
+          ∙ ap (λ l. l ++ behind) (flat_map_more (term_bytes format first) [] table e);
       track = λ all is.
           let has = has_next_entry format first next number start whole i table places rest lt read all is in
           let other = has.0 in
@@ -298,20 +278,6 @@ terms_step format first next number start whole i table places after rest e behi
             },
           );
     }
-
--- one value that is there
-pub at_some : {X : Type 0} (P : X → Type 0) (o : Option X) (x : X) → o ≡ Some x → IfSome o P → P x
-at_some P None x is has = absurd cc
-at_some P (Some y) x is has = let same : y ≡ x = cc in subst P same has
-
--- what follows for it follows where there is one
-pub some_weaker : {X : Type 0} (P Q : X → Type 0) → ((x : X) → P x → Q x) → (o : Option X) → IfSome o P → IfSome o Q
-some_weaker P Q each None has = tt
-some_weaker P Q each (Some x) has = each x has
-
-pub empty_is : {X : Type 0} (xs : List X) → length xs ≡ 0 → xs ≡ []
-empty_is [] is = refl
-empty_is (x ∷ xs) is = absurd (omega arith)
 
 -- the term that was read, and what it makes of the table
 pub term_put : (format : Format) (first next : ℕ) (places : SeenContent) (table after : List TermEntry) (whole term : List ℕ) (role : Role) (behind addresses rest : List ℕ) → IsTermFront format (last_term table) whole term role behind →

@@ -5,6 +5,7 @@ use Rattle.std.proofs.lemmas.Bool.{true≢false, cases_Bool, cases_lt, eq-eqb, n
 use Rattle.std.proofs.lemmas.List.{length-map, map-append, take_more}
 use Rattle.std.proofs.lemmas.List.Sums.{length-filter, count_by-le-length}
 use Rattle.std.proofs.lemmas.List.FromFn.{length-range_with_len}
+use Rattle.std.proofs.lemmas.List.Elements.{filter_agree}
 use Rattle.std.proofs.lemmas.Slice.Eq.{bytes_eq-Decides}
 use Rattle.gcl_model.specs.declared.expr.Expr.{Expr, Term}
 use Rattle.gcl_model.specs.declared.expr.Expr.TheOpen as F
@@ -111,10 +112,6 @@ lists_of_terms text (token ∷ tokens) sound =
 abbrev pub stands_in : Text → List (List ℕ) → List ℕ
 stands_in text tokens = filter (any_stands text.words tokens) (range_with_len text.first (text.next - text.first))
 
-same_filter : (s t : ℕ → Bool) (xs : List ℕ) → ((x : ℕ) → s x ≡ t x) → filter s xs ≡ filter t xs
-same_filter s t [] same = refl
-same_filter s t (x ∷ xs) same = ap (λ b. cond b (x ∷ filter s xs) (filter s xs)) (same x) ∙ ap (λ rest. cond (t x) (x ∷ rest) rest) (same_filter s t xs same)
-
 -- one of several terms has a member for each of them
 pub one_count : (text : Text) (tokens : List (List ℕ)) → IsText text → length (concordance text (one (forms_from (map term tokens)))) ≡ length (stands_in text tokens)
 one_count text tokens sound =
@@ -123,7 +120,7 @@ one_count text tokens sound =
     ap (λ ls. length (extents_where text (is_minimal text (any_contains ls)))) (lists_of_terms text tokens sound)
     ∙ ap length (minimal_points text (any_contains lists) (none_longer text.words tokens) sound.ordered)
     ∙ length-map (filter (λ p. any_contains lists (point p)) addresses) point
-    ∙ ap length (same_filter (λ p. any_contains lists (point p)) (any_stands text.words tokens) addresses (any_at text.words tokens))
+    ∙ ap length (filter_agree (λ p. any_contains lists (point p)) (any_stands text.words tokens) (any_at text.words tokens) addresses)
 
 -- an address holds a token where it is one of its places
 holds_place : (words : List Word) (token : List ℕ) (p : ℕ) → holds words token p ≡ has_address (places words token) p
@@ -222,8 +219,8 @@ count_new text tokens token sound new =
 -- or came before
 pub count_again : (text : Text) (tokens : List (List ℕ)) (token : List ℕ) → list_any (λ other. bytes_eq other token) tokens ≡ true → length (stands_in text (tokens ++ token ∷ [])) ≡ length (stands_in text tokens)
 count_again text tokens token old =
-    ap length (same_filter (any_stands text.words (tokens ++ token ∷ [])) (any_stands text.words tokens) (range_with_len text.first (text.next - text.first))
-    (λ p. one_more text.words tokens token p ∙ stands_again text tokens token old p))
+    ap length (filter_agree (any_stands text.words (tokens ++ token ∷ [])) (any_stands text.words tokens)
+    (λ p. one_more text.words tokens token p ∙ stands_again text tokens token old p) (range_with_len text.first (text.next - text.first)))
 
 nowhere : (words : List Word) (xs : List ℕ) → filter (any_stands words []) xs ≡ []
 nowhere words [] = refl

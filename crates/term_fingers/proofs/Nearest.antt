@@ -5,13 +5,9 @@ use Rattle.std.proofs.lemmas.Bool.{le-leb, lt-leb, leb-true, leb-false, ltb-true
 use Rattle.std.proofs.lemmas.List.{length-take}
 use Rattle.std.proofs.lemmas.Option.{slice_get-get_or, slice_get_past}
 use Rattle.posting_code.specs.Postings.{RiseWithin, ArePostings, block_of}
-use Rattle.posting_code.proofs.Rising.{rise_index, rise_drop}
-use Rattle.posting_code.proofs.Around.{take_rises}
+use Rattle.posting_code.proofs.Rising.{rise_index}
 use Rattle.posting_access.specs.Search.{least_from, greatest_to}
-
--- a block of postings is a list of postings
-pub block_rises : (xs : List ℕ) (b : ℕ) → ArePostings xs → ArePostings (block_of xs b)
-block_rises xs b r = take_rises 0 (2 ^ 56) (drop (64 * b) xs) 64 (rise_drop 0 (2 ^ 56) xs (64 * b) r)
+use Rattle.posting_access.proofs.Searches.{greatest_none}
 
 pub block_is_few : (xs : List ℕ) (b : ℕ) → length (block_of xs b) ≤ 64
 block_is_few xs b = omega (arith, length-take 64 (drop (64 * b) xs))
@@ -30,17 +26,9 @@ least_at low end (x ∷ xs) (suc (suc n)) k r within before after =
     let less : x < k = omega arith in
     rw (lt-leb k x less) (least_at (x + 1) end xs (suc n) k r.2 (omega arith) (λ m e. before (suc m) (ap suc e)) (λ h. after (omega arith)))
 
--- where every member is greater than k there is none up to k
-none_up_to : (low end : ℕ) (xs : List ℕ) (k : ℕ) → RiseWithin low end xs → k < low → greatest_to xs k ≡ None
-none_up_to low end [] k r lt = refl
-none_up_to low end (x ∷ xs) k r lt =
-    let a = r.0 in
-    let e : leb x k ≡ false = lt-leb x k (omega arith) in
-    rw (none_up_to (x + 1) end xs k r.2 (omega arith), e) refl
-
 none_at : (low end : ℕ) (xs : List ℕ) (k : ℕ) → RiseWithin low end xs → (0 < length xs → k < get_or xs 0 0) → greatest_to xs k ≡ None
 none_at low end [] k r after = refl
-none_at low end (x ∷ xs) k r after = let lt : k < x = after (omega arith) in none_up_to x end (x ∷ xs) k (omega arith, r.1, r.2) lt
+none_at low end (x ∷ xs) k r after = let lt : k < x = after (omega arith) in greatest_none x end (x ∷ xs) k (omega arith, r.1, r.2) lt
 
 -- where the member at place n is at most k, and the one behind it is not, that one is the greatest up to k
 greatest_at : (low end : ℕ) (xs : List ℕ) (n k : ℕ) → RiseWithin low end xs → n < length xs → get_or xs n 0 ≤ k → ((m : ℕ) → m ≡ suc n → m < length xs → k < get_or xs m 0) → greatest_to xs k ≡ Some (get_or xs n 0)

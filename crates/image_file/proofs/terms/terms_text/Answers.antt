@@ -1,10 +1,10 @@
 use Rattle.std.proofs.Common.{◌≡◌, ◌+◌, ◌<◌, ◌^◌, ◌++◌, [], length, map, IfSome, sym, subst, ap, ◌∙◌, arith}
 use Rattle.std.specs.Option.{is_some}
 use Rattle.std.proofs.lemmas.Bool.{eqb-true, eqb-false}
+use Rattle.std.proofs.lemmas.List.{nil_from_length}
 use Rattle.index_shard.specs.Tables.{RiseWithin}
 use Rattle.slot_terms.specs.Parts.{IsNext, entries_left, past}
 use Rattle.slot_terms.proofs.Passing.{past_fewer}
-use Rattle.shard_merge.proofs.TermByTerm.{no_addresses}
 use Rattle.image_file.specs.Fields.{short_term}
 use Rattle.image_file.proofs.Writing.{Writes, may_write, writing_pushes, writing_skips, written_all}
 use Rattle.image_file.proofs.terms.terms_text.Goals as goal
@@ -73,7 +73,7 @@ loop-addresses-preserved c =
     let next : IsNext parts term addresses = subst (λ o. IfSome o (λ t. IsNext parts t.now addresses)) c.in-Some.is c.in_ok-term.ensures.next in
     let past_it : c.next.new.self ≡ map (past term) parts = subst (λ o. IfSome o (λ t. c.next.new.self ≡ map (past t.now) parts)) c.in-Some.is c.in_ok-term.ensures.past in
     let none = eqb-true _ 0 (sym c.is_empty.ensures ∙ c.if-not-is_empty.false) in
-    let empty : addresses ≡ [] = no_addresses addresses (omega (arith, none, c.next.new.addresses.ok.0)) in
+    let empty : addresses ≡ [] = nil_from_length addresses (omega (arith, none, c.next.new.addresses.ok.0)) in
     record {
       version = c.loop-addresses.invariant.version;
       first = c.loop-addresses.invariant.first;

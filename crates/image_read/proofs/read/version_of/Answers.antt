@@ -5,12 +5,12 @@ use Rattle.live_version.specs.Changes.{opened}
 use Rattle.live_version.specs.Contents.{SlotContent}
 use Rattle.image_read.proofs.Opened.{slot_read, span_within, words_owned}
 use Rattle.image_read.proofs.Spans.{all_small}
-use Rattle.image_read.proofs.TermTracking.{at_some}
 use Rattle.image_read.proofs.read.version_of.Goals as goal
+use Rattle.gcl_model.proofs.Cases.{IfSome-at}
 
 pub new-requires-clause-owned : goal.new-requires-clause-owned
 new-requires-clause-owned c =
-    words_owned c.args.head.format c.args.head.first c.args.head.next c.args.front.files c.args.front.rest.now c.in-Some-2.shard (at_some _ _ _ c.in-Some-2.is c.in_ok-shard.ensures.some)
+    words_owned c.args.head.format c.args.head.first c.args.head.next c.args.front.files c.args.front.rest.now c.in-Some-2.shard (IfSome-at _ _ _ c.in-Some-2.is c.in_ok-shard.ensures.some)
 
 pub of_slot-requires-clause-low : goal.of_slot-requires-clause-low
 of_slot-requires-clause-low c =
@@ -30,5 +30,5 @@ of_slot-requires-clause-ids c =
 pub returns-clause-some : goal.returns-clause-some
 returns-clause-some c =
     slot_read c.args.head.format c.args.head.first c.args.head.next c.args.head.next_id c.args.front.files c.args.front.rest.now c.in-Some.range c.in-Some-2.shard c.in_ok-version.version
-    (at_some _ _ _ c.in-Some-2.is c.in_ok-shard.ensures.some) (at_some _ _ _ c.in-Some-2.is c.in_ok-shard.ensures.shard) (at_some _ _ _ c.in-Some-2.is c.in_ok-shard.ensures.range) c.in-Some.ensures.spanned
+    (IfSome-at _ _ _ c.in-Some-2.is c.in_ok-shard.ensures.some) (IfSome-at _ _ _ c.in-Some-2.is c.in_ok-shard.ensures.shard) (IfSome-at _ _ _ c.in-Some-2.is c.in_ok-shard.ensures.range) c.in-Some.ensures.spanned
     (c.in_ok-version.ensures.value ∙ ap (λ s. opened c.args.head.first c.args.head.next c.args.head.next_id (Some s)) c.in_ok-slot.ensures.value)

@@ -3,8 +3,9 @@ use Rattle.std.specs.Option.{is_some}
 use Rattle.std.proofs.lemmas.Bool.{true≢false}
 use Rattle.index_shard.specs.Tables.{ShardContent}
 use Rattle.image_read.specs.Tables.{AreReadTerms}
-use Rattle.image_read.proofs.TermTracking.{at_some, last_put, terms_are, terms_end, terms_full, terms_none, terms_read, terms_step_as, terms_stop}
+use Rattle.image_read.proofs.TermTracking.{last_put, terms_are, terms_end, terms_full, terms_none, terms_read, terms_step_as, terms_stop}
 use Rattle.image_read.proofs.terms.read_terms.Goals as goal
+use Rattle.gcl_model.proofs.Cases.{IfSome-at}
 
 pub returns-in_default-2-clause-none : goal.returns-in_default-2-clause-none
 returns-in_default-2-clause-none c none =
@@ -13,8 +14,8 @@ returns-in_default-2-clause-none c none =
 
 pub loop-i-preserved : goal.loop-i-preserved
 loop-i-preserved c =
-    let put = at_some _ _ _ c.in-Some-2.is c.in_ok-term.ensures.some in
-    let holds = at_some _ _ _ c.in-Some-2.is c.in_ok-term.ensures.holds in (
+    let put = IfSome-at _ _ _ c.in-Some-2.is c.in_ok-term.ensures.some in
+    let holds = IfSome-at _ _ _ c.in-Some-2.is c.in_ok-term.ensures.holds in (
       terms_step_as _ _ _ _ _ _ _ _ _ _ _ _ _ _ c.requires.in_range (omega (arith, c.loop-i-test.true)) c.loop-i.invariant.0 put c.in_ok-term.ensures.files holds,
       c.in_ok-term.ensures.range ∙ c.loop-i.invariant.1,
       last_put _ _ _ _ _ _ _ put,

@@ -1,6 +1,7 @@
 use Rattle.std.proofs.Common.{◌≤◌, ap, sym, ◌∙◌, subst}
 use Rattle.posting_code.specs.Postings.{block_of}
-use Rattle.term_fingers.proofs.Nearest.{block_rises, block_is_few}
+use Rattle.posting_code.proofs.Around.{block_rises}
+use Rattle.term_fingers.proofs.Nearest.{block_is_few}
 use Rattle.term_fingers.proofs.finger.Finger.read.Goals as goal
 
 pub returns-then-self-block-clause-rising : goal.returns-then-self-block-clause-rising
