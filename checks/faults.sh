@@ -123,7 +123,7 @@ expects 'a file without an end' 1 '! file too long' "$none" "$gclq"
 as_nobody() {
   if [ "$(id -u)" != 0 ]; then "$@"; else setpriv --reuid=65534 --regid=65534 --clear-groups "$@"; fi
 }
-if as_nobody true 2> /dev/null; then
+if as_nobody "$gclq" < /dev/null > /dev/null 2>&1; then
   printf 'hidden' > hidden
   chmod 000 hidden
   mkdir shut
@@ -164,7 +164,7 @@ fills() { (trap '' XFSZ; ulimit -f 8; "$gclq"); }
 expects 'a disk that fills up' 5 'file 0 0 20001' "$(cannot_save i)" fills
 cmp i old
 [ "$(find . -name '.gclq-*' | wc -l)" = 0 ]
-killed() { (ulimit -f 8; exec "$gclq"); }
+killed() { (ulimit -c 0; ulimit -f 8; exec "$gclq"); }
 got=0; { killed < script > written; } 2> /dev/null || got=$?
 : > told
 compares 'a program that is killed while it saves' 153 "$got" 'file 0 0 20001' "$none"

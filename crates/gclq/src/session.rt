@@ -1,4 +1,4 @@
-ghost use Rattle.std.specs.Prelude.{◌≡◌, ◌≤◌, ◌⊎◌, [], false, true, None, IfSome, IsSome, IsSomeAnd, length};
+ghost use Rattle.std.specs.Prelude.{◌≡◌, ◌≤◌, ◌<◌, ◌⊎◌, [], false, true, None, IfSome, IsSome, IsSomeAnd, length};
 ghost use Rattle.std.specs.Process.{exit_status};
 ghost use Rattle.outside.specs.Causes.{Rose};
 ghost use Rattle.gcl_model.specs.Limits.{most_line, most_script};
@@ -56,10 +56,13 @@ pub fn answer<R: Threads + Wait + Sync + Eprint, F: FaultName, S: Source, K: Sin
     ensures too_long { exit_status result ≡ 7 → HandsOverMore most_script (S.left source.old) (S.left source.new) }
 
     // Where the words are in the grammar, no object failed and the script is within the limit, all is answered, or
-    // memory is wanted.
+    // memory is wanted. Where it is longer that is said, or memory is wanted.
     ensures complete { IsSome (options_of words.now) → ¬ Rose (S.faults source.old) (S.faults source.new) → ¬ Rose (K.faults sink.old) (K.faults sink.new) →
         ¬ Rose (F.faults files.old) (F.faults files.new) → IsSomeAnd (S.left source.old) (λ script. length script ≤ most_script) →
         IsEnd (exit_status result) }
+    ensures complete_long { IsSome (first_of words.now) → ¬ Rose (S.faults source.old) (S.faults source.new) → ¬ Rose (K.faults sink.old) (K.faults sink.new) →
+        ¬ Rose (F.faults files.old) (F.faults files.new) → IsSomeAnd (S.left source.old) (λ script. most_script < length script) →
+        (exit_status result ≡ 7) ⊎ (exit_status result ≡ 6) }
 
     // Where all is answered no object failed.
     ensures source_calm { IsAllAnswered (exit_status result) → S.faults source.new ≡ S.faults source.old }

@@ -1,5 +1,5 @@
 -- Where it is known what the source has left and what the files hold, and of what the lines open it is said rightly what it is an image of.
-use Rattle.std.proofs.Common.{◌≡◌, ℕ, ◌+◌, ◌≤◌, inl, Bool, List, [], length, take, refl, sym, subst, Option, Some, None, IfSome, arith}
+use Rattle.std.proofs.Common.{◌≡◌, ℕ, ◌+◌, ◌≤◌, inl, Bool, List, [], length, take, refl, sym, subst, Option, Some, None, IsSome, IfSome, arith}
 use Rattle.std.specs.Io.KnownBytes.{Consumes, IsAtEnd}
 use Rattle.outside.specs.Contents.{Contents}
 use Rattle.collection.specs.Engines.{EngineContent}
@@ -9,6 +9,9 @@ use Rattle.query_run.specs.Images.{Images}
 use Rattle.query_run.specs.States.{State, opening, IsFresh}
 use Rattle.query_run.specs.Answers.{answers, text_of_lines, output_by, AreRead, names_kept_of}
 use Rattle.query_run.specs.Runs.{WhereTold, WhereMade, WhereMadeBy, GetsPart, HasAnswered, HasStopped, IsAnsweredBy, IsStopped, made_opening, made_summary}
+use Rattle.query_run.specs.Statuses.{IsFinished, IsMadeEnd}
+use Rattle.query_run.specs.declared.status.Status.{Status}
+use Rattle.query_run.specs.declared.status.Status.TheVariants.{Done, DoneWithRefusals, Usage, ReadFault, WriteFault, FileFault, NoMemory, ScriptTooLong}
 use Rattle.query_run.specs.declared.limits.Limits.{Limits}
 use Rattle.command_words.specs.declared.options.Made.{Made}
 use Rattle.command_words.specs.declared.options.Options.{Options}
@@ -115,3 +118,19 @@ nothing_of_made (Some options) sink = made_before options.first options.made sin
 pub kept_at : {X : Type 0} (left : Option (List ℕ)) (P : List ℕ → Type 0) (x : X) → IfSome left (λ script. P script → x ≡ x)
 kept_at None P x = tt
 kept_at (Some script) P x = λ p. refl
+
+-- a made run whose sink did not fail answered all, or wanted memory
+pub made_finishes : (s : Status) (Failed : Type 0) → IsMadeEnd s → (s ≡ WriteFault → Failed) → (Failed → ⊥) → IsFinished s
+made_finishes Done Failed is cause calm = tt
+made_finishes DoneWithRefusals Failed is cause calm = tt
+made_finishes NoMemory Failed is cause calm = tt
+made_finishes WriteFault Failed is cause calm = absurd (calm (cause refl))
+made_finishes Usage Failed is cause calm = absurd is
+made_finishes ReadFault Failed is cause calm = absurd is
+made_finishes FileFault Failed is cause calm = absurd is
+made_finishes ScriptTooLong Failed is cause calm = absurd is
+
+-- whatever the words ask for
+pub made_at : (options : Option Options) (Calm : Type 0) (s : Status) → (Calm → IsFinished s) → IfSome options (λ (o : Options). IsSome o.made → Calm → IsFinished s)
+made_at None Calm s h = tt
+made_at (Some options) Calm s h = λ made calm. h calm

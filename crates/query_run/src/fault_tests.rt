@@ -149,17 +149,19 @@ impl Files for HungryFiles {
         if self.calls == self.hungry {
             return Err(FileError::NoMemory);
         }
-        let loaded = self.inner.load(name, most, out)?;
-        Ok(loaded)
+        self.inner.load(name, most, out)
     }
 
     fn keep(&mut self, name: &[u8], bytes: &[u8]) -> Result<(), FileError> {
         self.calls = self.calls.saturating_add(1);
-        if self.calls == self.hungry {
-            return Err(FileError::NoMemory);
+        if self.calls != self.hungry {
+            return self.inner.keep(name, bytes);
         }
-        self.inner.keep(name, bytes)?;
-        Ok(())
+        // an error may have changed what the name holds
+        match self.inner.keep(name, bytes) {
+            Ok(()) => Err(FileError::NoMemory),
+            Err(fault) => Err(fault),
+        }
     }
 }
 

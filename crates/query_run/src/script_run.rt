@@ -1,8 +1,8 @@
-ghost use Rattle.std.specs.Prelude.{◌≡◌, ◌≤◌, true, false, [], Some, IfSome, IsSomeAnd, length};
+ghost use Rattle.std.specs.Prelude.{◌≡◌, ◌≤◌, ◌<◌, true, false, [], Some, IfSome, IsSomeAnd, length};
 ghost use Rattle.outside.specs.Causes.{Rose};
 ghost use Rattle.gcl_model.specs.Limits.{address_end, most_line, most_script};
 ghost use Rattle.script_lang.specs.Lines.{lines};
-ghost use Rattle.query_run.specs.Statuses.{IsFinished, IsAllAnswered};
+ghost use Rattle.query_run.specs.Statuses.{IsFinished, IsCutOff, IsAllAnswered};
 ghost use Rattle.query_run.specs.States.{greatest_limits};
 ghost use Rattle.query_run.specs.Answers.{output, names_kept_of, names_of};
 ghost use Rattle.query_run.specs.Runs.{WhereTold, GetsPart, HasStopped, IsAnswered, HandsOverMore, within};
@@ -50,10 +50,14 @@ pub fn run_script<R: Threads + Wait + Sync, F: Files, S: Source, K: Sink, G: Gat
     ensures file_fault { result ≡ Status.FileFault → Rose (F.faults files.old) (F.faults files.new) }
     ensures too_long { result ≡ Status.ScriptTooLong → HandsOverMore most_script (S.left source.old) (S.left source.new) }
 
-    // Where no object failed and the script is within the limit, all is answered, or memory is wanted.
+    // Where no object failed and the script is within the limit, all is answered, or memory is wanted. Where it is longer that is said, or
+    // memory is wanted.
     ensures complete { ¬ Rose (S.faults source.old) (S.faults source.new) → ¬ Rose (K.faults sink.old) (K.faults sink.new) →
         ¬ Rose (F.faults files.old) (F.faults files.new) → IsSomeAnd (S.left source.old) (λ script. length script ≤ most_script) →
         IsFinished result }
+    ensures complete_long { ¬ Rose (S.faults source.old) (S.faults source.new) → ¬ Rose (K.faults sink.old) (K.faults sink.new) →
+        ¬ Rose (F.faults files.old) (F.faults files.new) → IsSomeAnd (S.left source.old) (λ script. most_script < length script) →
+        IsCutOff result }
 
     // Where all is answered no object failed.
     ensures source_calm { IsAllAnswered result → S.faults source.new ≡ S.faults source.old }

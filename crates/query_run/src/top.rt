@@ -1,10 +1,10 @@
-ghost use Rattle.std.specs.Prelude.{◌≡◌, ◌≤◌, ◌⊎◌, true, false, [], None, IfSome, IsSome, IsSomeAnd, length};
+ghost use Rattle.std.specs.Prelude.{◌≡◌, ◌≤◌, ◌<◌, ◌⊎◌, true, false, [], None, IfSome, IsSome, IsSomeAnd, length};
 ghost use Rattle.outside.specs.Causes.{Rose};
 ghost use Rattle.gcl_model.specs.Limits.{most_line, most_script};
 ghost use Rattle.script_lang.specs.Lines.{lines};
 ghost use Rattle.command_words.specs.Grammar.{options_of};
 ghost use Rattle.query_run.specs.Words.{first_of};
-ghost use Rattle.query_run.specs.Statuses.{IsFinished, IsAllAnswered};
+ghost use Rattle.query_run.specs.Statuses.{IsFinished, IsCutOff, IsAllAnswered};
 ghost use Rattle.query_run.specs.States.{greatest_limits};
 ghost use Rattle.query_run.specs.Answers.{output, names_kept_of, names_of};
 ghost use Rattle.query_run.specs.Runs.{WhereTold, WhereMadeBy, GetsPart, HasStopped, IsAnswered, IsSummed, HandsOverMore, made_summary, within};
@@ -59,10 +59,13 @@ pub fn run<R: Threads + Wait + Sync, F: Files, S: Source, K: Sink, G: Gate + Syn
     ensures too_long { result ≡ Status.ScriptTooLong → HandsOverMore most_script (S.left source.old) (S.left source.new) }
 
     // Where the words are in the grammar, no object failed and the script is within the limit, all is answered, or
-    // memory is wanted.
+    // memory is wanted. Where it is longer that is said, or memory is wanted.
     ensures complete { IsSome (options_of words.now) → ¬ Rose (S.faults source.old) (S.faults source.new) → ¬ Rose (K.faults sink.old) (K.faults sink.new) →
         ¬ Rose (F.faults files.old) (F.faults files.new) → IsSomeAnd (S.left source.old) (λ script. length script ≤ most_script) →
         IsFinished result }
+    ensures complete_long { IsSome (first_of words.now) → ¬ Rose (S.faults source.old) (S.faults source.new) → ¬ Rose (K.faults sink.old) (K.faults sink.new) →
+        ¬ Rose (F.faults files.old) (F.faults files.new) → IsSomeAnd (S.left source.old) (λ script. most_script < length script) →
+        IsCutOff result }
 
     // Where all is answered no object failed.
     ensures source_calm { IsAllAnswered result → S.faults source.new ≡ S.faults source.old }
