@@ -1,10 +1,10 @@
 -- Answers to lists of lines that are put together, and how far a script has come.
-use Rattle.std.proofs.Common.{◌≡◌, ℕ, ◌+◌, ◌-◌, ◌≤◌, inl, inr, Bool, true, false, nat_lt, List, [], ◌∷◌, ◌++◌, length, take, drop, zero, suc, refl, sym, ap, ◌∙◌, append_assoc, append-nil, Option, Some, None, IsSome, IfSome, IsSomeAnd, length-append, subst, arith, take-add, take_all}
-use Rattle.std.proofs.lemmas.List.{take-append-drop, take-append-le, drop-append-le, length-drop, drop-drop}
+use Rattle.std.proofs.Common.{◌≡◌, ℕ, ◌+◌, ◌-◌, ◌≤◌, ◌<◌, inl, inr, Bool, true, false, nat_lt, List, [], ◌∷◌, ◌++◌, length, take, drop, zero, suc, refl, sym, ap, ◌∙◌, append_assoc, append-nil, Option, Some, None, IsSome, IfSome, IsSomeAnd, length-append, subst, arith, take-add, take_all}
+use Rattle.std.proofs.lemmas.List.{take-take, take-append-drop, length-drop, drop-drop, take-append-le, drop-append-le}
 use Rattle.std.proofs.lemmas.List.Elements.{Contains-append_left}
 use Rattle.std.proofs.Math.Seq.{take-append_seam, drop-append_seam}
 use Rattle.std.specs.List.{list_any}
-use Rattle.std.specs.Prelude.{◌||◌, ◌⊎◌, Contains, Err, flat_map, if◌then◌else◌}
+use Rattle.std.specs.Prelude.{◌||◌, Err, if◌then◌else◌, ◌⊎◌, Contains, flat_map}
 use Rattle.std.specs.Option.{option_map}
 use Rattle.std.specs.Io.KnownBytes.{Appends, Consumes, IsAtEnd}
 use Rattle.std.proofs.lemmas.List.Folds.{list_any-append}
@@ -477,3 +477,10 @@ all_read (Some all) (Some rest) script bytes from end is =
     let whole : all ≡ bytes ++ rest = from in
     let same : all ≡ script = cc is in
     sym (append-nil bytes) ∙ ap (λ l. bytes ++ l) (sym end) ∙ sym whole ∙ same
+
+-- what was read to its end is the script, which is no longer
+pub not_longer : (most : ℕ) (old new : Option (List ℕ)) (bytes : List ℕ) → Consumes old new bytes → IsAtEnd new → length bytes ≤ most → IsSomeAnd old (λ script. most < length script) → ⊥
+not_longer most None new bytes from end short longer = longer
+not_longer most (Some script) new bytes from end short longer =
+    let same : length bytes ≡ length script = ap length (all_read (Some script) new script bytes from end refl) in
+    omega (arith, same, short, longer)
