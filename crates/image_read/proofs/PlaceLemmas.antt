@@ -194,7 +194,7 @@ later_from p file (next ∷ files) all is = elim (or_cases (is_of_file p next) (
 -- where the file at a place has an address, those that end by it are the ones before
 pub file_prefix : (files : List FileEntry) (i p : ℕ) (d : FileEntry) → IsFileRun files → i < length files → is_of_file p (get_or files i d) ≡ true → i ≡ prefix_len (ends_by p) files
 file_prefix [] i p d run lt is = absurd (omega arith)
-file_prefix (file ∷ files) zero p d run lt is = let at = within p file is in rw (lt-leb (file.base + file.len) p at.1) refl
+file_prefix (file ∷ files) zero p d run lt is = let at = is_of_file-bounds p file is in rw (lt-leb (file.base + file.len) p at.1) refl
 file_prefix (file ∷ files) (suc i) p d run lt is =
     let end : file.base + file.len ≤ p = later_from p file files run.1 (of_files_at files i p d (omega arith) is) in
     let rest = file_prefix files i p d run.2 (omega arith) is in
