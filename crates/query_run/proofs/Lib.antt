@@ -7,4 +7,3 @@ pub mod Scripts
 pub mod ShortLemmas
 pub mod Told
 mod Worked
-pub mod Writing

@@ -1,11 +1,12 @@
 -- Answers to lists of lines that are put together, and how far a script has come.
-use Rattle.std.proofs.Common.{◌≡◌, ℕ, ◌+◌, ◌-◌, ◌≤◌, inl, inr, Bool, true, false, nat_lt, List, [], ◌∷◌, ◌++◌, length, take, drop, zero, suc, refl, sym, ap, ◌∙◌, append_assoc, append-nil, Option, Some, None, IsSome, IfSome, IsSomeAnd, length-append, subst, arith, take-add, take_all}
+use Rattle.std.proofs.Common.{◌≡◌, ℕ, ◌+◌, ◌-◌, ◌≤◌, inl, inr, Bool, true, false, nat_lt, List, [], ◌∷◌, ◌++◌, length, take, drop, zero, suc, refl, sym, ap, ◌∙◌, append_assoc, append-nil, Option, Some, None, IsSome, IsSomeAnd, length-append, subst, arith, take-add, take_all}
 use Rattle.std.proofs.lemmas.List.{take-take, take-append-drop, length-drop, drop-drop}
 use Rattle.std.specs.Prelude.{◌||◌, Err, if◌then◌else◌}
 use Rattle.std.specs.Option.{option_map}
 use Rattle.std.specs.Io.KnownBytes.{Consumes, IsAtEnd}
 use Rattle.std.proofs.lemmas.List.Folds.{list_any-append}
 use Rattle.std.proofs.lemmas.Grind.{flat_map-append}
+use Rattle.std.proofs.KnownBytes.{Appends-trans, Appends-nil}
 use Rattle.outside.specs.Contents.{Contents}
 use Rattle.outside.specs.declared.faults.FileError.{FileError}
 use Rattle.gcl_model.specs.Limits.{address_end}
@@ -19,6 +20,7 @@ use Rattle.script_lang.specs.declared.commands.Command.{Command}
 use Rattle.script_lang.specs.declared.commands.Command.TheVariants.{Blank, Add, Del, Find, Count, Top, Files, Merge, Shards, Save, Load, Wrong}
 use Rattle.script_lang.specs.declared.refusals.Refusal.TheVariants.{LongLine, NoFile, TooLong, NoAddresses, NotEmpty}
 use Rattle.live_version.specs.StandsFor.{StandsFor}
+use Rattle.live_version.proofs.PartLaws.{both_empty}
 use Rattle.collection.specs.Engines.{EngineContent}
 use Rattle.query_run.specs.States.{State, opening, Keeps, IsFresh}
 use Rattle.query_run.specs.Images.{Images}
@@ -26,7 +28,6 @@ use Rattle.query_run.specs.Answers.{Reply, text_of_lines, answer, after_reply, s
 use Rattle.query_run.specs.Progress.{lines_of, answer_text, AreAnswered, HasCome, HasWritten, HoldsSaved, HoldsWithin, IsAt, StopsWithin}
 use Rattle.query_run.specs.Runs.{GetsPart, HasAnswered, HoldsBut, IsLeftBy, IsStopped, HandsOverMore}
 use Rattle.query_run.specs.declared.limits.Limits.{Limits}
-use Rattle.query_run.proofs.Writing.{Appends-trans, Appends-none}
 
 later_lines : (o : Option Reply) (a b : List (List ℕ)) → IsSome o → with_later o (a ++ b) ≡ with_later o a ++ b
 later_lines None a b some = absurd (cc some)
@@ -104,7 +105,7 @@ module _ (limits : Limits) where
 
   -- nothing was answered yet
   pub begins : (start : State) (held : Option Contents) (engine : EngineContent) (old : Option (List ℕ)) → IsAt held engine false start → HasCome limits start [] held engine false false old old
-  begins start held engine old at = record { are = record { answered = tt; refusal_is = refl; written = Appends-none old }; at = at }
+  begins start held engine old at = record { are = record { answered = tt; refusal_is = refl; written = Appends-nil old }; at = at }
 
   -- the answers to a line that comes after others
   one_more : (s : State) (line : Line) → answers limits s (line ∷ []) ≡ lines_of (answer limits s line)
@@ -223,10 +224,6 @@ module _ (limits : Limits) where
         };
         files = all_held _ _ held come.at.files;
       }
-
-both_empty : (xs ys : List (List ℕ)) → xs ++ ys ≡ [] → (xs ≡ []) × (ys ≡ [])
-both_empty [] ys e = (refl, e)
-both_empty (x ∷ xs) ys e = absurd (cc e)
 
 -- where all lines load no name, neither do the first of them
 pub names_of_first : (n : ℕ) (all : List Line) → names_of all ≡ [] → names_of (take n all) ≡ []
@@ -396,15 +393,6 @@ left limits start script n engine past within keeps =
       keeps = subst (λ (l : List Line). Keeps engine false (state_after limits start l)) done keeps;
       each = omega (arith, past, within);
     }
-
--- at any option, given what it is
-pub IfSome-given : {T : Type 0} {P : T → Type 0} → (o : Option T) → ((x : T) → o ≡ Some x → P x) → IfSome o P
-IfSome-given None h = tt
-IfSome-given (Some x) h = h x refl
-
--- at the value that it has
-pub IfSome-at : {T : Type 0} (P : T → Type 0) (o : Option T) (x : T) → o ≡ Some x → IfSome o P → P x
-IfSome-at {T} P o x is h = let Q : Option T → Type 0 = λ v. IfSome v P in subst Q is h
 
 -- no more can be handed over than was left
 pub not_more : (most : ℕ) (old new : Option (List ℕ)) → IsSomeAnd old (λ script. length script ≤ most) → HandsOverMore most old new → ⊥
