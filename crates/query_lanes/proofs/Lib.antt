@@ -3,6 +3,5 @@ pub mod ReaderLemmas
 pub mod MergeLemmas
 pub mod LaneLemmas
 pub mod EachLane
-pub mod Passes
 pub mod ShortLemmas
 mod Worked

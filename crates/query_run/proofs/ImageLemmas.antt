@@ -11,6 +11,7 @@ use Rattle.gcl_model.specs.Texts.{Word, places}
 use Rattle.gcl_model.specs.Collections.{Collection, words_of}
 use Rattle.gcl_model.specs.Tokens.{tokens_of}
 use Rattle.gcl_model.proofs.Lists.{all_append, all_map, all_weaker}
+use Rattle.gcl_model.proofs.Cases.{or_swap}
 use Rattle.word_tokens.specs.Lexemes.{part_of}
 use Rattle.word_tokens.proofs.PartLemmas.{part_of_fits, tokens_of-part}
 use Rattle.index_shard.specs.Tables.{TermEntry, ComesBefore, postings_of}
@@ -22,6 +23,7 @@ use Rattle.image_file.proofs.TermTables.{one_table, reversed}
 use Rattle.image_file.proofs.ImageLaws.{spells_one}
 use Rattle.image_read.specs.Answers.{IsNoImage}
 use Rattle.query_run.specs.Images.{with_token, token_by, tokens_in_order, term_of, terms_of, image_of, IsReading}
+use Rattle.live_version.specs.Terms.{has_term as is_among}
 
 -- what holds of a token and of others holds of all of them together
 all_with : (P : List ℕ → Type 0) (t : List ℕ) (ts : List (List ℕ)) → P t → AllByRecursion P ts → AllByRecursion P (with_token t ts)
@@ -74,10 +76,6 @@ terms_rise : (words : List Word) (ts : List (List ℕ)) → TokensRise ts → Te
 terms_rise words [] rise = tt
 terms_rise words (t ∷ ts) rise = (all_map (λ (e : TermEntry). ComesBefore t e.term) (term_of words) ts rise.0, terms_rise words ts rise.1)
 
--- whether the token is one of some
-abbrev is_among : List (List ℕ) → List ℕ → Bool
-is_among ts t = list_any (λ u. bytes_eq u t) ts
-
 found : (words : List Word) (ts : List (List ℕ)) (t : List ℕ) → is_among ts t ≡ true → postings_of (map (term_of words) ts) t ≡ places words t
 found words [] t is = absurd cc
 found words (u ∷ us) t is = elim (cases_Bool (bytes_eq u t)) [
@@ -96,11 +94,6 @@ twice : (a b : Bool) → (a || b) ≡ (a || (a || b))
 twice true b = refl
 twice false b = refl
 
-swapped : (a b c : Bool) → (a || (b || c)) ≡ (b || (a || c))
-swapped true true c = refl
-swapped true false c = refl
-swapped false b c = refl
-
 among_with : (t u : List ℕ) (us : List (List ℕ)) → is_among (with_token u us) t ≡ (bytes_eq u t || is_among us t)
 among_with t u [] = refl
 among_with t u (v ∷ vs) = by_order (slice_cmp nat_cmp u v) refl (with_token u vs) (among_with t u vs)
@@ -110,7 +103,7 @@ among_with t u (v ∷ vs) = by_order (slice_cmp nat_cmp u v) refl (with_token u 
     by_order Equal is rest later =
         let same : bytes_eq v t ≡ bytes_eq u t = ap (λ x. bytes_eq x t) (sym (exact_bytes u v is)) in
         rw same (twice (bytes_eq u t) (is_among vs t))
-    by_order Greater is rest later = rw later (swapped (bytes_eq v t) (bytes_eq u t) (is_among vs t))
+    by_order Greater is rest later = rw later (or_swap (bytes_eq v t) (bytes_eq u t) (is_among vs t))
 
 -- whether a word has the token
 abbrev has_token : List Word → List ℕ → Bool

@@ -7,4 +7,3 @@ pub mod SaveReplies
 pub mod Scripts
 pub mod Told
 mod Worked
-pub mod Writing

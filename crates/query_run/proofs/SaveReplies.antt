@@ -10,6 +10,7 @@ use Rattle.outside.specs.Contents.{Contents, BeginsContent, ChangesOnly, changed
 use Rattle.gcl_model.specs.Limits.{most_file}
 use Rattle.gcl_model.specs.Tokens.{tokens_of}
 use Rattle.gcl_model.specs.Collections.{Collection, empty_from, with_file}
+use Rattle.gcl_model.proofs.Cases.{IfSome-at}
 use Rattle.address_space.proofs.CollectionLemmas.{adding_keeps_soundness}
 use Rattle.live_version.specs.Contents.{VersionContent, files_of, ranges_of}
 use Rattle.live_version.specs.Changes.{empty_version}
@@ -130,15 +131,11 @@ opening_refused limits state name engine held out out' refusal some at said =
     let ids : engine.version.next_id ≡ state.collection.next_id = at.keeps.stands.next_id in
     tells (reply limits state (Load name)) state (refusal_lines NotEmpty) engine false out out' refusal (has_files limits state name (omega (arith, some, ids))) at.keeps said
 
--- what a name holds
-content_at : (held : Option Contents) (files : Contents) (P : Contents → Type 0) → held ≡ Some files → IfSome held P → P files
-content_at held files P is given = let Q : Option Contents → Type 0 = λ o. IfSome o P in subst Q is given
-
 pub opening_long : (limits : Limits) (state : State) (name text : List ℕ) (engine : EngineContent) (held : Option Contents) (out out' : List ℕ) (refusal : Bool) → engine.version.next_id ≡ 0 →
     length text ≡ limits.image + 1 → IfSome held (λ contents. BeginsContent contents name text) → IsAt held engine false state → Says (refusal_lines TooLong) out out' refusal →
     Gives (reply limits state (Load name)) engine false out out' refusal
 opening_long limits state name text engine held out out' refusal none len begins at said =
-    let begin = content_at held state.files (λ contents. BeginsContent contents name text) at.files begins in
+    let begin = IfSome-at (λ contents. BeginsContent contents name text) held state.files at.files begins in
     let size : length (text ++ begin.rest) ≡ length text + length begin.rest = length-append text begin.rest in
     let over : nat_lt limits.image (length (text ++ begin.rest)) ≡ true = grind (arith, nat_tests, size, len) in
     let refuses : image_reply limits state (text ++ begin.rest) ≡ unchanged state (refusal_lines TooLong) = rw over refl in
@@ -148,14 +145,14 @@ opening_long limits state name text engine held out out' refusal none len begins
 opening_reply : (limits : Limits) (state : State) (name content : List ℕ) (engine : EngineContent) (held : Option Contents) → engine.version.next_id ≡ 0 → length content ≤ limits.image →
     IfSome held (λ contents. contents name ≡ Some content) → IsAt held engine false state → reply limits state (Load name) ≡ Some (reading_reply state (state.images content))
 opening_reply limits state name content engine held none fits is at =
-    let found = content_at held state.files (λ contents. contents name ≡ Some content) at.files is in
+    let found = IfSome-at (λ contents. contents name ≡ Some content) held state.files at.files is in
     let few : nat_lt limits.image (length content) ≡ false = grind (arith, nat_tests) in
     let opens : image_reply limits state content ≡ reading_reply state (state.images content) = rw few refl in
     has_none limits state name (sym at.keeps.stands.next_id ∙ none) ∙ ap (option_map (image_reply limits state)) found ∙ ap Some opens
 
 reading_at : (state : State) (name content : List ℕ) (held : Option Contents) → held ≡ Some state.files → IfSome held (λ contents. contents name ≡ Some content) → IsReadBy state (Load name) → IsReading content (state.images content)
 reading_at state name content held files is read =
-    let found = content_at held state.files (λ contents. contents name ≡ Some content) files is in
+    let found = IfSome-at (λ contents. contents name ≡ Some content) held state.files files is in
     let Read : Option (List ℕ) → Type 0 = λ o. IfSome o (λ (bytes : List ℕ). IsReading bytes (state.images bytes)) in
     subst Read found read
 

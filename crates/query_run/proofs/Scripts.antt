@@ -9,12 +9,14 @@ use Rattle.std.specs.Option.{option_map}
 use Rattle.std.specs.Io.KnownBytes.{Appends, Consumes, IsAtEnd}
 use Rattle.std.proofs.lemmas.List.Folds.{list_any-append}
 use Rattle.std.proofs.lemmas.Grind.{flat_map-append}
+use Rattle.std.proofs.KnownBytes.{Appends-trans, Appends-nil}
 use Rattle.outside.specs.Contents.{Contents}
 use Rattle.outside.specs.declared.faults.FileError.{FileError}
 use Rattle.gcl_model.specs.Limits.{address_end}
 use Rattle.gcl_model.specs.Tokens.{tokens_of}
 use Rattle.gcl_model.specs.Collections.{Collection, empty_from, has_file, width_of}
 use Rattle.live_version.specs.Contents.{VersionContent, ranges_of}
+use Rattle.live_version.proofs.PartLaws.{both_empty}
 use Rattle.script_lang.specs.Lines.{Line, lines}
 use Rattle.script_lang.specs.Answers.{file_line, gone_line, is_refusal}
 use Rattle.script_lang.specs.Commands.{command_of}
@@ -29,7 +31,6 @@ use Rattle.query_run.specs.Answers.{Reply, text_of_lines, answer, after_reply, s
 use Rattle.query_run.specs.Progress.{lines_of, answer_text, AreAnswered, ComesOn, HasCome, HasWritten, HoldsSaved, HoldsWithin, IsAt, StopsFrom, StopsWithin}
 use Rattle.query_run.specs.Runs.{GetsPart, HasAnswered, HoldsBut, IsLeftBy, IsStopped, HandsOverMore}
 use Rattle.query_run.specs.declared.limits.Limits.{Limits}
-use Rattle.query_run.proofs.Writing.{Appends-trans, Appends-none}
 
 later_lines : (o : Option Reply) (a b : List (List ℕ)) → IsSome o → with_later o (a ++ b) ≡ with_later o a ++ b
 later_lines None a b some = absurd (cc some)
@@ -132,7 +133,7 @@ module _ (limits : Limits) where
 
   -- nothing was answered yet
   pub begins : (start : State) (held : Option Contents) (engine : EngineContent) (w : Bool) (old : Option (List ℕ)) → IsAt held engine w start → HasCome limits start [] held engine w false old old
-  begins start held engine w old at = record { are = record { answered = tt; refusal_is = refl; written = Appends-none old }; at = at }
+  begins start held engine w old at = record { are = record { answered = tt; refusal_is = refl; written = Appends-nil old }; at = at }
 
   -- the answers to a line that comes after others
   one_more : (s : State) (line : Line) → answers limits s (line ∷ []) ≡ lines_of (answer limits s line)
@@ -294,10 +295,6 @@ module _ (limits : Limits) where
   pub stays : (all : List Line) (n : ℕ) (held : Option Contents) (engine : EngineContent) (w a : Bool) (mid : Option (List ℕ)) → n ≤ length all → StopsFrom limits all n n held held engine engine w a mid mid
   stays all n held engine w a mid within = λ start old read come. stopped_here start all n held engine engine.version w a old mid within come come.at.keeps.stands
 
-both_empty : (xs ys : List (List ℕ)) → xs ++ ys ≡ [] → (xs ≡ []) × (ys ≡ [])
-both_empty [] ys e = (refl, e)
-both_empty (x ∷ xs) ys e = absurd (cc e)
-
 -- where no line has a name, neither has the one at a place
 pub no_name_at : (f : Line → List (List ℕ)) (n : ℕ) (all rest : List Line) (line : Line) → drop n all ≡ line ∷ rest → flat_map f all ≡ [] → f line ≡ []
 no_name_at f n all rest line is none =
@@ -450,15 +447,6 @@ left limits start script n engine past within keeps =
       keeps = subst (λ (l : List Line). Keeps engine false (state_after limits start l)) done keeps;
       each = omega (arith, past, within);
     }
-
--- at any option, given what it is
-pub IfSome-given : {T : Type 0} {P : T → Type 0} → (o : Option T) → ((x : T) → o ≡ Some x → P x) → IfSome o P
-IfSome-given None h = tt
-IfSome-given (Some x) h = h x refl
-
--- at the value that it has
-pub IfSome-at : {T : Type 0} (P : T → Type 0) (o : Option T) (x : T) → o ≡ Some x → IfSome o P → P x
-IfSome-at {T} P o x is h = let Q : Option T → Type 0 = λ v. IfSome v P in subst Q is h
 
 -- no more can be handed over than was left
 pub not_more : (most : ℕ) (old new : Option (List ℕ)) → IsSomeAnd old (λ script. length script ≤ most) → HandsOverMore most old new → ⊥

@@ -16,7 +16,7 @@ use Rattle.query_run.specs.declared.limits.Limits.{Limits}
 use Rattle.command_words.specs.declared.options.Made.{Made}
 use Rattle.command_words.specs.declared.options.Options.{Options}
 use Rattle.query_run.proofs.Scripts.{fresh_keeps, part_of_all, all_read}
-use Rattle.query_run.proofs.Writing.{Appends-none}
+use Rattle.std.proofs.KnownBytes.{Appends-nil}
 
 -- at a script, contents and readings that are known
 pub told : (limits : Limits) (first : ℕ) (left : Option (List ℕ)) (held : Option Contents) (P : State → List ℕ → Type 0) →
@@ -54,7 +54,7 @@ stopped_before limits engine completed left held sink fresh = told limits engine
     (record {
       within = omega arith;
       stands = (fresh_keeps engine completed contents images fresh).stands;
-      part = record { part = []; rest = text_of_lines (answers limits (opening engine.version.first contents images) (take 1 (lines limits.line script))); whole = refl; written = Appends-none sink };
+      part = record { part = []; rest = text_of_lines (answers limits (opening engine.version.first contents images) (take 1 (lines limits.line script))); whole = refl; written = Appends-nil sink };
       files = record { contents = contents; is = is_held; same = λ name. inl refl };
     }))
 
@@ -62,7 +62,7 @@ stopped_before limits engine completed left held sink fresh = told limits engine
 pub part_before : (limits : Limits) (first : ℕ) (left : Option (List ℕ)) (held : Option Contents) (sink : Option (List ℕ)) (text : State → List ℕ → List ℕ) →
     WhereTold limits (Some first) left held (λ start script. GetsPart sink sink (text start script))
 part_before limits first left held sink text = told limits first left held (λ start script. GetsPart sink sink (text start script)) (λ script contents images is_left is_held.
-    record { part = []; rest = text (opening first contents images) script; whole = refl; written = Appends-none sink })
+    record { part = []; rest = text (opening first contents images) script; whole = refl; written = Appends-nil sink })
 
 pub nothing_of : (limits : Limits) (first : Option ℕ) (left : Option (List ℕ)) (held : Option Contents) (sink : Option (List ℕ)) (text : State → List ℕ → List ℕ) →
     WhereTold limits first left held (λ start script. GetsPart sink sink (text start script))
@@ -77,7 +77,7 @@ none_stopped limits (Some first) left held sink unsure = told limits first left 
     record {
       completed = 0;
       within = omega arith;
-      part = record { part = []; rest = text_of_lines (answers limits (opening first contents images) (take 1 (lines limits.line script))); whole = refl; written = Appends-none sink };
+      part = record { part = []; rest = text_of_lines (answers limits (opening first contents images) (take 1 (lines limits.line script))); whole = refl; written = Appends-nil sink };
       files = record { contents = contents; is = is_held; same = λ name. inl refl };
     })
 
@@ -108,7 +108,7 @@ by_words o limits limits' first left held P is same h =
 -- nothing is a part of the summary of a made run
 made_before : (first : ℕ) (made : Option Made) (sink : Option (List ℕ)) → IfSome made (λ (m : Made). WhereMade first m (λ start. GetsPart sink sink (made_summary m start)))
 made_before first None sink = tt
-made_before first (Some made) sink = λ images read. record { part = []; rest = made_summary made (made_opening first made images); whole = refl; written = Appends-none sink }
+made_before first (Some made) sink = λ images read. record { part = []; rest = made_summary made (made_opening first made images); whole = refl; written = Appends-nil sink }
 
 pub nothing_of_made : (options : Option Options) (sink : Option (List ℕ)) → WhereMadeBy options (λ made start. GetsPart sink sink (made_summary made start))
 nothing_of_made None sink = tt

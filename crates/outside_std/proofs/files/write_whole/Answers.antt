@@ -1,5 +1,5 @@
 use Rattle.std.proofs.Common.{◌≤◌, length, rules}
-use Rattle.outside_std.proofs.Pieces.{piece_written}
+use Rattle.outside.proofs.Pieces.{piece_written}
 use Rattle.outside_std.proofs.files.write_whole.Goals as goal
 
 pub loop-at-preserved : goal.loop-at-preserved

@@ -2,7 +2,7 @@ use Rattle.std.proofs.Common.{◌+◌, ◌≤◌, sym, subst}
 use Rattle.gcl_model.specs.FormOf.{form_of}
 use Rattle.live_version.specs.Contents.{VersionContent, version_text}
 use Rattle.reader_pass.specs.Members.{look_ups, access_most}
-use Rattle.query_lanes.proofs.Passes.{last_is}
+use Rattle.collection.proofs.EngineLemmas.{last_is}
 use Rattle.query_lanes.proofs.found.MemberCountQuestion.ask.Goals as goal
 
 pub returns-clause-cost : goal.returns-clause-cost
