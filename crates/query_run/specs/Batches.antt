@@ -1,5 +1,5 @@
 -- Batches of queries in a script, and the lines that answer them.
-use Rattle.std.specs.Prelude.{◌≡◌, ℕ, ◌<◌, ◌≤◌, Bool, true, false, List, [], ◌∷◌, ◌++◌, length, drop, ⊤, ⊥, if◌then◌else◌}
+use Rattle.std.specs.Prelude.{◌≡◌, ℕ, ◌<◌, ◌≤◌, Bool, true, false, List, [], ◌∷◌, ◌++◌, length, drop, ⊤, if◌then◌else◌}
 use Rattle.gcl_model.specs.Texts.{Text}
 use Rattle.script_lang.specs.Lines.{Line, lines}
 use Rattle.script_lang.specs.Commands.{command_of}
