@@ -1,5 +1,5 @@
 -- The steps of the walks, token by token and turn by turn.
-use Rattle.std.proofs.Common.{◌≡◌, ℕ, suc, ◌+◌, ◌-◌, ◌*◌, ◌<◌, ◌≤◌, List, [], ◌∷◌, ◌++◌, length, Option, Some, None, inl, inr, refl, sym, ap, ◌∙◌, subst, arith}
+use Rattle.std.proofs.Common.{◌≡◌, ℕ, suc, ◌+◌, ◌-◌, ◌*◌, ◌<◌, ◌≤◌, List, [], ◌∷◌, ◌++◌, length, drop, get_or, Option, Some, None, inl, inr, refl, sym, ap, ◌∙◌, subst, arith, le_refl}
 use Rattle.std.specs.Option.{option_and_then}
 use Rattle.std.proofs.lemmas.Bool.{cases_lt}
 use Rattle.gcl_model.specs.Extents.{Extent, extent}
@@ -8,8 +8,8 @@ use Rattle.gcl_model.specs.Texts.{Text, Word, IsText, next_place, previous_place
 use Rattle.gcl_model.specs.Forms.{phrase}
 use Rattle.gcl_model.specs.Meaning.{concordance}
 use Rattle.gcl_model.specs.Limits.{address_end}
-use Rattle.phrase_walk.specs.Rows.{row_end, row_start, place_before}
-use Rattle.phrase_walk.proofs.Places.{next_tells}
+use Rattle.phrase_walk.specs.Rows.{IsRowFrom, row_end, row_start, place_before}
+use Rattle.phrase_walk.proofs.Places.{Held, next_tells, none_next}
 use Rattle.phrase_walk.proofs.Near.{InRow, AreNear, near_row, end_tells, none_end, start_tells, none_start}
 use Rattle.phrase_walk.proofs.Members.{row_within, first_row, no_first_row, last_row, no_last_row}
 use Rattle.phrase_walk.proofs.Passed.{fewest_passed, fewest_more}
@@ -27,6 +27,31 @@ place_within text sound t k q is =
     let below : q < text.next = (next_tells text t sound k q (sym is)).within in
     let bound : text.next ≤ address_end = sound.in_range in
     omega arith
+
+-- the tokens go on behind the first place of the first one
+pub row_by_first : (words : List Word) (tokens : List (List ℕ)) (t : List ℕ) (others : List (List ℕ)) (p : ℕ) (o : Option ℕ) → tokens ≡ t ∷ others → o ≡ next_place words t p →
+    option_and_then (λ q. row_end words others (q + 1)) o ≡ row_end words tokens p
+row_by_first words tokens t others p o item is = ap (option_and_then (λ q. row_end words others (q + 1))) is ∙ ap (λ ts. row_end words ts p) (sym item)
+
+-- where a token stands, it is the first from there on
+next_here : (text : Text) → IsText text → (t : List ℕ) (q : ℕ) → Held text t q → (o : Option ℕ) → next_place text.words t q ≡ o → Some q ≡ next_place text.words t q
+next_here text sound t q held None at = absurd (none_next text t sound q at q held (le_refl q))
+next_here text sound t q held (Some r) at =
+    let n = next_tells text t sound q r at in
+    let from : q ≤ r = n.from in
+    let upto : r ≤ q = n.least q held (le_refl q) in
+    let same : q ≡ r = omega arith in
+    ap Some same ∙ sym at
+
+pub row_is : (text : Text) → IsText text → (tokens : List (List ℕ)) (t : List ℕ) (others : List (List ℕ)) (p q e : ℕ) → tokens ≡ t ∷ others → Some q ≡ next_place text.words t p → Some e ≡ row_end text.words others (q + 1) →
+    IsRowFrom text.words tokens p q e
+row_is text sound tokens t others p q e item at is =
+    let n = next_tells text t sound p q (sym at) in
+    record {
+      from = n.from;
+      ends = sym (is ∙ row_by_first text.words tokens t others p (Some q) item at);
+      again = sym (is ∙ row_by_first text.words tokens t others q (Some q) item (next_here text sound t q n.held (next_place text.words t q) refl));
+    }
 
 start_none : (words : List Word) (tokens : List (List ℕ)) → row_start words tokens None ≡ None
 start_none words [] = refl
@@ -91,6 +116,21 @@ module _ (text : Text) (tokens : List (List ℕ)) (sound : IsText text) (some : 
         | inl below ↦ before r ge below row
         | inr from ↦ let le : e ≤ r + length tokens = (end_tells text sound tokens s e (sym is)).least r from row in absurd (omega arith)
       ]
+
+  -- the row of these tokens that starts at the place of the first one, if they stand in a row
+  pub forward_row : (k s f e : ℕ) → k ≤ s → NoneBefore text tokens k s → IsRowFrom text.words tokens s f e → e - length tokens ≡ f →
+      Some (extent (e - length tokens) (e - 1)) ≡ first_start (concordance text (phrase tokens)) k
+  forward_row k s f e from before i here =
+      let ends : s ≤ f = i.from in
+      ap (λ n. Some (extent n (e - 1))) here
+      ∙ forward_found k f e (omega arith) (subst (NoneBefore text tokens k) here (forward_before k s e before (sym i.ends))) (sym i.again) here
+
+  -- else the walk goes on
+  pub forward_moves : (s f e : ℕ) → IsRowFrom text.words tokens s f e → (e - length tokens ≡ f → ⊥) → s < e - length tokens
+  forward_moves s f e i moved =
+      let from : s ≤ f = i.from in
+      let long : f + length tokens ≤ e = forward_long f e (sym i.again) in
+      omega arith
 
   pub forward_more : (s e : ℕ) → Some e ≡ row_end text.words tokens s → (e - length tokens ≡ s → ⊥) → fewest_passed text.words tokens s + 1 ≤ fewest_passed text.words tokens (e - length tokens)
   forward_more s e is moved =

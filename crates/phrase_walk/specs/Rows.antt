@@ -1,5 +1,5 @@
 -- Tokens at places in order, each behind the one before.
-use Rattle.std.specs.Prelude.{ℕ, zero, suc, ◌+◌, List, [], ◌∷◌, Option, Some, None}
+use Rattle.std.specs.Prelude.{◌≡◌, ◌≤◌, ℕ, zero, suc, ◌+◌, List, [], ◌∷◌, Option, Some, None}
 use Rattle.std.specs.Option.{option_and_then}
 use Rattle.gcl_model.specs.Texts.{Word, next_place, previous_place}
 
@@ -20,3 +20,10 @@ place_before words token (Some (suc p)) = previous_place words token p
 abbrev pub row_start : List Word → List (List ℕ) → Option ℕ → Option ℕ
 row_start words [] p = p
 row_start words (token ∷ tokens) p = place_before words token (row_start words tokens p)
+
+-- the tokens at their first places from p on, each behind the one before, with the place of the first one and the end: in
+-- "to be or not to be" for `be` and `to` from 1 on these are 1 and 5, and from 1 on and from 0 on it is the same end
+pub record IsRowFrom (words : List Word) (tokens : List (List ℕ)) (p first end : ℕ) : Type 0 where
+  pub from : p ≤ first
+  pub ends : row_end words tokens p ≡ Some end
+  pub again : row_end words tokens first ≡ Some end

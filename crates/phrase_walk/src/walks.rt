@@ -4,7 +4,7 @@ ghost use Rattle.gcl_model.specs.Forms.{phrase};
 ghost use Rattle.gcl_model.specs.Meaning.{concordance};
 ghost use Rattle.gcl_model.specs.Cost.{cost};
 
-use crate::rows::{row_end, row_start};
+use crate::rows::{row_from, row_start};
 use gcl_model::{Bytes, CountedLeaves, Interval};
 
 /// The first row of the tokens that starts at or after `k`.
@@ -23,10 +23,10 @@ pub(crate) fn first_from<C: CountedLeaves>(
     let next = source.span().next;
     let mut start = k;
     while start < next {
-        let end = row_end(tokens, source, start, counter)?;
-        let earliest = end - len;
-        if earliest == start {
-            return Some(Interval::new(start, end - 1));
+        let row = row_from(tokens, source, start, counter)?;
+        let earliest = row.end - len;
+        if earliest == row.first {
+            return Some(Interval::new(earliest, row.end - 1));
         }
         // No row starts before `earliest`: its last token would stand before that token's first place.
         start = earliest;

@@ -1,10 +1,10 @@
-ghost use Rattle.std.specs.Prelude.{◌≡◌, ◌*◌, ◌-◌, ◌<◌, ◌≤◌, length, slice_index, slice_get, take};
+ghost use Rattle.std.specs.Prelude.{◌≡◌, ◌*◌, ◌-◌, ◌<◌, ◌≤◌, length, slice_index, slice_get, take, IsTrue};
 ghost use Rattle.index_shard.specs.Searched.{nearest};
 ghost use Rattle.posting_code.specs.Postings.{ArePostings, block_of, blocks_of};
 ghost use Rattle.posting_access.specs.Search.{least_from, greatest_to};
-ghost use Rattle.term_fingers.specs.Lists.{list_of};
+ghost use Rattle.term_fingers.specs.Lists.{TellsNearest, list_of};
 
-use crate::members::{greatest_in, least_in};
+use crate::members::{greatest_in, least_in, reach_around};
 use crate::naming::Naming;
 use crate::near::border_near;
 use gcl_model::{Direction, Ledger, Steps};
@@ -64,7 +64,29 @@ impl<J: Naming> Finger<J> {
     }
 
     /// The least address at or after `k`.
+    #[inline]
     fn least<P: Ledger>(
+        &mut self,
+        list: &PostingList,
+        slot: usize,
+        place: usize,
+        k: u64,
+        probes: &mut Steps<P>,
+    ) -> Option<u64>
+        requires { list.now ≡ list_of J.version.slots slot place }
+        ensures { result ≡ least_from list.now k }
+    {
+        if self.spans(list, slot, place, k) {
+            let (found, at) = least_in(&self.members[..self.count], self.at, k, probes);
+            self.at = at;
+            return found;
+        }
+        self.least_far(list, slot, place, k, probes)
+    }
+
+    /// The same by the blocks' first addresses.
+    #[inline(never)]
+    fn least_far<P: Ledger>(
         &mut self,
         list: &PostingList,
         slot: usize,
@@ -109,7 +131,29 @@ impl<J: Naming> Finger<J> {
     }
 
     /// The greatest address at or before `k`.
+    #[inline]
     fn greatest<P: Ledger>(
+        &mut self,
+        list: &PostingList,
+        slot: usize,
+        place: usize,
+        k: u64,
+        probes: &mut Steps<P>,
+    ) -> Option<u64>
+        requires { list.now ≡ list_of J.version.slots slot place }
+        ensures { result ≡ greatest_to list.now k }
+    {
+        if self.spans(list, slot, place, k) {
+            let (found, behind) = greatest_in(&self.members[..self.count], self.at, k, probes);
+            self.at = behind;
+            return found;
+        }
+        self.greatest_far(list, slot, place, k, probes)
+    }
+
+    /// The same by the blocks' first addresses.
+    #[inline(never)]
+    fn greatest_far<P: Ledger>(
         &mut self,
         list: &PostingList,
         slot: usize,
@@ -129,6 +173,21 @@ impl<J: Naming> Finger<J> {
         let (found, behind) = greatest_in(&self.members[..self.count], self.at, k, probes);
         self.at = behind;
         found
+    }
+
+    /// Whether `k` lies between the ends of the members that were read last, and they are of this list: then they tell the answer, and
+    /// no block is looked for.
+    #[inline]
+    fn spans(&self, list: &PostingList, slot: usize, place: usize, k: u64) -> bool
+        requires { list.now ≡ list_of J.version.slots slot place }
+        ensures { IsTrue result → TellsNearest list.now (take self.now.count self.now.members) k }
+    {
+        // any call of the list tells that it rises
+        let _count = list.len();
+        if self.slot != slot || self.place != place {
+            return false;
+        }
+        reach_around(&self.members[..self.count], k)
     }
 
     /// Goes to a block, and says whether it stays packed: where it is another one than before, and that one was looked into once.

@@ -1,6 +1,6 @@
 use Rattle.std.proofs.Common.{◌∙◌, arith}
 use Rattle.posting_access.proofs.Searches.{least_found, least_not_found}
-use Rattle.term_fingers.proofs.finger.Finger.least.Goals as goal
+use Rattle.term_fingers.proofs.finger.Finger.least_far.Goals as goal
 
 pub returns-in-Some : goal.returns-in-Some
 returns-in-Some g c =
