@@ -11,7 +11,7 @@ cp "$here/crates/gclq/out/gclq" "$work/gclq"
 chmod 755 "$work/gclq"
 cd "$work"
 gclq=$work/gclq
-usage='usage: gclq [--first ADDRESS] [--readers NUMBER] [--made NUMBER --count NUMBER]'
+usage='usage: gclq [--first ADDRESS] [--readers NUMBER] [--made NUMBER --count NUMBER] < SCRIPT; see docs/SCRIPT.md'
 cases=0
 
 # what a command of no fault says: nothing

@@ -14,7 +14,7 @@ use std::process::ExitCode;
 
 /// The words that the program takes.
 pub const USAGE: &str =
-    "usage: gclq [--first ADDRESS] [--readers NUMBER] [--made NUMBER --count NUMBER]";
+    "usage: gclq [--first ADDRESS] [--readers NUMBER] [--made NUMBER --count NUMBER] < SCRIPT; see docs/SCRIPT.md";
 
 const OUT_OF_MEMORY: &str =
     "gclq: out of memory: add fewer or smaller files, or save an image and open it in another run";
