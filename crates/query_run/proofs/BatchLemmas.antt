@@ -4,6 +4,7 @@ use Rattle.std.specs.Prelude.{◌||◌, flat_map, if◌then◌else◌}
 use Rattle.std.specs.List.{list_any}
 use Rattle.std.proofs.lemmas.List.Folds.{list_any-append}
 use Rattle.std.proofs.lemmas.Grind.{flat_map-append}
+use Rattle.gcl_model.specs.Extents.{Extent}
 use Rattle.gcl_model.specs.Texts.{Text}
 use Rattle.gcl_model.specs.Forms.{Form}
 use Rattle.gcl_model.specs.Meaning.{concordance}
@@ -18,7 +19,7 @@ use Rattle.gcl_parser.specs.QueryForm.{query_form}
 use Rattle.gcl_parser.proofs.QueryForms.{query_forms_are_of_queries}
 use Rattle.script_lang.specs.Lines.{Line}
 use Rattle.script_lang.specs.Commands.{command_of}
-use Rattle.script_lang.specs.Answers.{is_refusal}
+use Rattle.script_lang.specs.Answers.{interval_line, is_refusal, total_line}
 use Rattle.script_lang.specs.declared.commands.Command.{Command}
 use Rattle.script_lang.specs.declared.commands.Command.TheVariants.{Blank, Add, Del, Find, Count, Top, Files, Merge, Shards, Save, Load, Wrong}
 use Rattle.script_lang.specs.declared.refusals.Refusal.TheVariants.{LongLine, Query}
@@ -28,10 +29,11 @@ use Rattle.query_lanes.specs.declared.asks.Found.{Found}
 use Rattle.query_lanes.specs.Answers.{answer_in, found_in}
 use Rattle.query_lanes.specs.Merges.{IsMergedWhere}
 use Rattle.query_run.specs.States.{State, Keeps}
-use Rattle.query_run.specs.Answers.{Reply, text_of_lines, found_lines, query_lines, lines_by, unchanged, refusal_lines, reply, answer, answers, after_reply, state_after, with_later, AllAnswered, AreRead, names_asked, names_kept, names_of, names_of_line, names_kept_of, names_kept_of_line}
+use Rattle.query_run.specs.Answers.{Reply, text_of_lines, found_lines, list_lines, query_lines, lines_by, unchanged, refusal_lines, reply, answer, answers, after_reply, state_after, with_later, AllAnswered, AreRead, names_asked, names_kept, names_of, names_of_line, names_kept_of, names_kept_of_line}
 use Rattle.query_run.specs.Batches.{ask_lines, asks_query, IsAskOf, IsAskedBy, AsksLine, AreAsked, Begins, BeginWithNone}
 use Rattle.query_run.specs.Progress.{Says, wish}
 use Rattle.query_run.specs.declared.limits.Limits.{Limits}
+use Rattle.query_run.proofs.Replies.{list_plain, one_more}
 
 -- the lines of a query that is not refused are those of the one form that it stands for
 pub lines_of_form : (asked : Asked) (query : List ℕ) (form : Form) (text : Text) → refused query ≡ None → IsQueryWithin query form
@@ -54,6 +56,15 @@ pub asked_now : (engine : EngineContent) (state : State) (asked : Asked) (query 
 asked_now engine state asked query ask found old new refusal keeps is_ask is said =
     subst (λ lines. Says lines old new refusal)
     (ap found_lines is ∙ ap (λ (text : Text). ask_lines text ask) (has_text engine.version state.collection keeps.stands) ∙ is_ask.lines_are (text_of state.collection)) said
+
+-- the lines of a list that was found: one for each member, and then their number
+pub list_said : (list slice : List Extent) (total : ℕ) (old mid new : List ℕ) → slice ≡ list → total ≡ length list → mid ≡ old ++ text_of_lines (map interval_line slice)
+    → new ≡ mid ++ total_line total ++ 10 ∷ [] → Says (list_lines list) old new false
+list_said list slice total old mid new same count first last = record {
+  text = one_more (map interval_line list) (total_line (length list)) old mid new (first ∙ ap (λ l. old ++ text_of_lines (map interval_line l)) same)
+      (last ∙ ap (λ n. mid ++ total_line n ++ 10 ∷ []) count);
+  refusal_is = sym (list_plain list);
+}
 
 -- a batch of no line
 pub begins_none : (all : List Line) → Begins [] all all

@@ -4,8 +4,8 @@ use Rattle.query_run.specs.Batches.{Begins}
 use Rattle.query_run.proofs.batches.take_batch.Given as goal
 
 -- the queries so far are a batch, and the rest begins at the place
-abbrev pub invariant-loop : goal.invariant-loop
-invariant-loop l = record {
+abbrev pub invariant-loop-alloc : goal.invariant-loop-alloc
+invariant-loop-alloc l = record {
   from : l.at ≤ l.after;
   within : l.after ≤ length l.script;
   few : length l.asks.items ≤ l.most;
@@ -13,5 +13,5 @@ invariant-loop l = record {
   begins : Begins l.asks.items (lines l.line_most (drop l.at l.script)) (lines l.line_most (drop l.after l.script));
 }
 
-abbrev pub decreases-loop : goal.decreases-loop
-decreases-loop l = length l.script - l.after
+abbrev pub decreases-loop-alloc : goal.decreases-loop-alloc
+decreases-loop-alloc l = length l.script - l.after
