@@ -1,9 +1,9 @@
 -- The steps of the walks, token by token and turn by turn.
-use Rattle.std.proofs.Common.{◌≡◌, ℕ, suc, ◌+◌, ◌-◌, ◌*◌, ◌<◌, ◌≤◌, List, [], ◌∷◌, ◌++◌, length, drop, get_or, Option, Some, None, inl, inr, refl, sym, ap, ◌∙◌, subst, arith, le_refl}
+use Rattle.std.proofs.Common.{◌≡◌, ℕ, suc, ◌+◌, ◌-◌, ◌<◌, ◌≤◌, List, [], ◌∷◌, ◌++◌, length, drop, get_or, Option, Some, None, inl, inr, refl, sym, ap, ◌∙◌, subst, arith, le_refl}
 use Rattle.std.specs.Option.{option_and_then}
 use Rattle.std.proofs.lemmas.Bool.{cases_lt}
 use Rattle.std.proofs.lemmas.List.{drop_more}
-use Rattle.gcl_model.specs.Extents.{Extent, extent}
+use Rattle.gcl_model.specs.Extents.{extent}
 use Rattle.gcl_model.specs.Access.{first_start, last_start}
 use Rattle.gcl_model.specs.Texts.{Text, Word, IsText, next_place, previous_place}
 use Rattle.gcl_model.specs.Forms.{phrase}
