@@ -1,9 +1,9 @@
 -- The first and the last member of a rising list that pass a test.
-use Rattle.std.proofs.Common.{◌≡◌, ℕ, ◌<◌, ◌≤◌, Bool, true, false, cond, List, [], ◌∷◌, Option, Some, None, inl, inr, refl, sym, ap, ◌∙◌, subst, arith, find}
+use Rattle.std.proofs.Common.{◌≡◌, ◌<◌, ◌≤◌, Bool, true, false, List, [], ◌∷◌, Some, None, inl, inr, refl, sym, ap, ◌∙◌, subst, arith, find}
 use Rattle.std.specs.List.{AllByRecursion}
 use Rattle.std.proofs.lemmas.Bool.{true≢false, cases_Bool}
 use Rattle.gcl_model.specs.Extents.{Extent, IsAhead, IsRising}
-use Rattle.gcl_model.specs.Access.{later_or, find_last}
+use Rattle.gcl_model.specs.Access.{find_last}
 use Rattle.gcl_model.proofs.Covers.{Has, of_each}
 
 -- where no member passes, none is found

@@ -1,15 +1,15 @@
 -- The members of a phrase's list are its rows, and its accesses find the nearest row.
-use Rattle.std.proofs.Common.{◌≡◌, ℕ, ◌+◌, ◌-◌, ◌<◌, ◌≤◌, Bool, true, leb, eqb, List, [], ◌∷◌, length, Option, Some, None, refl, sym, ap, ◌∙◌, arith}
+use Rattle.std.proofs.Common.{◌≡◌, ℕ, ◌+◌, ◌-◌, ◌<◌, ◌≤◌, leb, eqb, List, [], ◌∷◌, length, Option, Some, None, ap, ◌∙◌, arith}
 use Rattle.std.proofs.lemmas.Bool.{and_parts, and_from, leb-true, le-leb, eqb-true, eq-eqb}
 use Rattle.gcl_model.specs.Extents.{Extent, extent, all_extents}
 use Rattle.gcl_model.specs.Access.{first_start, first_end, last_end, last_start}
-use Rattle.gcl_model.specs.Texts.{Text, IsText, holds}
+use Rattle.gcl_model.specs.Texts.{Text, IsText}
 use Rattle.gcl_model.specs.Forms.{phrase}
 use Rattle.gcl_model.specs.Meaning.{concordance, denotes, holds_in_row}
 use Rattle.gcl_model.proofs.Covers.{Has, find_agree_on, find_last_agree_on}
 use Rattle.gcl_model.proofs.Minimal.{filter_has, has_filter, has_extent, same_truth}
 use Rattle.gcl_model.proofs.Meanings.{concordance_rises}
-use Rattle.phrase_walk.proofs.Places.{Held, held_within}
+use Rattle.phrase_walk.proofs.Places.{held_within}
 use Rattle.phrase_walk.proofs.Near.{InRow, row_parts}
 use Rattle.phrase_walk.proofs.Finds.{none_first, none_last, one_first, one_last}
 

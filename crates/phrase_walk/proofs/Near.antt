@@ -1,8 +1,8 @@
 -- What the nearest places of tokens in order tell of the rows that they may form.
-use Rattle.std.proofs.Common.{◌≡◌, ℕ, zero, suc, ◌+◌, ◌<◌, ◌≤◌, Bool, true, List, [], ◌∷◌, length, Option, Some, None, refl, ap, subst, arith, le_refl}
+use Rattle.std.proofs.Common.{◌≡◌, ℕ, zero, suc, ◌+◌, ◌≤◌, true, List, [], ◌∷◌, length, Option, Some, None, refl, subst, arith, le_refl}
 use Rattle.std.specs.Option.{option_and_then}
 use Rattle.std.proofs.lemmas.Bool.{and_parts, and_from}
-use Rattle.gcl_model.specs.Texts.{Text, IsText, holds, next_place, previous_place}
+use Rattle.gcl_model.specs.Texts.{Text, IsText, holds, next_place}
 use Rattle.gcl_model.specs.Meaning.{holds_in_row}
 use Rattle.phrase_walk.specs.Rows.{row_end, row_start, place_before}
 use Rattle.phrase_walk.proofs.Places.{Held, IsHeldIn, held_wider, next_tells, none_next, previous_tells, none_previous}

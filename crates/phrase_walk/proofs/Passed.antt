@@ -1,5 +1,5 @@
 -- How many places of the tokens a walk has passed.
-use Rattle.std.proofs.Common.{◌≡◌, ℕ, ◌+◌, ◌*◌, ◌<◌, ◌≤◌, Bool, true, false, cond, ◌&&◌, ltb, eqb, List, [], ◌∷◌, length, min, inl, inr, sym, ap, arith, bytes_eq, le_refl}
+use Rattle.std.proofs.Common.{◌≡◌, ℕ, ◌+◌, ◌*◌, ◌<◌, ◌≤◌, Bool, true, false, cond, ◌&&◌, ltb, eqb, List, [], ◌∷◌, length, min, inl, inr, sym, arith, bytes_eq, le_refl}
 use Rattle.std.proofs.lemmas.Bool.{true≢false, or_cases, and_parts, cases_Bool, cases_lt, ltb-true, lt-ltb, le-ltb, eqb-true}
 use Rattle.gcl_model.proofs.Lists.{one_at_most}
 use Rattle.gcl_model.specs.Texts.{Text, Word, is_word, holds, places}

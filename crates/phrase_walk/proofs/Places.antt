@@ -1,7 +1,7 @@
 -- What the look-ups of a token tell of the places that hold it.
-use Rattle.std.proofs.Common.{◌≡◌, ℕ, ◌+◌, ◌<◌, ◌≤◌, Bool, true, false, leb, eqb, List, [], ◌∷◌, Option, Some, None, inl, inr, refl, sym, ap, ◌∙◌, subst, arith, bytes_eq, le_refl}
+use Rattle.std.proofs.Common.{◌≡◌, ℕ, ◌+◌, ◌<◌, ◌≤◌, true, eqb, List, [], ◌∷◌, Some, None, inl, inr, refl, sym, ap, ◌∙◌, subst, arith, bytes_eq, le_refl}
 use Rattle.std.proofs.lemmas.Bool.{true≢false, or_cases, and_parts, and_from, leb-true, le-leb, eqb-true, eq-eqb}
-use Rattle.gcl_model.specs.Extents.{Extent, extent, covers, all_extents}
+use Rattle.gcl_model.specs.Extents.{extent, covers, all_extents}
 use Rattle.gcl_model.specs.Texts.{Text, Word, is_word, holds, next_place, previous_place, AreRisingBelow, IsText}
 use Rattle.gcl_model.specs.Forms.{term}
 use Rattle.gcl_model.specs.Meaning.{concordance, denotes}

@@ -1,5 +1,5 @@
 -- The sums of look-ups: m tokens of at most `most` look-ups each, for each of the places passed.
-use Rattle.std.proofs.Common.{◌≡◌, ℕ, ◌+◌, ◌*◌, ◌≤◌, arith}
+use Rattle.std.proofs.Common.{ℕ, ◌+◌, ◌*◌, ◌≤◌, arith}
 use Rattle.std.proofs.Math.Nat.{mul-le-mul_right}
 
 -- one turn more for at least one place more

@@ -1,5 +1,5 @@
 -- The nearest places of tokens in order, computed.
-use Rattle.std.proofs.Common.{◌≡◌, ℕ, List, [], ◌∷◌, Some, None, codes, refl}
+use Rattle.std.proofs.Common.{◌≡◌, List, [], ◌∷◌, Some, None, codes, refl}
 use Rattle.gcl_model.specs.Texts.{Word}
 use Rattle.gcl_model.specs.Collections.{words_from}
 use Rattle.phrase_walk.specs.Rows.{row_end, row_start}

@@ -1,4 +1,4 @@
-use Rattle.std.proofs.Common.{◌≡◌, ◌+◌, ◌-◌, ◌<◌, ◌≤◌, length, sym, arith}
+use Rattle.std.proofs.Common.{◌≡◌, ◌+◌, ◌-◌, ◌≤◌, length, sym, arith}
 use Rattle.phrase_walk.proofs.Members.{last_end_found, no_last_end}
 use Rattle.phrase_walk.proofs.counted.counted_last_end.Goals as goal
 

@@ -1,4 +1,4 @@
-use Rattle.std.proofs.Common.{◌≡◌, ◌+◌, ◌*◌, ◌≤◌, Some, drop, length, subst, arith}
+use Rattle.std.proofs.Common.{◌+◌, ◌*◌, ◌≤◌, Some, drop, length, subst, arith}
 use Rattle.gcl_model.specs.Limits.{address_end}
 use Rattle.gcl_model.proofs.Lists.{drop_here}
 use Rattle.phrase_walk.specs.Rows.{row_end}

@@ -1,4 +1,4 @@
-use Rattle.std.proofs.Common.{◌≡◌, ◌+◌, ◌-◌, ◌*◌, ◌<◌, ◌≤◌, Some, length, ap, ◌∙◌, arith}
+use Rattle.std.proofs.Common.{◌≡◌, ◌<◌, ◌≤◌, Some, length, ap, ◌∙◌, arith}
 use Rattle.gcl_model.specs.Cost.{fewest_places}
 use Rattle.phrase_walk.proofs.Steps.{backward_none, backward_short, backward_init, backward_long, backward_found, backward_behind, backward_more}
 use Rattle.phrase_walk.proofs.Passed.{fewest_passed, fewest_most}

@@ -1,6 +1,5 @@
-use Rattle.std.proofs.Common.{◌≡◌, ℕ, suc, ◌+◌, ◌-◌, ◌<◌, ◌≤◌, Some, length, get_or, subst, refl, arith}
+use Rattle.std.proofs.Common.{◌≡◌, suc, ◌-◌, ◌<◌, Some, length, get_or, subst, refl, arith}
 use Rattle.posting_access.specs.Search.{least_from}
-use Rattle.term_fingers.specs.Lists.{one_below}
 use Rattle.term_fingers.proofs.Nearest.{found_soon}
 use Rattle.term_fingers.proofs.members.soon.Goals as goal
 
