@@ -16,11 +16,21 @@ use std::{fs, rt};
 /// How many bytes are read at a time.
 const PIECE: usize = 65_536;
 
+/// A call of the files.
+#[derive(Clone, Copy, Debug, PartialEq, Eq)]
+pub enum FileCall {
+    /// A file is read.
+    Load,
+    /// A file is saved.
+    Keep,
+}
+
 /// The file system. A name is a path, from where the program runs.
 #[derive(Drop)]
 pub struct StdFiles<'a, R> {
     rt: &'a R,
     faults: u64,
+    call: Option<FileCall>,
     last: Option<Bytes>,
 }
 
@@ -32,6 +42,7 @@ impl<'a, R: rt::Files + AllocGlobal> StdFiles<'a, R> {
         StdFiles {
             rt,
             faults: 0,
+            call: None,
             last: None,
         }
     }
@@ -44,12 +55,18 @@ impl<'a, R: rt::Files + AllocGlobal> StdFiles<'a, R> {
         }
     }
 
-    // Counts a fault, and keeps the name.
-    fn fault(&mut self, name: &[u8])
+    /// The call that failed last, for a message; None where none did.
+    pub fn last_call(&self) -> Option<FileCall> {
+        self.call
+    }
+
+    // Counts a fault, and keeps the call and the name.
+    fn fault(&mut self, call: FileCall, name: &[u8])
         ensures later { self.old.faults ≤ self.new.faults }
         ensures rose { Rose self.old.faults self.new.faults }
     {
         self.faults = self.faults.saturating_add(1);
+        self.call = Some(call);
         self.last = Bytes::copy_of(self.rt.alloc(), name).ok();
     }
 }
@@ -124,18 +141,18 @@ impl<'a, R: rt::Files + AllocGlobal> Files for StdFiles<'a, R> {
     fn load(&mut self, name: &[u8], most: u64, out: &mut Vec<u8>) -> Result<Loaded, FileError> {
         out.clear();
         let Ok(path) = str::from_utf8(name) else {
-            self.fault(name);
+            self.fault(FileCall::Load, name);
             return Err(FileError::Failed);
         };
         let Ok(mut file) = fs::open(self.rt, path) else {
-            self.fault(name);
+            self.fault(FileCall::Load, name);
             return Err(FileError::Failed);
         };
         match read_up_to(&mut file, most, out) {
             Ok(loaded) => Ok(loaded),
             Err(FileError::NoMemory) => Err(FileError::NoMemory),
             Err(FileError::Failed) => {
-                self.fault(name);
+                self.fault(FileCall::Load, name);
                 Err(FileError::Failed)
             }
         }
@@ -143,14 +160,14 @@ impl<'a, R: rt::Files + AllocGlobal> Files for StdFiles<'a, R> {
 
     fn keep(&mut self, name: &[u8], bytes: &[u8]) -> Result<(), FileError> {
         let Ok(path) = str::from_utf8(name) else {
-            self.fault(name);
+            self.fault(FileCall::Keep, name);
             return Err(FileError::Failed);
         };
         match replace(self.rt, path, bytes) {
             Ok(()) => Ok(()),
             Err(FileError::NoMemory) => Err(FileError::NoMemory),
             Err(FileError::Failed) => {
-                self.fault(name);
+                self.fault(FileCall::Keep, name);
                 Err(FileError::Failed)
             }
         }

@@ -14,7 +14,7 @@ mod files;
 mod sink;
 mod source;
 
-pub use files::StdFiles;
+pub use files::{FileCall, StdFiles};
 pub use sink::StdSink;
 pub use source::StdSource;
 

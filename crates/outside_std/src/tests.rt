@@ -1,5 +1,5 @@
 use crate::fake::{LackingDisk, Lacks, Tells, TellsWriter};
-use crate::{StdFiles, StdSink, StdSource};
+use crate::{FileCall, StdFiles, StdSink, StdSource};
 use outside::{FileError, Files, Loaded, Sink, Source, WriteError};
 use std::io::ErrorKind;
 use std::path::PathBuf;
@@ -27,6 +27,7 @@ fn what_a_sink_took_a_source_hands_out_and_files_load(rt: HostRuntime) -> io::Re
     assert_eq!(rt; out.as_slice(), b"to be".as_slice());
     assert_eq!(rt; files.load(b"\xff", 4, &mut out), Err(FileError::Failed));
     assert_eq!(rt; files.last_fault(), b"\xff".as_slice());
+    assert_eq!(rt; files.last_call(), Some(FileCall::Load));
     // a file that was opened for reading takes nothing
     let mut shut = StdSink::new(fs::open(&rt, &place)?);
     assert_eq!(rt; shut.write(b"to be"), Err(WriteError::Failed));
@@ -109,6 +110,7 @@ fn what_is_kept_is_loaded_and_nothing_else_changes(rt: HostRuntime) -> io::Resul
     ] {
         assert_eq!(rt; files.keep(name, b"to be"), Err(FileError::Failed));
         assert_eq!(rt; files.last_fault(), name);
+        assert_eq!(rt; files.last_call(), Some(FileCall::Keep));
     }
     assert_eq!(rt; file_count(&rt, &place)?, 2);
     fs::remove_dir_all(&rt, &place)

@@ -1,5 +1,5 @@
 -- Answers to lists of lines that are put together, and how far a script has come.
-use Rattle.std.proofs.Common.{◌≡◌, ℕ, ◌+◌, ◌-◌, ◌≤◌, inl, inr, Bool, true, false, nat_lt, List, [], ◌∷◌, ◌++◌, length, take, drop, zero, suc, refl, sym, ap, ◌∙◌, append_assoc, append-nil, Option, Some, None, IsSome, IfSome, IsSomeAnd, length-append, subst, arith, take-add, take_all}
+use Rattle.std.proofs.Common.{◌≡◌, ℕ, ◌+◌, ◌-◌, ◌≤◌, ◌<◌, inl, inr, Bool, true, false, nat_lt, List, [], ◌∷◌, ◌++◌, length, take, drop, zero, suc, refl, sym, ap, ◌∙◌, append_assoc, append-nil, Option, Some, None, IsSome, IfSome, IsSomeAnd, length-append, subst, arith, take-add, take_all}
 use Rattle.std.proofs.lemmas.List.{take-take, take-append-drop, length-drop, drop-drop}
 use Rattle.std.specs.Prelude.{◌||◌, Err, if◌then◌else◌}
 use Rattle.std.specs.Option.{option_map}
@@ -423,3 +423,10 @@ all_read (Some all) (Some rest) script bytes from end is =
     let whole : all ≡ bytes ++ rest = from in
     let same : all ≡ script = cc is in
     sym (append-nil bytes) ∙ ap (λ l. bytes ++ l) (sym end) ∙ sym whole ∙ same
+
+-- what was read to its end is the script, which is no longer
+pub not_longer : (most : ℕ) (old new : Option (List ℕ)) (bytes : List ℕ) → Consumes old new bytes → IsAtEnd new → length bytes ≤ most → IsSomeAnd old (λ script. most < length script) → ⊥
+not_longer most None new bytes from end short longer = longer
+not_longer most (Some script) new bytes from end short longer =
+    let same : length bytes ≡ length script = ap length (all_read (Some script) new script bytes from end refl) in
+    omega (arith, same, short, longer)

@@ -1,13 +1,17 @@
 -- Where it is known what the source has left and what the files hold, and of what the lines open it is said rightly what it is an image of.
-use Rattle.std.proofs.Common.{◌≡◌, ℕ, ◌+◌, ◌≤◌, inl, Bool, List, [], length, take, refl, sym, subst, Option, Some, None, IfSome, arith}
+use Rattle.std.proofs.Common.{◌≡◌, ℕ, ◌+◌, ◌≤◌, inl, Bool, List, [], length, take, refl, sym, subst, Option, Some, None, IsSome, IfSome, arith}
 use Rattle.std.specs.Io.KnownBytes.{Consumes, IsAtEnd}
 use Rattle.outside.specs.Contents.{Contents}
 use Rattle.collection.specs.Engines.{EngineContent}
-use Rattle.script_lang.specs.Lines.{lines}
+use Rattle.live_version.specs.Contents.{VersionContent}
+use Rattle.script_lang.specs.Lines.{Line, lines}
 use Rattle.query_run.specs.Images.{Images}
 use Rattle.query_run.specs.States.{State, opening, IsFresh}
-use Rattle.query_run.specs.Answers.{answers, text_of_lines, output_by, AreRead}
-use Rattle.query_run.specs.Runs.{WhereTold, WhereMade, WhereMadeBy, GetsPart, HasAnswered, IsAnsweredBy, IsStopped, made_opening, made_summary}
+use Rattle.query_run.specs.Answers.{answers, text_of_lines, output_by, AreRead, names_kept_of}
+use Rattle.query_run.specs.Runs.{WhereTold, WhereMade, WhereMadeBy, GetsPart, HasAnswered, HasStopped, IsAnsweredBy, IsStopped, made_opening, made_summary}
+use Rattle.query_run.specs.Statuses.{IsFinished, IsMadeEnd}
+use Rattle.query_run.specs.declared.status.Status.{Status}
+use Rattle.query_run.specs.declared.status.Status.TheVariants.{Done, DoneWithRefusals, Usage, ReadFault, WriteFault, FileFault, NoMemory, ScriptTooLong}
 use Rattle.query_run.specs.declared.limits.Limits.{Limits}
 use Rattle.command_words.specs.declared.options.Made.{Made}
 use Rattle.command_words.specs.declared.options.Options.{Options}
@@ -65,6 +69,26 @@ pub nothing_of : (limits : Limits) (first : Option ℕ) (left : Option (List ℕ
 nothing_of limits None left held sink text = tt
 nothing_of limits (Some first) left held sink text = part_before limits first left held sink text
 
+-- no line is completed, nothing was written, and the files are as they were
+pub none_stopped : (limits : Limits) (first : Option ℕ) (left : Option (List ℕ)) (held : Option Contents) (sink : Option (List ℕ)) (unsure : List Line → List (List ℕ)) →
+    WhereTold limits first left held (λ start script. HasStopped limits start (lines limits.line script) unsure held sink sink)
+none_stopped limits None left held sink unsure = tt
+none_stopped limits (Some first) left held sink unsure = told limits first left held (λ start script. HasStopped limits start (lines limits.line script) unsure held sink sink) (λ script contents images is_left is_held.
+    record {
+      completed = 0;
+      within = omega arith;
+      part = record { part = []; rest = text_of_lines (answers limits (opening first contents images) (take 1 (lines limits.line script))); whole = refl; written = Appends-none sink };
+      files = record { contents = contents; is = is_held; same = λ name. inl refl };
+    })
+
+-- a stop after so many lines is one after some
+pub some_stopped : (limits : Limits) (first : ℕ) (left : Option (List ℕ)) (held held' : Option Contents) (old new : Option (List ℕ)) (completed : ℕ) (version : VersionContent) →
+    WhereTold limits (Some first) left held (λ start script. IsStopped limits start (lines limits.line script) completed version held' old new) →
+    WhereTold limits (Some first) left held (λ start script. HasStopped limits start (lines limits.line script) names_kept_of held' old new)
+some_stopped limits first left held held' old new completed version = told_as limits first left held
+    (λ start script. IsStopped limits start (lines limits.line script) completed version held' old new) (λ start script. HasStopped limits start (lines limits.line script) names_kept_of held' old new)
+    (λ start script stop. record { completed = completed; within = stop.within; part = stop.part; files = stop.files })
+
 -- a stop within a script is a part of its output
 pub part_stopped : (limits : Limits) (start : State) (script : List ℕ) (completed : ℕ) (engine : EngineContent) (held : Option Contents) (old new : Option (List ℕ)) →
     IsStopped limits start (lines limits.line script) completed engine.version held old new → GetsPart old new (output_by limits start script)
@@ -94,3 +118,19 @@ nothing_of_made (Some options) sink = made_before options.first options.made sin
 pub kept_at : {X : Type 0} (left : Option (List ℕ)) (P : List ℕ → Type 0) (x : X) → IfSome left (λ script. P script → x ≡ x)
 kept_at None P x = tt
 kept_at (Some script) P x = λ p. refl
+
+-- a made run whose sink did not fail answered all, or wanted memory
+pub made_finishes : (s : Status) (Failed : Type 0) → IsMadeEnd s → (s ≡ WriteFault → Failed) → (Failed → ⊥) → IsFinished s
+made_finishes Done Failed is cause calm = tt
+made_finishes DoneWithRefusals Failed is cause calm = tt
+made_finishes NoMemory Failed is cause calm = tt
+made_finishes WriteFault Failed is cause calm = absurd (calm (cause refl))
+made_finishes Usage Failed is cause calm = absurd is
+made_finishes ReadFault Failed is cause calm = absurd is
+made_finishes FileFault Failed is cause calm = absurd is
+made_finishes ScriptTooLong Failed is cause calm = absurd is
+
+-- whatever the words ask for
+pub made_at : (options : Option Options) (Calm : Type 0) (s : Status) → (Calm → IsFinished s) → IfSome options (λ (o : Options). IsSome o.made → Calm → IsFinished s)
+made_at None Calm s h = tt
+made_at (Some options) Calm s h = λ made calm. h calm

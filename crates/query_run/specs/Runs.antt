@@ -67,6 +67,18 @@ pub record IsStopped (limits : Limits) (start : State) (script : List Line) (com
   pub part : GetsPart old new (text_of_lines (answers limits start (take (completed + 1) script)))
   pub files : HoldsBut (names_kept_of (take 1 (drop completed script))) (state_after limits start (take completed script)).files held
 
+-- none of the names that lines save
+abbrev pub no_names : List Line → List (List ℕ)
+no_names next = []
+
+-- Some lines are completed: the sink got the beginning of the answers to them and the line after them, and the files hold what they leave,
+-- but for these names of the line after them
+pub record HasStopped (limits : Limits) (start : State) (script : List Line) (unsure : List Line → List (List ℕ)) (held : Option Contents) (old new : Option (List ℕ)) : Type 0 where
+  pub completed : ℕ
+  pub within : completed ≤ length script
+  pub part : GetsPart old new (text_of_lines (answers limits start (take (completed + 1) script)))
+  pub files : HoldsBut (unsure (take 1 (drop completed script))) (state_after limits start (take completed script)).files held
+
 -- the source handed over one byte more than so many, and no byte after that
 pub record HandsOverMore (most : ℕ) (old new : Option (List ℕ)) : Type 0 where
   pub taken : List ℕ

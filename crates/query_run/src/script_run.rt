@@ -1,11 +1,11 @@
-ghost use Rattle.std.specs.Prelude.{◌≡◌, ◌≤◌, true, false, [], Some, IfSome, IsSomeAnd, length};
+ghost use Rattle.std.specs.Prelude.{◌≡◌, ◌≤◌, ◌<◌, true, false, [], Some, IfSome, IsSomeAnd, length};
 ghost use Rattle.outside.specs.Causes.{Rose};
 ghost use Rattle.gcl_model.specs.Limits.{address_end, most_line, most_script};
 ghost use Rattle.script_lang.specs.Lines.{lines};
-ghost use Rattle.query_run.specs.Statuses.{IsFinished, IsAllAnswered};
+ghost use Rattle.query_run.specs.Statuses.{IsFinished, IsCutOff, IsAllAnswered};
 ghost use Rattle.query_run.specs.States.{greatest_limits};
 ghost use Rattle.query_run.specs.Answers.{output, names_kept_of, names_of};
-ghost use Rattle.query_run.specs.Runs.{WhereTold, GetsPart, IsAnswered, HandsOverMore, within};
+ghost use Rattle.query_run.specs.Runs.{WhereTold, GetsPart, HasStopped, IsAnswered, HandsOverMore, within};
 
 use crate::limits::Limits;
 use crate::serving::serve;
@@ -36,7 +36,9 @@ pub fn run_script<R: Threads + Wait + Sync, F: Files, S: Source, K: Sink, G: Gat
     ensures done_with_refusals { result ≡ Status.DoneWithRefusals → WhereTold greatest_limits (Some first) (S.left source.old) (F.held files.old) (λ start script.
         IsAnswered start script true (S.left source.new) (F.held files.new) (K.written sink.old) (K.written sink.new)) }
 
-    // Whatever the status, the sink gets the beginning of the output.
+    // Whatever the status, some lines are completed, the sink gets the beginning of the output, and the files hold what these lines leave.
+    ensures stopped { WhereTold greatest_limits (Some first) (S.left source.old) (F.held files.old) (λ start script.
+        HasStopped greatest_limits start (lines most_line script) names_kept_of (F.held files.new) (K.written sink.old) (K.written sink.new)) }
     ensures part { WhereTold greatest_limits (Some first) (S.left source.old) (F.held files.old) (λ start script.
         GetsPart (K.written sink.old) (K.written sink.new) (output start script)) }
     ensures part_within { result ≡ Status.ScriptTooLong → WhereTold greatest_limits (Some first) (S.left source.old) (F.held files.old) (λ start script.
@@ -48,10 +50,14 @@ pub fn run_script<R: Threads + Wait + Sync, F: Files, S: Source, K: Sink, G: Gat
     ensures file_fault { result ≡ Status.FileFault → Rose (F.faults files.old) (F.faults files.new) }
     ensures too_long { result ≡ Status.ScriptTooLong → HandsOverMore most_script (S.left source.old) (S.left source.new) }
 
-    // Where no object failed and the script is within the limit, all is answered, or memory is wanted.
+    // Where no object failed and the script is within the limit, all is answered, or memory is wanted. Where it is longer that is said, or
+    // memory is wanted.
     ensures complete { ¬ Rose (S.faults source.old) (S.faults source.new) → ¬ Rose (K.faults sink.old) (K.faults sink.new) →
         ¬ Rose (F.faults files.old) (F.faults files.new) → IsSomeAnd (S.left source.old) (λ script. length script ≤ most_script) →
         IsFinished result }
+    ensures complete_long { ¬ Rose (S.faults source.old) (S.faults source.new) → ¬ Rose (K.faults sink.old) (K.faults sink.new) →
+        ¬ Rose (F.faults files.old) (F.faults files.new) → IsSomeAnd (S.left source.old) (λ script. most_script < length script) →
+        IsCutOff result }
 
     // Where all is answered no object failed.
     ensures source_calm { IsAllAnswered result → S.faults source.new ≡ S.faults source.old }

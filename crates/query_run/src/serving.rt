@@ -6,7 +6,7 @@ ghost use Rattle.outside.specs.Causes.{Rose};
 ghost use Rattle.outside.specs.Contents.{Contents};
 ghost use Rattle.script_lang.specs.Lines.{Line, lines};
 ghost use Rattle.query_run.specs.States.{State, opening, AreLimits, IsFresh};
-ghost use Rattle.query_run.specs.Statuses.{IsFinished, IsAllAnswered};
+ghost use Rattle.query_run.specs.Statuses.{IsFinished, IsCutOff, IsAllAnswered};
 ghost use Rattle.query_run.specs.Images.{Images};
 ghost use Rattle.query_run.specs.Answers.{answer, AreRead, IsRead, names_kept_of, names_kept_of_line, names_of_line, names_of, output_by};
 ghost use Rattle.query_run.specs.Progress.{IsAt, HasWritten, HoldsAfter, StopsWithin, HasCauses, answer_text, wish};
@@ -162,10 +162,14 @@ pub fn serve<R: Threads + Wait + Sync, F: Files, S: Source, K: Sink, G: Gate + S
     ensures file_fault { result ≡ Status.FileFault → Rose (F.faults files.old) (F.faults files.new) }
     ensures too_long { result ≡ Status.ScriptTooLong → HandsOverMore limits.now.script (S.left source.old) (S.left source.new) }
 
-    // Where no object failed and the script is within its limit, all is answered, or memory is wanted.
+    // Where no object failed and the script is within its limit, all is answered, or memory is wanted. Where it is longer that is said, or
+    // memory is wanted.
     ensures complete { ¬ Rose (S.faults source.old) (S.faults source.new) → ¬ Rose (K.faults sink.old) (K.faults sink.new) →
         ¬ Rose (F.faults files.old) (F.faults files.new) → IsSomeAnd (S.left source.old) (λ script. length script ≤ limits.now.script) →
         IsFinished result }
+    ensures complete_long { ¬ Rose (S.faults source.old) (S.faults source.new) → ¬ Rose (K.faults sink.old) (K.faults sink.new) →
+        ¬ Rose (F.faults files.old) (F.faults files.new) → IsSomeAnd (S.left source.old) (λ script. limits.now.script < length script) →
+        IsCutOff result }
 
     // Where all is answered no object failed.
     ensures source_calm { IsAllAnswered result → S.faults source.new ≡ S.faults source.old }

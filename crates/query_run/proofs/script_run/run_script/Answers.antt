@@ -1,10 +1,11 @@
 use Rattle.std.proofs.Common.{◌≡◌, ◌<◌, ◌≤◌, Some, refl, ap, ◌∙◌, arith}
 use Rattle.gcl_model.specs.Limits.{address_end}
 use Rattle.collection.specs.Engines.{EngineContent}
+use Rattle.script_lang.specs.Lines.{lines}
 use Rattle.query_run.specs.States.{greatest_limits}
-use Rattle.query_run.specs.Answers.{output_by}
-use Rattle.query_run.specs.Runs.{GetsPart, within}
-use Rattle.query_run.proofs.Told.{by_words}
+use Rattle.query_run.specs.Answers.{names_kept_of, output_by}
+use Rattle.query_run.specs.Runs.{GetsPart, HasStopped, within}
+use Rattle.query_run.proofs.Told.{by_words, none_stopped, some_stopped}
 use Rattle.query_run.proofs.script_run.run_script.Goals as goal
 
 pub unreachable-requires : goal.unreachable-requires
@@ -19,3 +20,18 @@ returns-clause-part_within g c = λ long.
     by_words (Some c.args.first) c.greatest-limits.result greatest_limits c.in-Ok.opened.engine.version.first (g.S.Source.left c.args.source.now) (g.F.Files.held c.args.files.now)
     (λ limits start script. GetsPart (g.K.Sink.written c.args.sink.now) (g.K.Sink.written c.serve-status.new.sink) (output_by limits start (within limits.script script)))
     first c.greatest-limits.ensures (c.serve-status.ensures.part_within long)
+
+pub returns-in-Err-NoMemory-clause-stopped : goal.returns-in-Err-NoMemory-clause-stopped
+returns-in-Err-NoMemory-clause-stopped g c = none_stopped greatest_limits (Some c.args.first) (g.S.Source.left c.args.source.now) (g.F.Files.held c.args.files.now) (g.K.Sink.written c.args.sink.now) names_kept_of
+
+pub returns-clause-stopped : goal.returns-clause-stopped
+returns-clause-stopped g c =
+    let first : Some c.in-Ok.opened.engine.version.first ≡ Some c.args.first = ap (λ (e : EngineContent). Some e.version.first) c.in-Ok.ensures.history in
+    let left = g.S.Source.left c.args.source.now in
+    let held = g.F.Files.held c.args.files.now in
+    let held' = g.F.Files.held c.serve-status.new.files in
+    let old = g.K.Sink.written c.args.sink.now in
+    let new = g.K.Sink.written c.serve-status.new.sink in
+    by_words (Some c.args.first) c.greatest-limits.result greatest_limits c.in-Ok.opened.engine.version.first left held
+    (λ limits start script. HasStopped limits start (lines limits.line script) names_kept_of held' old new) first c.greatest-limits.ensures
+    (some_stopped c.greatest-limits.result c.in-Ok.opened.engine.version.first left held held' old new c.serve-status.new.opened.lines c.serve-status.new.opened.engine.version c.serve-status.ensures.stopped)
