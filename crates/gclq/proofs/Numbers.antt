@@ -1,6 +1,7 @@
 -- A status is known by its number.
-use Rattle.std.proofs.Common.{◌≡◌, ℕ, eqb, cond, refl, sym, subst, ap, ◌∙◌, ◌⊎◌, inl, inr}
-use Rattle.query_run.specs.Statuses.{number_of, IsFinished}
+use Rattle.std.proofs.Common.{◌≡◌, ℕ, eqb, cond, refl, sym, subst, ap, ◌∙◌, ◌⊎◌, inl, inr, Option, Some, None, IsSome, IfSome}
+use Rattle.command_words.specs.declared.options.Options.{Options}
+use Rattle.query_run.specs.Statuses.{number_of, IsFinished, IsCutOff}
 use Rattle.query_run.specs.declared.status.Status.{Status}
 use Rattle.query_run.specs.declared.status.Status.TheVariants.{Done, DoneWithRefusals, Usage, ReadFault, WriteFault, FileFault, NoMemory, ScriptTooLong}
 use Rattle.query_run.specs.Statuses as S
@@ -47,3 +48,20 @@ answered_status s n p (inr one) = subst S.IsAllAnswered (sym (same_status s Done
 pub usage_number : (s : Status) (n : ℕ) → n ≡ number_of s → (s ≡ Usage) ⊎ (s ≡ NoMemory) → (n ≡ 2) ⊎ (n ≡ 6)
 usage_number s n p (inl usage) = inl (p ∙ ap number_of usage)
 usage_number s n p (inr none) = inr (p ∙ ap number_of none)
+
+-- the numbers of the statuses at which the script has too many bytes, or memory was wanted
+pub cut_off_number : (s : Status) (n : ℕ) → n ≡ number_of s → IsCutOff s → (n ≡ 7) ⊎ (n ≡ 6)
+cut_off_number ScriptTooLong n p is = inl p
+cut_off_number NoMemory n p is = inr p
+cut_off_number Done n p is = absurd is
+cut_off_number DoneWithRefusals n p is = absurd is
+cut_off_number Usage n p is = absurd is
+cut_off_number ReadFault n p is = absurd is
+cut_off_number WriteFault n p is = absurd is
+cut_off_number FileFault n p is = absurd is
+
+-- the same of a made run where its sink did not fail
+pub made_finished : (options : Option Options) (s : Status) (n : ℕ) (Calm : Type 0) → n ≡ number_of s →
+    IfSome options (λ (o : Options). IsSome o.made → Calm → IsFinished s) → IfSome options (λ (o : Options). IsSome o.made → Calm → IsEnd n)
+made_finished None s n Calm p h = tt
+made_finished (Some options) s n Calm p h = λ made calm. finished_number s n p (h made calm)

@@ -1,4 +1,4 @@
-ghost use Rattle.std.specs.Prelude.{◌≡◌, ◌≤◌, ◌⊎◌, [], false, true, None, IfSome, IsSome, IsSomeAnd, length};
+ghost use Rattle.std.specs.Prelude.{◌≡◌, ◌≤◌, ◌<◌, ◌⊎◌, [], false, true, None, IfSome, IsSome, IsSomeAnd, length};
 ghost use Rattle.std.specs.Process.{exit_status};
 ghost use Rattle.outside.specs.Causes.{Rose};
 ghost use Rattle.gcl_model.specs.Limits.{most_line, most_script};
@@ -7,7 +7,7 @@ ghost use Rattle.query_run.specs.Words.{first_of};
 ghost use Rattle.script_lang.specs.Lines.{lines};
 ghost use Rattle.query_run.specs.States.{greatest_limits};
 ghost use Rattle.query_run.specs.Answers.{names_of, names_kept_of, output};
-ghost use Rattle.query_run.specs.Runs.{WhereTold, WhereMadeBy, GetsPart, IsAnswered, IsSummed, HandsOverMore, made_summary, within};
+ghost use Rattle.query_run.specs.Runs.{WhereTold, WhereMadeBy, GetsPart, HasStopped, IsAnswered, IsSummed, HandsOverMore, made_summary, within};
 ghost use Rattle.gclq.specs.Exits.{IsEnd, IsAllAnswered};
 
 use crate::fault_name::FaultName;
@@ -40,7 +40,10 @@ pub fn answer<R: Threads + Wait + Sync + Eprint, F: FaultName, S: Source, K: Sin
     ensures done_with_refusals { exit_status result ≡ 1 → WhereTold greatest_limits (first_of words.now) (S.left source.old) (F.held files.old) (λ start script.
         IsAnswered start script true (S.left source.new) (F.held files.new) (K.written sink.old) (K.written sink.new)) }
 
-    // Whatever the status, the sink gets the beginning of the output.
+    // Whatever the status, some lines are completed, the sink gets the beginning of the output, and the files hold what these lines leave,
+    // but for the name that the next line saves.
+    ensures stopped { WhereTold greatest_limits (first_of words.now) (S.left source.old) (F.held files.old) (λ start script.
+        HasStopped greatest_limits start (lines most_line script) names_kept_of (F.held files.new) (K.written sink.old) (K.written sink.new)) }
     ensures part { WhereTold greatest_limits (first_of words.now) (S.left source.old) (F.held files.old) (λ start script.
         GetsPart (K.written sink.old) (K.written sink.new) (output start script)) }
     ensures part_within { exit_status result ≡ 7 → WhereTold greatest_limits (first_of words.now) (S.left source.old) (F.held files.old) (λ start script.
@@ -53,10 +56,13 @@ pub fn answer<R: Threads + Wait + Sync + Eprint, F: FaultName, S: Source, K: Sin
     ensures too_long { exit_status result ≡ 7 → HandsOverMore most_script (S.left source.old) (S.left source.new) }
 
     // Where the words are in the grammar, no object failed and the script is within the limit, all is answered, or
-    // memory is wanted.
+    // memory is wanted. Where it is longer that is said, or memory is wanted.
     ensures complete { IsSome (options_of words.now) → ¬ Rose (S.faults source.old) (S.faults source.new) → ¬ Rose (K.faults sink.old) (K.faults sink.new) →
         ¬ Rose (F.faults files.old) (F.faults files.new) → IsSomeAnd (S.left source.old) (λ script. length script ≤ most_script) →
         IsEnd (exit_status result) }
+    ensures complete_long { IsSome (first_of words.now) → ¬ Rose (S.faults source.old) (S.faults source.new) → ¬ Rose (K.faults sink.old) (K.faults sink.new) →
+        ¬ Rose (F.faults files.old) (F.faults files.new) → IsSomeAnd (S.left source.old) (λ script. most_script < length script) →
+        (exit_status result ≡ 7) ⊎ (exit_status result ≡ 6) }
 
     // Where all is answered no object failed.
     ensures source_calm { IsAllAnswered (exit_status result) → S.faults source.new ≡ S.faults source.old }
@@ -68,12 +74,14 @@ pub fn answer<R: Threads + Wait + Sync + Eprint, F: FaultName, S: Source, K: Sin
     ensures unsaved { IfSome (S.left source.old) (λ script. names_kept_of (lines most_line script) ≡ [] → F.held files.new ≡ F.held files.old) }
 
     // Over a made corpus the sink gets the summary of the output, or the beginning of the summary, and no other object is touched.
+    // Where it did not fail, all is answered, or memory is wanted.
     ensures summed { exit_status result ≡ 0 → WhereMadeBy (options_of words.now) (λ made start. IsSummed made start false (K.written sink.old) (K.written sink.new)) }
     ensures summed_with_refusals { exit_status result ≡ 1 → WhereMadeBy (options_of words.now) (λ made start. IsSummed made start true (K.written sink.old) (K.written sink.new)) }
     ensures part_summed { WhereMadeBy (options_of words.now) (λ made start. GetsPart (K.written sink.old) (K.written sink.new) (made_summary made start)) }
+    ensures complete_made { IfSome (options_of words.now) (λ options. IsSome options.made → ¬ Rose (K.faults sink.old) (K.faults sink.new) → IsEnd (exit_status result)) }
     ensures untouched_by_made { IfSome (options_of words.now) (λ options. IsSome options.made → (source.new ≡ source.old) × (files.new ≡ files.old)) }
 {
     let status = run(rt, alloc, words, files, source, sink, &FreeGate);
-    tell(rt, status, words, files.fault_name());
+    tell(rt, status, words, files);
     exit(status)
 }

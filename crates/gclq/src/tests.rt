@@ -4,6 +4,7 @@ use crate::tell::refuse;
 use crate::words::{WordFault, copied};
 use gcl_model::Bytes;
 use outside::{MemFiles, MemSink, MemSource};
+use outside_std::FileCall;
 use std::alloc::{AllocError, Global};
 use std::process::ExitCode;
 use std::test::Fail;
@@ -11,6 +12,10 @@ use std::test::Fail;
 impl FaultName for MemFiles {
     fn fault_name(&self) -> &[u8] {
         b"x"
+    }
+
+    fn fault_call(&self) -> Option<FileCall> {
+        Some(FileCall::Load)
     }
 }
 

@@ -35,6 +35,8 @@ pub use status::Status;
 pub use top::run;
 
 #[cfg(test)]
+mod fault_tests;
+#[cfg(test)]
 mod made_tests;
 #[cfg(test)]
 mod plain_tests;

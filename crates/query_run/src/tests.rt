@@ -26,7 +26,7 @@ const NAMES: [(&[u8], &[u8]); 6] = [
     ),
 ];
 
-fn held(alloc: Global) -> Result<Vec<(Bytes, Bytes)>, AllocError> {
+pub(crate) fn held(alloc: Global) -> Result<Vec<(Bytes, Bytes)>, AllocError> {
     let mut held = Vec::new(alloc);
     for (name, content) in NAMES {
         held.push((
@@ -119,7 +119,7 @@ fn failing_at<'a>(source: &'a [u64], sink: &'a [u64], files: &'a [u64]) -> Plan<
 }
 
 // The status of a run over these files, which it may change, and what was written.
-fn run_over<R: Threads + Wait + Sync + AllocGlobal>(
+pub(crate) fn run_over<R: Threads + Wait + Sync + AllocGlobal>(
     rt: &R,
     files: &mut MemFiles,
     script: &[u8],

@@ -1,7 +1,8 @@
 use Rattle.std.proofs.Common.{◌≡◌, ◌∙◌, ap, rules}
+use Rattle.command_words.specs.Grammar.{options_of}
 use Rattle.query_run.specs.Statuses.{number_of}
 use Rattle.query_run.specs.declared.status.Status.TheVariants.{Done, DoneWithRefusals, Usage, ReadFault, WriteFault, FileFault, ScriptTooLong}
-use Rattle.gclq.proofs.Numbers.{same_status, finished_number, answered_status, usage_number}
+use Rattle.gclq.proofs.Numbers.{same_status, finished_number, cut_off_number, made_finished, answered_status, usage_number}
 use Rattle.gclq.proofs.session.answer.Goals as goal
 
 pub returns-clause-usage_only : goal.returns-clause-usage_only
@@ -51,3 +52,9 @@ returns-clause-sink_calm g c is = c.run-status.ensures.sink_calm (answered_statu
 
 pub returns-clause-files_calm : goal.returns-clause-files_calm
 returns-clause-files_calm g c is = c.run-status.ensures.files_calm (answered_status c.run-status.result _ c.exit.ensures is)
+
+pub returns-clause-complete_long : goal.returns-clause-complete_long
+returns-clause-complete_long g c some source sink files longer = cut_off_number c.run-status.result _ c.exit.ensures (c.run-status.ensures.complete_long some source sink files longer)
+
+pub returns-clause-complete_made : goal.returns-clause-complete_made
+returns-clause-complete_made g c = made_finished (options_of c.args.words.now) c.run-status.result _ _ c.exit.ensures c.run-status.ensures.complete_made
