@@ -26,11 +26,11 @@ images content = None
 
 -- lines of at most 10 bytes, and files of at most 5
 abbrev small : Limits
-small = record { line = 10; file = 5; script = 1000; image = 200 }
+small = record { line = 10; file = 5; script = 1000; image = 200; batch = 64 }
 
 -- files of at most 4 bytes
 abbrev smaller : Limits
-smaller = record { line = 10; file = 4; script = 1000; image = 83 }
+smaller = record { line = 10; file = 4; script = 1000; image = 83; batch = 64 }
 
 abbrev start : State
 start = opening 0 held images
