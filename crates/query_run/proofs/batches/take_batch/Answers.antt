@@ -1,4 +1,4 @@
-use Rattle.std.proofs.Common.{◌≡◌, ℕ, ◌+◌, ◌<◌, ◌≤◌, List, [], ◌∷◌, length, drop, sym, ap, ◌∙◌, subst, arith, length-append, IfSome, Option}
+use Rattle.std.proofs.Common.{◌≡◌, ℕ, ◌+◌, ◌<◌, ◌≤◌, List, [], ◌∷◌, length, drop, sym, ap, ◌∙◌, subst, arith, rules, length-append, IfSome, Option}
 use Rattle.script_lang.specs.Lines.{Line, lines}
 use Rattle.query_lanes.specs.declared.asks.Ask.{Ask}
 use Rattle.query_run.specs.Batches.{Begins, IsNextAsk}
@@ -14,7 +14,7 @@ loop-alloc-preserved c =
     let next = c.in-Some.next in
     let is : IsNextAsk most script c.loop-alloc.after next = subst (λ (o : Option NextAsk). IfSome o (IsNextAsk most script c.loop-alloc.after)) c.in-Some.is c.in_ok-next.ensures.next in
     let more : length c.push.new.self.items ≡ length c.loop-alloc.asks.items + 1 = ap length c.in_ok-push.ensures.items ∙ length-append c.loop-alloc.asks.items (next.ask ∷ []) in
-    let room : length c.loop-alloc.asks.items < c.args.most = subst (λ (n : ℕ). n < c.args.most) c.len.ensures c.loop-alloc-test.true in
+    let room : length c.loop-alloc.asks.items < c.args.most = search rules in
     let further : c.loop-alloc.after < next.after = is.further in
     let from : c.args.at ≤ c.loop-alloc.after = so_far.from in
     let counted : c.args.at + length c.loop-alloc.asks.items ≤ c.loop-alloc.after = so_far.counted in
