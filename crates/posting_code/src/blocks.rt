@@ -131,6 +131,37 @@ impl Blocks {
         Blocks::of(alloc, self.count(), self.first(), heads)
     }
 
+    /// Blocks equal to the others, in the memory of these.
+    pub(crate) fn filled(self, alloc: Global, blocks: &Blocks) -> Result<Blocks, AllocError>
+        requires { length (heads_in blocks.now) ≡ (count_in blocks.now + 63) / 64 - 1 }
+        ensures { IfOk result (λ filled. AreBlocks filled (count_in blocks.now) (first_in blocks.now) (heads_in blocks.now)) }
+    {
+        match self {
+            Blocks::One { .. } => blocks.copy(alloc),
+            Blocks::Many(many) => {
+                let mut many = many;
+                many.heads.clear();
+                many.heads.extend_from_slice(blocks.heads())?;
+                many.count = blocks.count();
+                many.first = blocks.first();
+                Ok(Blocks::Many(many))
+            }
+        }
+    }
+
+    /// Takes all members away, and keeps the memory of the heads.
+    pub(crate) fn clear(&mut self)
+        ensures { AreBlocks self.new 0 (first_in self.old) [] }
+    {
+        match self {
+            Blocks::One { count, .. } => *count = 0,
+            Blocks::Many(many) => {
+                many.count = 0;
+                many.heads.clear();
+            }
+        }
+    }
+
     /// Gives back the memory that growing took and no head needs.
     pub(crate) fn fit(&mut self)
         ensures { AreBlocks self.new (count_in self.old) (first_in self.old) (heads_in self.old) }
