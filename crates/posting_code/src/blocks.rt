@@ -8,7 +8,6 @@ use std::alloc::{AllocError, Global};
 
 /// The number of members, the first of them, and where the blocks stand.
 // Most lists have one block. They keep no heads, and take no memory for them.
-#[derive(Drop)]
 pub(crate) enum Blocks {
     One { count: u8, first: u64 },
     Many(Box<ManyBlocks>),
@@ -21,6 +20,16 @@ pub(crate) struct ManyBlocks {
     first: u64,
     // of the blocks from the second on
     heads: Vec<Head>,
+}
+
+// Written out, so that whoever lets a list go makes one call and does not tell the two cases apart.
+impl Drop for Blocks {
+    fn drop(self) {
+        match self {
+            Blocks::One { count: _, first: _ } => (),
+            Blocks::Many(many) => drop(many),
+        }
+    }
 }
 
 impl Blocks {
