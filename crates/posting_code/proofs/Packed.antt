@@ -232,3 +232,7 @@ pub blocks_kept : (blocks : Blocks) (count first : ℕ) (packed : List ℕ) (hea
 blocks_kept blocks count first packed heads are k =
     subst (λ n. IsKept n (first_in blocks) packed (heads_in blocks)) (sym are.counted)
     (subst (λ f. IsKept count f packed (heads_in blocks)) (sym are.begun) (subst (IsKept count first packed) (sym are.marked) k))
+
+-- no members
+pub none_kept : (first : ℕ) → IsKept 0 first [] []
+none_kept first = record { rising = tt; counted = refl; differences = refl; marked = refl; blocks = λ b d lt. absurd (omega (arith, lt)) }

@@ -8,7 +8,6 @@ use std::alloc::{AllocError, Global};
 
 /// The number of members, the first of them, and where the blocks stand.
 // Most lists have one block. They keep no heads, and take no memory for them.
-#[derive(Drop)]
 pub(crate) enum Blocks {
     One { count: u8, first: u64 },
     Many(Box<ManyBlocks>),
@@ -21,6 +20,16 @@ pub(crate) struct ManyBlocks {
     first: u64,
     // of the blocks from the second on
     heads: Vec<Head>,
+}
+
+// Written out, so that whoever lets a list go makes one call and does not tell the two cases apart.
+impl Drop for Blocks {
+    fn drop(self) {
+        match self {
+            Blocks::One { count: _, first: _ } => (),
+            Blocks::Many(many) => drop(many),
+        }
+    }
 }
 
 impl Blocks {
@@ -129,6 +138,37 @@ impl Blocks {
     {
         let heads = Vec::from_slice(alloc, self.heads())?;
         Blocks::of(alloc, self.count(), self.first(), heads)
+    }
+
+    /// Blocks equal to the others, in the memory of these.
+    pub(crate) fn filled(self, alloc: Global, blocks: &Blocks) -> Result<Blocks, AllocError>
+        requires { length (heads_in blocks.now) ≡ (count_in blocks.now + 63) / 64 - 1 }
+        ensures { IfOk result (λ filled. AreBlocks filled (count_in blocks.now) (first_in blocks.now) (heads_in blocks.now)) }
+    {
+        match self {
+            Blocks::One { .. } => blocks.copy(alloc),
+            Blocks::Many(many) => {
+                let mut many = many;
+                many.heads.clear();
+                many.heads.extend_from_slice(blocks.heads())?;
+                many.count = blocks.count();
+                many.first = blocks.first();
+                Ok(Blocks::Many(many))
+            }
+        }
+    }
+
+    /// Takes all members away, and keeps the memory of the heads.
+    pub(crate) fn clear(&mut self)
+        ensures { AreBlocks self.new 0 (first_in self.old) [] }
+    {
+        match self {
+            Blocks::One { count, .. } => *count = 0,
+            Blocks::Many(many) => {
+                many.count = 0;
+                many.heads.clear();
+            }
+        }
     }
 
     /// Gives back the memory that growing took and no head needs.

@@ -91,6 +91,39 @@ impl PostingList {
         })
     }
 
+    /// An equal list, in the memory of this one.
+    pub(crate) fn filled(self, list: &PostingList) -> Result<PostingList, AllocError>
+        ensures { IfOk result (λ filled. filled ≡ list.now) }
+    {
+        let alloc = self.alloc();
+        let mut packed = self.packed;
+        packed.clear();
+        packed.extend_from_slice(&list.packed)?;
+        Ok(PostingList {
+            packed,
+            blocks: self.blocks.filled(alloc, &list.blocks)?,
+        })
+    }
+
+    /// Takes all members away, and keeps their memory.
+    pub(crate) fn clear(&mut self)
+        ensures { self.new ≡ [] }
+    {
+        self.packed.clear();
+        self.blocks.clear();
+    }
+
+    /// The last member, and 0 of none.
+    pub(crate) fn last(&self) -> u64
+        ensures { result ≡ last_of self.now }
+    {
+        let count = self.len();
+        if count == 0 {
+            return 0;
+        }
+        self.head(count - 1).first
+    }
+
     /// The members of both lists. The differences of the later one are copied as they are packed.
     pub(crate) fn joined(self, last: u64, list: &PostingList) -> Result<PostingList, AllocError>
         requires last { last ≡ last_of self }

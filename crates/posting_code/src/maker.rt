@@ -1,4 +1,4 @@
-ghost use Rattle.std.specs.Prelude.{◌≡◌, ◌<◌, ◌++◌, ◌∷◌, [], length, OnOk, OnErr, IfOk};
+ghost use Rattle.std.specs.Prelude.{◌≡◌, ◌<◌, ◌++◌, ◌∷◌, [], length, OnOk, OnErr, IfOk, IfSome};
 ghost use Rattle.posting_code.specs.Packed.{last_of};
 ghost use Rattle.posting_code.specs.Postings.{ArePostings};
 
@@ -11,18 +11,19 @@ use std::mem;
 #[derive(Drop)]
 pub struct PostingMaker {
     list: PostingList,
-    last: u64,
+    // where it is known: to find the last address of a list that was appended is to go through its last block
+    last: Option<u64>,
 }
 
 impl Model for PostingMaker {
-    ghost use Rattle.std.specs.Prelude.{◌≡◌, List, ℕ};
+    ghost use Rattle.std.specs.Prelude.{◌≡◌, List, ℕ, IfSome};
     ghost use Rattle.posting_code.specs.Packed.{last_of};
 
     ghost Value = { List ℕ };
 
     ghost view = { λ m. m.list };
 
-    ghost invariant = { λ m. m.last ≡ last_of m.list };
+    ghost invariant = { λ m. IfSome m.last (λ last. last ≡ last_of m.list) };
 }
 
 impl PostingMaker {
@@ -32,7 +33,7 @@ impl PostingMaker {
     {
         PostingMaker {
             list: PostingList::new(alloc),
-            last: 0,
+            last: None,
         }
     }
 
@@ -42,8 +43,9 @@ impl PostingMaker {
         ensures ok { OnOk result (self.new ≡ self.old ++ address ∷ []) }
         ensures err { OnErr result (self.new ≡ self.old) }
     {
-        self.list.push_behind(self.last, address)?;
-        self.last = address;
+        let last = last_from(self.last, &self.list);
+        self.list.push_behind(last, address)?;
+        self.last = Some(address);
         Ok(())
     }
 
@@ -55,16 +57,29 @@ impl PostingMaker {
         if list.len() == 0 {
             return Ok(());
         }
-        let last = list.head(list.len() - 1).first;
         let alloc = self.list.alloc();
+        let last = mem::replace(&mut self.last, None);
         let front = mem::replace(&mut self.list, PostingList::new(alloc));
-        let before = mem::replace(&mut self.last, 0);
-        self.list = both(front, before, list)?;
-        self.last = last;
+        self.list = both(front, last, list)?;
         Ok(())
     }
 
+    /// Takes all addresses away. Much of the memory is kept for those to come.
+    pub fn clear(&mut self)
+        ensures { self.new ≡ [] }
+    {
+        self.last = None;
+        self.list.clear();
+    }
+
     /// The list of the addresses so far, in no more memory than it needs.
+    pub fn copy(&self) -> Result<PostingList, AllocError>
+        ensures { IfOk result (λ list. list ≡ self.now) }
+    {
+        self.list.copy()
+    }
+
+    /// The same of a maker that is done with.
     pub fn finish(self) -> PostingList
         ensures { result ≡ self }
     {
@@ -75,16 +90,32 @@ impl PostingMaker {
 }
 
 /// The members of a list, and those of another one behind them.
-fn both(front: PostingList, last: u64, list: &PostingList) -> Result<PostingList, AllocError>
-    requires last { last ≡ last_of front }
+fn both(
+    front: PostingList,
+    last: Option<u64>,
+    list: &PostingList,
+) -> Result<PostingList, AllocError>
+    requires last { IfSome last (λ last. last ≡ last_of front) }
     requires some { 0 < length list.now }
     requires rising { ArePostings (front ++ list.now) }
     ensures { IfOk result (λ all. all ≡ front ++ list.now) }
 {
     if front.len() == 0 {
-        return list.copy();
+        return front.filled(list);
     }
+    let last = last_from(last, &front);
     front.joined(last, list)
+}
+
+/// The last member of a list: it is looked for where it is not known.
+fn last_from(last: Option<u64>, list: &PostingList) -> u64
+    requires { IfSome last (λ last. last ≡ last_of list.now) }
+    ensures { result ≡ last_of list.now }
+{
+    match last {
+        Some(last) => last,
+        None => list.last(),
+    }
 }
 
 /// The list of exactly these addresses.

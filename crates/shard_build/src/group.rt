@@ -38,7 +38,7 @@ pub(crate) fn group_by_token<S: TokenSource>(
     }
     let last = address + 1;
     put(alloc, &mut groups, file_end(), last)?;
-    groups.sort_keys()?;
+    groups.sort_unstable_keys()?;
     Ok((groups, Range { first: base, last }))
 }
 

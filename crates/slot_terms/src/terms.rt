@@ -13,6 +13,8 @@ use std::marker::Model;
 #[derive(Drop)]
 pub struct SlotTerms<'a> {
     parts: Vec<Part<'a>>,
+    // the postings of one term, in memory that is used again for the next
+    postings: PostingMaker,
 }
 
 impl<'a> Model for SlotTerms<'a> {
@@ -34,7 +36,10 @@ impl<'a> SlotTerms<'a> {
         for slot in slots {
             parts.push(Part::new(slot.shard(), slot.mask()))?;
         }
-        Ok(SlotTerms { parts })
+        Ok(SlotTerms {
+            parts,
+            postings: PostingMaker::new(alloc),
+        })
     }
 
     /// The next term, and its live postings in place of the addresses: none where all of them are dead. After an Err nothing is known of
@@ -92,9 +97,9 @@ impl<'a> SlotTerms<'a> {
         ensures past { OnOk result (self.new ≡ map (past term.now) self.old) }
     {
         let alloc = *self.parts.allocator();
-        let mut postings = PostingMaker::new(alloc);
-        take_term_packed(alloc, self.parts.as_mut_slice(), term, &mut postings)?;
-        Ok(postings.finish())
+        self.postings.clear();
+        take_term_packed(alloc, self.parts.as_mut_slice(), term, &mut self.postings)?;
+        self.postings.copy()
     }
 }
 

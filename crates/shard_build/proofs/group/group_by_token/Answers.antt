@@ -57,12 +57,12 @@ invariant_of-result g c =
 
 pub returns-clause-lists : goal.returns-clause-lists
 returns-clause-lists g c = λ token.
-    list_moved c.put-2.new.groups c.sort_keys.new.self c.sort_keys.ensures.reordered.0 c.sort_keys.ensures.unique token
+    list_moved c.put-2.new.groups c.sort_unstable_keys.new.self c.sort_unstable_keys.ensures.reordered.0 c.sort_unstable_keys.ensures.unique token
     ∙ last_group c.args.base (g.S.TokenSource.left c.args.source.now) _ c.loop-token.address _ (λ cs. get_by (λ k. bytes_eq cs k.items) c.put-2.new.groups) c.file_end.result.now c.loop-token.invariant
     (c.in_ok-next.ensures.none c.if-branch.false) c.file_end.ensures c.in_ok-put-3.ensures.lists token
 
 pub returns-clause-ordered : goal.returns-clause-ordered
-returns-clause-ordered g c = strictly_sorted _ c.in_ok-sort_keys.ensures.sorted c.sort_keys.ensures.unique
+returns-clause-ordered g c = strictly_sorted _ c.in_ok-sort_unstable_keys.ensures.sorted c.sort_unstable_keys.ensures.unique
 
 pub returns-clause-range : goal.returns-clause-range
 returns-clause-range g c =
