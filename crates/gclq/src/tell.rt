@@ -38,7 +38,7 @@ pub fn tell<R: Eprint, F: FaultName>(rt: &R, status: Status, words: &[Bytes], fi
     };
 }
 
-// A word may have any characters, and is told within quotes and with escapes.
+/// A word may have any characters, and is told within quotes and with escapes.
 fn tell_usage<R: Eprint>(rt: &R, words: &[Bytes]) -> io::Result<()> {
     match wrong_word(words).and_then(|word: &[u8]| str::from_utf8(word).ok()) {
         Some(word) => eprintln!(rt; "gclq: unexpected word {word:?}; {USAGE}"),
@@ -46,7 +46,7 @@ fn tell_usage<R: Eprint>(rt: &R, words: &[Bytes]) -> io::Result<()> {
     }
 }
 
-// A name is text without control bytes.
+/// A name is text without control bytes.
 fn tell_file<R: Eprint>(rt: &R, call: Option<FileCall>, name: &[u8]) -> io::Result<()> {
     match (call, str::from_utf8(name)) {
         (Some(FileCall::Load), Ok(name)) if !name.is_empty() => eprintln!(rt;

@@ -27,7 +27,7 @@ fn list(alloc: Global, words: &[&[u8]]) -> Result<Vec<Bytes>, AllocError> {
     Ok(list)
 }
 
-// One script over objects in memory, of which the source and the sink fail at these calls.
+/// One script over objects in memory, of which the source and the sink fail at these calls.
 struct Case<'a> {
     name: &'a str,
     words: &'a [&'a [u8]],

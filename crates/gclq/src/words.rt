@@ -32,7 +32,7 @@ pub fn words<R: Env + AllocGlobal>(rt: &R) -> Result<Vec<Bytes>, WordFault> {
     Ok(copied(rt.alloc(), after_name(args.as_slice()))?)
 }
 
-// The words after the program's name, where there is one.
+/// The words after the program's name, where there is one.
 fn after_name(args: &[String]) -> &[String]
     ensures { result.now ≡ drop 1 args.now }
 {

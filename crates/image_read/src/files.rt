@@ -70,7 +70,7 @@ pub(crate) fn read_files<'a>(
     Ok(Some(FilesFront { files, rest }))
 }
 
-// The file was found to fit, so neither sum passes the end.
+/// The file was found to fit, so neither sum passes the end.
 fn behind(file: FileFront<'_>) -> Least
     requires id { file.id < 2 ^ 56 }
     requires end { file.base + file.len ≤ 2 ^ 56 }

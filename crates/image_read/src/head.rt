@@ -76,7 +76,7 @@ fn mark_in_front(bytes: &[u8]) -> Option<MarkFront<'_>>
     None
 }
 
-// An id takes two addresses at least.
+/// An id takes two addresses at least.
 fn is_in_range(head: Head) -> bool
     ensures { IsTrue result ↔ (head.first ≤ head.next) × (head.next ≤ end_of head.format) × (2 * head.next_id ≤ head.next - head.first) }
 {

@@ -22,7 +22,7 @@ use std::alloc::{AllocError, Global};
 use std::sync::Wait;
 use std::thread::{Threads, join_mut};
 
-// The lanes on one side, and a merge on the other. The engine has this thread: where no other can be made, the merge comes first.
+/// The lanes on one side, and a merge on the other. The engine has this thread: where no other can be made, the merge comes first.
 fn run_beside<R: Threads + Wait + Sync, G: Gate + Sync>(
     rt: &R,
     alloc: Global,
@@ -57,7 +57,7 @@ fn run_beside<R: Threads + Wait + Sync, G: Gate + Sync>(
     merged
 }
 
-// All lanes, and a merge beside them where one is wanted.
+/// All lanes, and a merge beside them where one is wanted.
 fn run_all<R: Threads + Wait + Sync, G: Gate + Sync>(
     rt: &R,
     alloc: Global,
@@ -86,7 +86,7 @@ fn run_all<R: Threads + Wait + Sync, G: Gate + Sync>(
     Ok(())
 }
 
-// A batch that needs no lanes: the merge, where it is wanted, and then each query on the engine's own pass.
+/// A batch that needs no lanes: the merge, where it is wanted, and then each query on the engine's own pass.
 fn answer_in_turn<R: Wait, G: Gate>(
     rt: &R,
     alloc: Global,
@@ -107,7 +107,7 @@ fn answer_in_turn<R: Wait, G: Gate>(
     Ok(answers)
 }
 
-// A batch in lanes, one for each of these readers.
+/// A batch in lanes, one for each of these readers.
 fn answer_in_lanes<R: Threads + Wait + Sync, G: Gate + Sync>(
     rt: &R,
     alloc: Global,

@@ -13,7 +13,7 @@ use manifest_publish::Pass;
 use reader_pass::{pass_count, pass_list};
 use std::alloc::{AllocError, Global};
 
-// What are the first members of a concordance list over a pass?
+/// What are the first members of a concordance list over a pass?
 #[derive(Clone, Copy)]
 struct FirstMembers<'a> {
     alloc: Global,
@@ -45,7 +45,7 @@ impl Question for FirstMembers<'_> {
     }
 }
 
-// How many members has a concordance list over a pass?
+/// How many members has a concordance list over a pass?
 #[derive(Clone, Copy)]
 struct MemberCount<'a> {
     pass: &'a Pass,
@@ -76,7 +76,7 @@ impl Question for MemberCount<'_> {
     }
 }
 
-// The first members of the concordance list of an expression over a pass.
+/// The first members of the concordance list of an expression over a pass.
 fn first(alloc: Global, pass: &Pass, expr: &Expr, most: u64) -> Result<IntervalList, AllocError>
     requires { IsWellFormed (form_of expr.now) }
     ensures { (v : VersionContent) → IsLatest pass.now.history v → IfOk result (λ members. members ≡ first_members (version_text v) (form_of expr.now) most) }
@@ -89,7 +89,7 @@ fn first(alloc: Global, pass: &Pass, expr: &Expr, most: u64) -> Result<IntervalL
     })
 }
 
-// How many members the list has. No list is made.
+/// How many members the list has. No list is made.
 fn count(pass: &Pass, expr: &Expr) -> u64
     requires { IsWellFormed (form_of expr.now) }
     ensures { (v : VersionContent) → IsLatest pass.now.history v → result ≡ length (concordance (version_text v) (form_of expr.now)) }
@@ -97,7 +97,7 @@ fn count(pass: &Pass, expr: &Expr) -> u64
     uncounted(&MemberCount { pass, expr })
 }
 
-// How many addresses were given before the version of the pass.
+/// How many addresses were given before the version of the pass.
 fn address_count(pass: &Pass) -> u64
     ensures { (v : VersionContent) → IsLatest pass.now.history v → result ≡ v.next - v.first }
 {

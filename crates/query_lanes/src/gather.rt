@@ -11,7 +11,7 @@ use crate::work::{Made, Work};
 use collection::Engine;
 use std::alloc::{AllocError, Global};
 
-// Takes the answer at a place, if there is one.
+/// Takes the answer at a place, if there is one.
 fn take_made(made: &mut [Option<Made>], k: usize) -> Option<Made>
     ensures taken { IfSome result (λ one. slice_get made.old k ≡ Some (Some one)) }
     ensures rest { (i : ℕ) (one : Made) → slice_get made.new i ≡ Some (Some one) → slice_get made.old i ≡ Some (Some one) }
@@ -22,7 +22,7 @@ fn take_made(made: &mut [Option<Made>], k: usize) -> Option<Made>
     made[k].take()
 }
 
-// Takes the answer that a lane made to the query at `j`, where its version is one of the engine's.
+/// Takes the answer that a lane made to the query at `j`, where its version is one of the engine's.
 fn take_kept(engine: &Engine, works: &mut [Work], asks: &[Ask], j: usize) -> Option<Found>
     requires trusted { AreTrusted asks.now engine.now works.old }
     ensures trusted { AreTrusted asks.now engine.now works.new }
@@ -43,7 +43,7 @@ fn take_kept(engine: &Engine, works: &mut [Work], asks: &[Ask], j: usize) -> Opt
     Some(made.found)
 }
 
-// The answer to the query at `j`.
+/// The answer to the query at `j`.
 fn answer_at(
     alloc: Global,
     engine: &Engine,

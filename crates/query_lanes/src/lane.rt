@@ -10,7 +10,7 @@ use manifest_publish::Reader;
 use outside::Gate;
 use std::alloc::{AllocError, Global};
 
-// Enters anew and answers a query: None where there was no pass, or the query is refused.
+/// Enters anew and answers a query: None where there was no pass, or the query is refused.
 fn make<G: Gate>(
     alloc: Global,
     gate: &G,
@@ -33,7 +33,7 @@ fn make<G: Gate>(
     Ok(Some(Made { number, found }))
 }
 
-// Answers every `lanes`-th query from the one at `at` on.
+/// Answers every `lanes`-th query from the one at `at` on.
 fn make_all<G: Gate>(
     alloc: Global,
     gate: &G,

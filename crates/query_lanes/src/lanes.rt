@@ -10,7 +10,7 @@ use outside::Gate;
 use std::alloc::Global;
 use std::thread::{Threads, join_mut};
 
-// One lane, or none.
+/// One lane, or none.
 fn run_one<G: Gate>(
     alloc: Global,
     gate: &G,

@@ -7,7 +7,7 @@ use crate::work::Work;
 use collection::Engine;
 use manifest_publish::Reader;
 
-// Tells a reader of all that the engine published.
+/// Tells a reader of all that the engine published.
 fn tell(engine: &Engine, reader: &mut Reader)
     requires { reader.old.publisher ≡ engine.now.publisher }
     ensures { IsTold engine.now.history reader.old reader.new }
@@ -26,7 +26,7 @@ pub fn tell_all(engine: &Engine, readers: &mut [Reader])
     }
 }
 
-// Tells a reader of all that the engine published, lets it enter once more, and notes whether it did.
+/// Tells a reader of all that the engine published, lets it enter once more, and notes whether it did.
 fn settle(engine: &Engine, work: &mut Work, reader: &mut Reader)
     requires { reader.old.publisher ≡ engine.now.publisher }
     ensures { IsSettled engine.now.history reader.old reader.new work.old work.new }

@@ -22,7 +22,7 @@ pub struct Work {
 }
 
 impl Work {
-    // Nothing done yet.
+    /// Nothing done yet.
     fn new(alloc: Global) -> Work {
         Work {
             made: Vec::new(alloc),

@@ -25,7 +25,7 @@ use script_lang::{Command, Refusal, command, put_merging};
 use std::alloc::{AllocError, Global};
 use std::sync::Wait;
 
-// Answers a query on the last version that was published.
+/// Answers a query on the last version that was published.
 fn answer_now(
     alloc: Global,
     out: &mut Vec<u8>,
@@ -43,7 +43,7 @@ fn answer_now(
     Ok(refused)
 }
 
-// Appends the answer to `merge`, which makes a merge wanted.
+/// Appends the answer to `merge`, which makes a merge wanted.
 fn want_merge(out: &mut Vec<u8>, wanted: &mut bool) -> Result<bool, AllocError>
     ensures says { IfOk result (Says (merging_line ∷ []) out.old.items out.new.items) }
     ensures wanted { OnOk result (wanted.new ≡ true) }
@@ -53,7 +53,7 @@ fn want_merge(out: &mut Vec<u8>, wanted: &mut bool) -> Result<bool, AllocError>
     Ok(false)
 }
 
-// Answers a command, once the merge that was wanted before is made.
+/// Answers a command, once the merge that was wanted before is made.
 fn answer_command<R: Wait, F: Files>(
     rt: &R,
     alloc: Global,
@@ -130,7 +130,7 @@ fn answer_command<R: Wait, F: Files>(
     }
 }
 
-// Answers a line. An empty one leaves a wanted merge for later; before every other one it is made.
+/// Answers a line. An empty one leaves a wanted merge for later; before every other one it is made.
 fn answer_any<R: Wait, F: Files, G: Gate>(
     rt: &R,
     alloc: Global,

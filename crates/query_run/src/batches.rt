@@ -37,7 +37,7 @@ pub(crate) struct NextAsk {
     pub after: usize,
 }
 
-// The query of a line, if it asks one.
+/// The query of a line, if it asks one.
 fn ask_of_line(alloc: Global, line: &[u8], number: u64) -> Result<Option<Ask>, AllocError>
     ensures query { IfOk result (λ some. IfSome some (λ ask. IsAskedBy ask (command_of line.now))) }
     ensures none { IfOk result (λ some. IsNone some → is_query (command_of line.now) ≡ false) }
@@ -58,7 +58,7 @@ fn ask_of_line(alloc: Global, line: &[u8], number: u64) -> Result<Option<Ask>, A
     }
 }
 
-// The query of the line at a place, if it asks one.
+/// The query of the line at a place, if it asks one.
 fn next_ask(
     alloc: Global,
     script: &[u8],
@@ -118,7 +118,7 @@ pub fn take_batch(
     Ok(Batch { asks, after })
 }
 
-// Appends what some queries found, and says whether a refusal is among the answers.
+/// Appends what some queries found, and says whether a refusal is among the answers.
 fn put_all(out: &mut Vec<u8>, answers: &[Found]) -> Result<bool, AllocError>
     ensures { IfOk result (Says (flat_map found_lines answers.now) out.old.items out.new.items) }
 {

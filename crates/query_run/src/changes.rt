@@ -17,7 +17,7 @@ use script_lang::{Refusal, put_file, put_gone};
 use std::alloc::{AllocError, Global};
 use std::sync::Wait;
 
-// Adds a file with this content, and appends the answer. An accepted line is completed before its answer is made.
+/// Adds a file with this content, and appends the answer. An accepted line is completed before its answer is made.
 fn add_content<R: Wait>(
     rt: &R,
     out: &mut Vec<u8>,

@@ -27,7 +27,7 @@ const TEXT: &[u8] =
 // More calls than an object gets from the script.
 const MANY: u64 = 100;
 
-// The objects that can fail, or want memory.
+/// The objects that can fail, or want memory.
 #[derive(Clone, Copy, Debug, PartialEq, Eq)]
 enum Part {
     Source,
@@ -35,7 +35,7 @@ enum Part {
     Files,
 }
 
-// How a run ended: its status, what was written, and whether the image was kept.
+/// How a run ended: its status, what was written, and whether the image was kept.
 #[derive(Drop)]
 struct Ended {
     status: Status,
@@ -43,7 +43,7 @@ struct Ended {
     kept: bool,
 }
 
-// This call where it is of that object, and none else.
+/// This call where it is of that object, and none else.
 fn call_of(alloc: Global, part: Part, whose: Part, call: u64) -> Result<Vec<u64>, AllocError> {
     let mut calls = Vec::new(alloc);
     if part == whose {
@@ -52,7 +52,7 @@ fn call_of(alloc: Global, part: Part, whose: Part, call: u64) -> Result<Vec<u64>
     Ok(calls)
 }
 
-// Runs the script where one object fails at one call.
+/// Runs the script where one object fails at one call.
 fn failing<R: Threads + Wait + Sync + AllocGlobal>(
     rt: &R,
     part: Part,
@@ -108,7 +108,7 @@ fn whichever_call_fails_a_beginning_is_written_and_the_image_is_kept_or_not(
     Ok(())
 }
 
-// Wants memory at one of its calls.
+/// Wants memory at one of its calls.
 #[derive(Drop)]
 struct HungrySink {
     taken: Vec<u8>,
@@ -131,7 +131,7 @@ impl Sink for HungrySink {
     }
 }
 
-// Want memory at one of their calls.
+/// Want memory at one of their calls.
 #[derive(Drop)]
 struct HungryFiles {
     inner: SureFiles,
@@ -165,7 +165,7 @@ impl Files for HungryFiles {
     }
 }
 
-// Runs the script where the sink wants memory at one call, and the files at one.
+/// Runs the script where the sink wants memory at one call, and the files at one.
 fn hungry<R: Threads + Wait + Sync + AllocGlobal>(
     rt: &R,
     sink_call: u64,
@@ -222,7 +222,7 @@ fn whichever_call_wants_memory_a_beginning_is_written(rt: HostRuntime) -> Result
     Ok(())
 }
 
-// A run over objects that never fail. It is proved that none is ever said to have failed.
+/// A run over objects that never fail. It is proved that none is ever said to have failed.
 fn sure_run<R: Threads + Wait + Sync>(
     rt: &R,
     alloc: Global,
@@ -251,7 +251,7 @@ fn over_sure_objects_a_name_that_is_not_held_has_no_bytes(rt: HostRuntime) -> Re
     Ok(())
 }
 
-// The status of `serve` by these limits over files that it may change, and what was written.
+/// The status of `serve` by these limits over files that it may change, and what was written.
 fn served<R: Threads + Wait + Sync>(
     rt: &R,
     alloc: Global,
@@ -312,14 +312,14 @@ fn an_image_of_a_byte_too_many_is_not_kept(rt: HostRuntime) -> Result<(), Fail> 
     Ok(())
 }
 
-// Files that hold this image as `i`.
+/// Files that hold this image as `i`.
 fn with_image(alloc: Global, image: &[u8]) -> Result<MemFiles, AllocError> {
     let mut entries = Vec::new(alloc);
     entries.push((Bytes::copy_of(alloc, b"i")?, Bytes::copy_of(alloc, image)?))?;
     Ok(MemFiles::new(alloc, entries, Vec::new(alloc)))
 }
 
-// The image of the file `a`.
+/// The image of the file `a`.
 fn saved_image<R: Threads + Wait + Sync + AllocGlobal>(rt: &R) -> Result<Vec<u8>, AllocError> {
     let alloc = rt.alloc();
     let mut files = MemFiles::new(alloc, held(alloc)?, Vec::new(alloc));

@@ -10,7 +10,7 @@ use live_version::{Slot, Version};
 use script_lang::{put_record, put_shards, put_total};
 use std::alloc::AllocError;
 
-// Appends a line for each of some files.
+/// Appends a line for each of some files.
 fn put_files(out: &mut Vec<u8>, files: &[SharedRecord]) -> Result<(), AllocError>
     ensures { OnOk result (out.new.items ≡ out.old.items ++ text_of_lines (record_lines files.now)) }
 {
@@ -20,7 +20,7 @@ fn put_files(out: &mut Vec<u8>, files: &[SharedRecord]) -> Result<(), AllocError
     Ok(())
 }
 
-// Appends a line for each surviving file of some slots.
+/// Appends a line for each surviving file of some slots.
 fn put_slots(out: &mut Vec<u8>, slots: &[Slot]) -> Result<(), AllocError>
     ensures { OnOk result (out.new.items ≡ out.old.items ++ text_of_lines (record_lines (files_of slots.now))) }
 {

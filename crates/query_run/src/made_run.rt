@@ -49,7 +49,7 @@ pub fn run_made<R: Threads + Wait + Sync, K: Sink, G: Gate + Sync>(
     }
 }
 
-// The answers to a made script, as far as a summary tells of them.
+/// The answers to a made script, as far as a summary tells of them.
 #[derive(Drop)]
 struct MadeAnswers {
     told: SummarySink,
@@ -59,7 +59,7 @@ struct MadeAnswers {
     lines: u64,
 }
 
-// Answers the script of a made corpus. None comes for want of memory alone, since the objects never fail.
+/// Answers the script of a made corpus. None comes for want of memory alone, since the objects never fail.
 fn answer_made<R: Threads + Wait + Sync, G: Gate + Sync>(
     rt: &R,
     alloc: Global,
@@ -100,7 +100,7 @@ fn answer_made<R: Threads + Wait + Sync, G: Gate + Sync>(
     })
 }
 
-// Writes what was told of the answers.
+/// Writes what was told of the answers.
 fn write_summary<K: Sink>(
     alloc: Global,
     told: &SummarySink,

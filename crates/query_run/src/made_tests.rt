@@ -17,7 +17,7 @@ fn list(alloc: Global, words: &[&[u8]]) -> Result<Vec<Bytes>, AllocError> {
     Ok(list)
 }
 
-// The status of a run with these words over no files and an empty script, and what was written.
+/// The status of a run with these words over no files and an empty script, and what was written.
 fn told<R: Threads + Wait + Sync + AllocGlobal>(
     rt: &R,
     words: &[&[u8]],
@@ -40,7 +40,7 @@ fn told<R: Threads + Wait + Sync + AllocGlobal>(
     Ok((status, sink.written().to_vec(alloc)?))
 }
 
-// The summary of the whole output that a plain run over the made files and the made script writes.
+/// The summary of the whole output that a plain run over the made files and the made script writes.
 fn summed<R: Threads + Wait + Sync + AllocGlobal>(
     rt: &R,
     words: &[&[u8]],

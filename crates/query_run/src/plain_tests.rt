@@ -16,7 +16,7 @@ use std::thread::Threads;
 // A query, and the first and last address of each interval that it denotes over a text.
 type Row = (&'static str, &'static [(u64, u64)]);
 
-// The tokens of a file at their addresses, those of its boundary included.
+/// The tokens of a file at their addresses, those of its boundary included.
 #[derive(Clone, Copy)]
 struct Sample {
     tokens: &'static [&'static str],
@@ -210,7 +210,7 @@ fn text_of<R: Abort>(rt: &R, alloc: Global, sample: Sample) -> Result<PlainText,
     of_tokens(alloc, sample.first, &tokens)
 }
 
-// The list of a query by the plain program.
+/// The list of a query by the plain program.
 fn plain_list<R: Abort>(
     rt: &R,
     alloc: Global,
@@ -223,7 +223,7 @@ fn plain_list<R: Abort>(
     slow_list(alloc, &expr, text)
 }
 
-// What a file with these tokens says.
+/// What a file with these tokens says.
 fn content_of(alloc: Global, tokens: &[&str]) -> Result<Bytes, AllocError> {
     let mut content = Vec::new(alloc);
     for token in tokens {
@@ -235,7 +235,7 @@ fn content_of(alloc: Global, tokens: &[&str]) -> Result<Bytes, AllocError> {
     Bytes::copy_of(alloc, content.as_slice())
 }
 
-// What a run over the file of a sample writes.
+/// What a run over the file of a sample writes.
 fn written<R: Threads + Wait + Sync + AllocGlobal>(
     rt: &R,
     sample: Sample,
@@ -264,7 +264,7 @@ fn written<R: Threads + Wait + Sync + AllocGlobal>(
     Ok((status, sink.written().to_vec(alloc)?))
 }
 
-// A script of queries, and what is to be written.
+/// A script of queries, and what is to be written.
 #[derive(Drop)]
 struct Play {
     script: Vec<u8>,
@@ -272,7 +272,7 @@ struct Play {
 }
 
 impl Play {
-    // The file is added.
+    /// The file is added.
     fn begun(alloc: Global, sample: Sample) -> Result<Self, AllocError> {
         let mut want = Vec::new(alloc);
         let last = sample.first.saturating_add(sample.tokens.len() as u64);
@@ -283,7 +283,7 @@ impl Play {
         })
     }
 
-    // A query is asked for all of its list, and for its length.
+    /// A query is asked for all of its list, and for its length.
     fn ask(&mut self, query: &[u8], list: &IntervalList) -> Result<(), AllocError> {
         for word in [b"find ".as_slice(), b"count ".as_slice()] {
             self.script.extend_from_slice(word)?;
@@ -318,7 +318,7 @@ fn every_query_is_answered_as_by_the_plain_program(rt: HostRuntime) -> Result<()
     Ok(())
 }
 
-// Each query of a table denotes its intervals, by the plain program and by a run.
+/// Each query of a table denotes its intervals, by the plain program and by a run.
 fn each_denotes<R: Threads + Wait + Sync + AllocGlobal + Abort>(
     rt: &R,
     sample: Sample,

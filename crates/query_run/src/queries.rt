@@ -30,7 +30,7 @@ pub fn ask_of(alloc: Global, number: u64, asked: Asked, query: &Bytes) -> Result
     }
 }
 
-// Appends a line for each interval.
+/// Appends a line for each interval.
 fn put_intervals(out: &mut Vec<u8>, list: &[Interval]) -> Result<(), AllocError>
     ensures { OnOk result (out.new.items ≡ out.old.items ++ text_of_lines (map interval_line list.now)) }
 {

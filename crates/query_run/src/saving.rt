@@ -24,7 +24,7 @@ use script_lang::{Refusal, put_opened, put_saved};
 use std::alloc::{AllocError, Global};
 use std::sync::Wait;
 
-// The image of the last version that was published.
+/// The image of the last version that was published.
 fn image_now(alloc: Global, engine: &Engine) -> Result<Bytes, AllocError>
     requires savable { CanBeSaved engine.now.version }
     ensures { IfOk result (λ bytes. (c : Collection) → StandsFor engine.now.version c → bytes ≡ image_of c) }
@@ -65,7 +65,7 @@ pub fn save<F: Files>(
     Ok(false)
 }
 
-// Puts an opened version in place of the empty collection, and appends the answer.
+/// Puts an opened version in place of the empty collection, and appends the answer.
 fn adopt<R: Wait>(
     rt: &R,
     out: &mut Vec<u8>,
@@ -99,7 +99,7 @@ fn adopt<R: Wait>(
     }
 }
 
-// Opens a content, and appends the answer.
+/// Opens a content, and appends the answer.
 fn open_content<R: Wait>(
     rt: &R,
     alloc: Global,

@@ -30,7 +30,7 @@ use std::alloc::Global;
 use std::sync::Wait;
 use std::thread::Threads;
 
-// How far a run over a script has come.
+/// How far a run over a script has come.
 #[derive(Drop)]
 struct Course {
     // where the next line begins
@@ -41,7 +41,7 @@ struct Course {
     refused: bool,
 }
 
-// Answers a line, and writes the answer.
+/// Answers a line, and writes the answer.
 fn serve_line<R: Wait, F: Files, K: Sink, G: Gate>(
     rt: &R,
     alloc: Global,
@@ -85,7 +85,7 @@ fn serve_line<R: Wait, F: Files, K: Sink, G: Gate>(
     Ok(refused)
 }
 
-// Answers a batch of queries, beside the merge that is wanted, if one is, and writes the answers. Its lines are completed once all answers are made.
+/// Answers a batch of queries, beside the merge that is wanted, if one is, and writes the answers. Its lines are completed once all answers are made.
 fn serve_batch<R: Threads + Wait + Sync, K: Sink, G: Gate + Sync>(
     rt: &R,
     alloc: Global,
@@ -121,8 +121,8 @@ fn serve_batch<R: Threads + Wait + Sync, K: Sink, G: Gate + Sync>(
     Ok(refused)
 }
 
-// Answers the batch of queries that the line at hand begins, or else this line alone. A single query is answered here where no merge is wanted:
-// it costs no thread.
+/// Answers the batch of queries that the line at hand begins, or else this line alone. A single query is answered here where no merge is wanted:
+/// it costs no thread.
 fn serve_some<R: Threads + Wait + Sync, F: Files, K: Sink, G: Gate + Sync>(
     rt: &R,
     alloc: Global,
@@ -195,7 +195,7 @@ fn serve_some<R: Threads + Wait + Sync, F: Files, K: Sink, G: Gate + Sync>(
     Ok(())
 }
 
-// Answers the lines of a script, and says whether a refusal is among the answers.
+/// Answers the lines of a script, and says whether a refusal is among the answers.
 fn serve_lines<R: Threads + Wait + Sync, F: Files, K: Sink, G: Gate + Sync>(
     rt: &R,
     alloc: Global,

@@ -50,7 +50,7 @@ fn list(alloc: Global, words: &[&[u8]]) -> Result<Vec<Bytes>, AllocError> {
     Ok(list)
 }
 
-// The status of a run over objects that never fail, and what was written.
+/// The status of a run over objects that never fail, and what was written.
 fn answered<R: Threads + Wait + Sync + AllocGlobal>(
     rt: &R,
     words: &[&[u8]],
@@ -73,7 +73,7 @@ fn answered<R: Threads + Wait + Sync + AllocGlobal>(
     Ok((status, sink.written().to_vec(alloc)?))
 }
 
-// An engine and its readers.
+/// An engine and its readers.
 fn opened<R: Wait>(rt: &R, alloc: Global, readers: usize) -> Result<Opened, AllocError>
     requires { readers ≤ most_readers }
     ensures fresh { IfOk result (λ opened. IsFresh opened.engine opened.lines) }
@@ -85,7 +85,7 @@ fn opened<R: Wait>(rt: &R, alloc: Global, readers: usize) -> Result<Opened, Allo
     }
 }
 
-// The status of `serve` with so many readers and by these limits, and the number of lines that it completed.
+/// The status of `serve` with so many readers and by these limits, and the number of lines that it completed.
 fn served_into<R: Threads + Wait + Sync + AllocGlobal, K: Sink>(
     rt: &R,
     readers: usize,
@@ -119,7 +119,7 @@ fn served_into<R: Threads + Wait + Sync + AllocGlobal, K: Sink>(
     Ok((status, lines))
 }
 
-// The same over a sink that never fails, and what was written.
+/// The same over a sink that never fails, and what was written.
 fn served<R: Threads + Wait + Sync + AllocGlobal>(
     rt: &R,
     readers: usize,
@@ -135,7 +135,7 @@ fn served<R: Threads + Wait + Sync + AllocGlobal>(
     Ok((status, lines, sink.written().to_vec(alloc)?))
 }
 
-// The calls that are to fail, of each object.
+/// The calls that are to fail, of each object.
 #[derive(Clone, Copy)]
 struct Plan<'a> {
     source: &'a [u64],
@@ -151,7 +151,7 @@ fn failing_at<'a>(source: &'a [u64], sink: &'a [u64], files: &'a [u64]) -> Plan<
     }
 }
 
-// The status of a run over these files, which it may change, and what was written.
+/// The status of a run over these files, which it may change, and what was written.
 pub(crate) fn run_over<R: Threads + Wait + Sync + AllocGlobal>(
     rt: &R,
     files: &mut MemFiles,
@@ -164,7 +164,7 @@ pub(crate) fn run_over<R: Threads + Wait + Sync + AllocGlobal>(
     Ok((status, sink.written().to_vec(alloc)?))
 }
 
-// The status of a run whose objects fail at these calls, and what was written.
+/// The status of a run whose objects fail at these calls, and what was written.
 fn failing<R: Threads + Wait + Sync + AllocGlobal>(
     rt: &R,
     script: &[u8],
@@ -256,7 +256,7 @@ fn no_byte_depends_on_the_readers_or_on_where_a_batch_ends(rt: HostRuntime) -> R
     Ok(())
 }
 
-// 500 lines, with a merge before the queries of each five.
+/// 500 lines, with a merge before the queries of each five.
 fn merging_script(alloc: Global) -> Result<Vec<u8>, AllocError> {
     let mut script = Vec::new(alloc);
     for _ in 0..100 {
