@@ -3,17 +3,14 @@
 # and threads beside a merge. Each run must end with status 6 and a beginning of the whole text, or with the status of a run that is refused
 # nothing and the whole text; the saved image is whole or not there. An argument K tries each Kth request alone. It needs a C compiler, since
 # the requests are counted in a library that stands before the C library's.
-set -eu
-here=$(cd "$(dirname "$0")/.." && pwd)
+. "$(dirname "$0")/common.sh"
+need_gclq
 step=${1:-1}
 compiler=${CC:-$(command -v cc || command -v clang || true)}
 if [ -z "$compiler" ]; then
   echo "skipped: there is no C compiler" >&2
   exit 0
 fi
-work=$(mktemp -d)
-trap 'rm -rf "$work"' EXIT
-"$here/gclq" < /dev/null
 cd "$work"
 cat > refuse.c <<'C'
 #include <errno.h>
@@ -91,4 +88,4 @@ while True:
     request += step
 print(f"{sum(ends.values())} refused requests, each {step}th of {request - step}: {ends[6]} runs ended with status 6 and a beginning of the text, {ends[status]} with all of it")
 P
-python3 try.py "$here/crates/gclq/out/gclq" "$step"
+python3 try.py "$program" "$step"
