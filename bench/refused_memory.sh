@@ -86,6 +86,6 @@ while True:
         break
     ends[got] += 1
     request += step
-print(f"{sum(ends.values())} refused requests, each {step}th of {request - step}: {ends[6]} runs ended with status 6 and a beginning of the text, {ends[status]} with all of it")
+print(f"{sum(ends.values())} requests for memory refused, one in a run, of {request - step}: {ends[6]} runs ended with status 6 and a beginning of the text, {ends[status]} with all of it")
 P
 python3 try.py "$program" "$step"
