@@ -346,7 +346,7 @@ fn an_image_with_a_changed_byte_is_refused_or_saved_again_as_it_is(
     rt: HostRuntime,
 ) -> Result<(), Fail> {
     let mut image = saved_image(&rt)?;
-    let mut opened = 0u64;
+    let mut is_ever_opened = false;
     for at in 0..image.len() {
         let byte = image[at];
         image[at] = byte.wrapping_add(1);
@@ -354,13 +354,13 @@ fn an_image_with_a_changed_byte_is_refused_or_saved_again_as_it_is(
         let (_, written) = run_over(&rt, &mut files, b"open i\nsave j\n")?;
         if written.as_slice() == b"opened 1\nsaved 97\n".as_slice() {
             assert_eq!(rt; files.content(b"j"), Some(image.as_slice()), "{at}");
-            opened += 1;
+            is_ever_opened = true;
         } else {
             let refused = b"! not an image\nsaved 48\n".as_slice();
             assert_eq!(rt; written.as_slice(), refused, "{at}");
         }
         image[at] = byte;
     }
-    assert!(rt; opened > 0);
+    assert!(rt; is_ever_opened);
     Ok(())
 }
