@@ -4,7 +4,8 @@ use Rattle.std.specs.Prelude.{decimal}
 use Rattle.std.proofs.lemmas.List.{append-nil}
 use Rattle.std.proofs.lemmas.Grind.{flat_map-append}
 use Rattle.made_corpus.specs.Draws.{next_state, draw}
-use Rattle.made_corpus.specs.MadeLines.{DrawnLines, followed, text_of_lines, count_from, top_from, add_from, change_from, find_from, turn_from, turns_from, HasDrawnLines}
+use Rattle.script_lang.specs.Lines.{text_of_lines}
+use Rattle.made_corpus.specs.MadeLines.{DrawnLines, followed, count_from, top_from, add_from, change_from, find_from, turn_from, turns_from, HasDrawnLines}
 
 -- the text of lines that come in two parts
 text_of_both : (front later : List (List ℕ)) → text_of_lines (front ++ later) ≡ text_of_lines front ++ text_of_lines later

@@ -1,5 +1,6 @@
 -- The script over made files.
-use Rattle.std.specs.Prelude.{◌≡◌, ℕ, zero, suc, ◌+◌, ◌%◌, ◌^◌, ◌==◌, nat_lt, List, [], ◌∷◌, ◌++◌, codes, decimal, flat_map, if◌then◌else◌}
+use Rattle.std.specs.Prelude.{◌≡◌, ℕ, zero, suc, ◌+◌, ◌%◌, ◌^◌, ◌==◌, nat_lt, List, [], ◌∷◌, ◌++◌, codes, decimal, if◌then◌else◌}
+use Rattle.script_lang.specs.Lines.{text_of_lines}
 use Rattle.made_corpus.specs.Draws.{next_state, draw, state_after}
 use Rattle.made_corpus.specs.MadeFiles.{name_of}
 
@@ -58,10 +59,6 @@ turns_from (suc n) i state = (turn_from i state).lines ++ turns_from n (i + 1) (
 -- the lines of the script: a turn for each file
 abbrev pub made_lines : ℕ → ℕ → List (List ℕ)
 made_lines start count = turns_from count 0 ((start + 2 ^ 40) % 2 ^ 64)
-
--- lines written out, each with its newline
-abbrev pub text_of_lines : List (List ℕ) → List ℕ
-text_of_lines = flat_map (λ line. line ++ 10 ∷ [])
 
 -- the lines were appended, and this is the state after them
 pub record HasDrawnLines (drawn : DrawnLines) (old new : List ℕ) (after : ℕ) : Type 0 where

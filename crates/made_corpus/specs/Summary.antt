@@ -2,7 +2,8 @@
 use Rattle.std.specs.Prelude.{ℕ, ◌==◌, List, [], ◌∷◌, ◌++◌, length, codes, decimal, sum}
 use Rattle.std.specs.List.{filter, slice_split}
 use Rattle.gcl_model.specs.Tokens.{starts_with_byte}
-use Rattle.made_corpus.specs.MadeLines.{made_lines, text_of_lines}
+use Rattle.script_lang.specs.Lines.{text_of_lines}
+use Rattle.made_corpus.specs.MadeLines.{made_lines}
 
 -- how many lines of a text begin with an exclamation mark: of "! command" and "= 2" it is one
 abbrev pub refusals : List ℕ → ℕ

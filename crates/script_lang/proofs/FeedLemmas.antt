@@ -14,7 +14,7 @@ use Rattle.memchr.specs.Find.{Nowhere, Passes, is_byte}
 use Rattle.script_lang.specs.Feeds.{has_newline, HasShortEnd, BeginsLong, IsTakenFrom}
 use Rattle.script_lang.proofs.LineLemmas.{lines-first, cut-first, line_of-long, newline-nowhere}
 
-abbrev first_newline : List ℕ → ℕ
+abbrev pub first_newline : List ℕ → ℕ
 first_newline = position_or_len (λ b. b == 10)
 
 -- Where the first newline is.
@@ -46,7 +46,7 @@ step_behind : (t r : Bool) (n len more : ℕ) → (t || r) ≡ false → (r ≡ 
 step_behind true r n len more is next = cc
 step_behind false r n len more is next = omega (arith, next is)
 
-newline-behind : (bytes later : List ℕ) → has_newline bytes ≡ false → first_newline (bytes ++ later) ≡ length bytes + first_newline later
+pub newline-behind : (bytes later : List ℕ) → has_newline bytes ≡ false → first_newline (bytes ++ later) ≡ length bytes + first_newline later
 newline-behind [] later is = omega arith
 newline-behind (b ∷ bytes) later is =
     step_behind (b == 10) (has_newline bytes) (first_newline (bytes ++ later)) (length bytes) (first_newline later) is (newline-behind bytes later)
@@ -126,11 +126,11 @@ cut-split (b ∷ front) rest =
     step_split (b == 10) b _ _ (cut_at_newlines (front ++ 10 ∷ rest)) (cut_at_newlines (front ++ 10 ∷ [])) (cut_at_newlines rest)
     (cut-split front rest) (cut-first (front ++ 10 ∷ []) (omega (arith, length-append front (10 ∷ []))))
 
-lines-split : (most : ℕ) (front rest : List ℕ) → lines most (front ++ 10 ∷ rest) ≡ lines most (front ++ 10 ∷ []) ++ lines most rest
+pub lines-split : (most : ℕ) (front rest : List ℕ) → lines most (front ++ 10 ∷ rest) ≡ lines most (front ++ 10 ∷ []) ++ lines most rest
 lines-split most front rest = ap (map (line_of most)) (cut-split front rest) ∙ map-append (line_of most) (cut_at_newlines (front ++ 10 ∷ [])) (cut_at_newlines rest)
 
 -- the bytes at a newline, and as many behind it
-piece-parts : (piece : List ℕ) (place n : ℕ) → place < length piece → get_or piece place 0 ≡ 10 → take (place + 1 + n) piece ≡ take place piece ++ 10 ∷ take n (drop (place + 1) piece)
+pub piece-parts : (piece : List ℕ) (place n : ℕ) → place < length piece → get_or piece place 0 ≡ 10 → take (place + 1 + n) piece ≡ take place piece ++ 10 ∷ take n (drop (place + 1) piece)
 piece-parts piece place n inside here =
     let regroup : place + 1 + n ≡ place + suc n = omega arith in
     let next : drop place piece ≡ 10 ∷ drop (place + 1) piece = rw add-one (drop-cons piece place 0 inside ∙ ap (λ b. b ∷ drop (suc place) piece) here) in
@@ -207,10 +207,8 @@ pub finish-told : (said : Option Line) (most : ℕ) (held line : List ℕ) → l
 finish-told said most held line same none some is = told-some said (line_of most line) (λ last. lines most held ≡ last ∷ []) is (lines-last most held none some ∙ ap (λ text. line_of most text ∷ []) (sym same))
 
 -- what is held once a part is appended
-pub held-pushed : (bytes now part : List ℕ) (at : ℕ) → at ≤ length bytes → now ≡ bytes ++ part → drop at now ≡ take (length bytes - at) (drop at bytes) ++ part
-held-pushed bytes now part at inside is =
-    let all : take (length bytes - at) (drop at bytes) ≡ drop at bytes = take_all (length bytes - at) (drop at bytes) (omega (arith, length-drop at bytes)) in
-    ap (drop at) is ∙ drop-append-le at bytes part inside ∙ ap (λ held. held ++ part) (sym all)
+pub held-pushed : (bytes now part : List ℕ) (at : ℕ) → at ≤ length bytes → now ≡ bytes ++ part → drop at now ≡ drop at bytes ++ part
+held-pushed bytes now part at inside is = ap (drop at) is ∙ drop-append-le at bytes part inside
 
 line_end-pushed : (bytes part : List ℕ) (at : ℕ) → at ≤ length bytes → has_newline (drop at bytes) ≡ false → line_end (bytes ++ part) at ≡ length bytes + first_newline part
 line_end-pushed bytes part at inside none =

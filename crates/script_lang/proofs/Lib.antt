@@ -1,5 +1,6 @@
 pub mod AnswerLemmas
 pub mod CommandLemmas
+pub mod EndedLemmas
 pub mod FeedLemmas
 pub mod LineLemmas
 pub mod NumberLemmas

@@ -1,6 +1,6 @@
 -- Lines, worked out. 9 is a tab, 10 a newline and 13 a carriage return.
 use Rattle.std.proofs.Common.{◌≡◌, ℕ, true, false, List, [], ◌∷◌, ◌++◌, refl, codes}
-use Rattle.script_lang.specs.Lines.{Line, lines}
+use Rattle.script_lang.specs.Lines.{Line, lines, text_of_lines, ended}
 
 short : List ℕ → Line
 short bytes = record { long = false; bytes = bytes }
@@ -40,3 +40,19 @@ of_return_and_blank = refl
 of_most : lines 2 (codes "ab" ++ 10 ∷ codes "abc" ++ 10 ∷ codes "a" ++ 13 ∷ 10 ∷ codes "ab" ++ 13 ∷ 10 ∷ []) ≡ short (codes "ab") ∷ long ∷ short (codes "a") ∷ long ∷ []
 unfolding short long
 of_most = refl
+
+-- each line is written with its newline, an empty one too
+text-of_two : text_of_lines (codes "ab" ∷ [] ∷ []) ≡ codes "ab" ++ 10 ∷ 10 ∷ []
+text-of_two = refl
+
+-- what stands behind the last newline is in no whole line
+ended-with_a_rest : ended (codes "a" ++ 10 ∷ codes "b") ≡ codes "a" ++ 10 ∷ []
+ended-with_a_rest = refl
+
+-- the newline at the end belongs to the last line, and one that nothing stands before is a line
+ended-at_the_end : ended (codes "ab" ++ 10 ∷ 10 ∷ []) ≡ codes "ab" ++ 10 ∷ 10 ∷ []
+ended-at_the_end = refl
+
+-- without a newline there is no whole line
+ended-nowhere : ended (codes "ab" ++ 13 ∷ []) ≡ []
+ended-nowhere = refl

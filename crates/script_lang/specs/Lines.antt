@@ -1,5 +1,5 @@
 -- The lines of a text, and where one of them stands.
-use Rattle.std.specs.Prelude.{ℕ, ◌-◌, ◌<◌, ◌≤◌, ◌==◌, Bool, true, false, nat_lt, nat_eq, List, [], ◌∷◌, length, take, drop, map, min, ◌+◌, if◌then◌else◌, ◌≡◌}
+use Rattle.std.specs.Prelude.{ℕ, ◌-◌, ◌<◌, ◌≤◌, ◌==◌, Bool, true, false, nat_lt, nat_eq, List, [], ◌∷◌, ◌++◌, length, take, drop, map, flat_map, min, ◌+◌, if◌then◌else◌, ◌≡◌}
 use Rattle.std.specs.List.{onto_first, ends_with, slice_range, position_or_len}
 use Rattle.script_lang.specs.Blanks.{without_front, without_back}
 use Rattle.script_lang.specs.declared.line_cut.LineCut.{LineCut}
@@ -26,6 +26,20 @@ line_of most bytes = if nat_lt most (length bytes) then record { long = true; by
 -- the lines of a text
 abbrev pub lines : ℕ → List ℕ → List Line
 lines most text = map (line_of most) (cut_at_newlines text)
+
+-- lines written out, each with its newline
+abbrev pub text_of_lines : List (List ℕ) → List ℕ
+text_of_lines = flat_map (λ line. line ++ 10 ∷ [])
+
+-- the byte before others, and nothing where nothing follows
+abbrev pub before_any : ℕ → List ℕ → List ℕ
+before_any b [] = []
+before_any b (c ∷ cs) = b ∷ c ∷ cs
+
+-- the bytes up to and with the last newline
+abbrev pub ended : List ℕ → List ℕ
+ended [] = []
+ended (b ∷ rest) = if b == 10 then 10 ∷ ended rest else before_any b (ended rest)
 
 -- the line that a cut of the text tells
 abbrev pub line_of_cut : List ℕ → LineCut → Line

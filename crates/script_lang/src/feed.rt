@@ -1,5 +1,5 @@
 ghost use Rattle.std.specs.Prelude.{◌≡◌, ◌+◌, ◌<◌, ◌≤◌, ◌↔◌, ◌++◌, [], ◌∷◌, ℕ, true, false, List, Some, length, take, drop, IfOk, OnOk, OnErr, IfSome, MatchOption};
-ghost use Rattle.script_lang.specs.Lines.{line_of, lines, line_end};
+ghost use Rattle.script_lang.specs.Lines.{line_of, lines, line_end, ended};
 ghost use Rattle.script_lang.specs.Feeds.{Feed, has_newline, line_taken, BeginsLong, HasShortEnd, IsTakenFrom};
 
 use crate::blanks::front_blanks;
@@ -42,15 +42,16 @@ fn kept_len(held: &[u8], piece: &[u8], most: u64) -> usize
 /// Cuts lines from a text that comes in pieces.
 ///
 /// Contracts see the bytes that it holds, and how many a line may have. Where no newline is held, a piece is pushed;
-/// then lines are taken, until there are no more. The lines that are taken from pieces are the lines of the
-/// whole text, however it was cut. Of a line that is too long only as much is held as shows that it is.
+/// then lines are taken, until there are no more, or all whole lines are read where they lie, by `ready`, and taken
+/// at once. The lines that are taken from pieces are the lines of the whole text, however it was cut. Of a line that
+/// is too long only as much is held as shows that it is.
 #[derive(Drop)]
 pub struct LineFeed {
     most: u64,
     bytes: Vec<u8>,
     // The bytes before this place were taken.
     at: usize,
-    // No newline is held before this place, so that each byte is looked at once.
+    // No newline is held before this place, so that no search begins at the front again.
     seen: usize,
 }
 
@@ -111,8 +112,7 @@ impl LineFeed {
         ensures err { OnErr result (self.new ≡ self.old) }
     {
         self.move_to_front();
-        let held = &self.bytes.as_slice()[self.at..];
-        let kept = kept_len(held, piece, self.most);
+        let kept = kept_len(self.rest(), piece, self.most);
         self.bytes.extend_from_slice(&piece[..kept])?;
         Ok(())
     }
@@ -136,6 +136,44 @@ impl LineFeed {
         self.at = end + 1;
         self.seen = end + 1;
         Ok(taken)
+    }
+
+    /// How many bytes of what is held are whole lines.
+    fn ready_len(&self) -> usize
+        ensures value { take result self.now.held ≡ ended self.now.held }
+        ensures bound { result ≤ length self.now.held }
+    {
+        match memrchr(b'\n', &self.bytes.as_slice()[self.seen..]) {
+            Some(last) => self.seen + last + 1 - self.at,
+            None => 0,
+        }
+    }
+
+    /// The whole lines that are held: the bytes up to the last newline and with it.
+    pub fn ready(&self) -> &[u8]
+        ensures { result.now ≡ ended self.now.held }
+    {
+        &self.rest()[..self.ready_len()]
+    }
+
+    /// Takes the whole lines that are held, all at once.
+    pub fn take_ready(&mut self)
+        ensures lines { (later : List ℕ) → lines self.old.most (self.old.held ++ later) ≡ lines self.old.most (ended self.old.held) ++ lines self.old.most (self.new.held ++ later) }
+        ensures parts { self.old.held ≡ ended self.old.held ++ self.new.held }
+        ensures none { has_newline self.new.held ≡ false }
+        ensures whole { length (ended self.old.held) + length self.new.held ≡ length self.old.held }
+        ensures few { length self.new.held ≤ self.old.most + 1 }
+        ensures most { self.new.most ≡ self.old.most }
+    {
+        self.at += self.ready_len();
+        self.seen = self.bytes.len();
+    }
+
+    /// All bytes that are held: at the end of the text its last line, where that has no newline.
+    pub fn rest(&self) -> &[u8]
+        ensures { result.now ≡ self.now.held }
+    {
+        &self.bytes.as_slice()[self.at..]
     }
 
     /// Takes the last line, which has no newline, at the end of the text. Nothing is held then.

@@ -206,9 +206,47 @@ fn lines_of_pieces(
     Ok(out)
 }
 
+/// Appends the lines of a text, each as `put_taken` does.
+fn put_lines(out: &mut Vec<u8>, text: &[u8], most: u64) -> Result<(), Fail> {
+    let mut rest = text;
+    for _ in text {
+        let Some(cut) = line_at(rest, 0, most as usize) else {
+            return Ok(());
+        };
+        if cut.long {
+            out.push(b'!')?;
+        }
+        out.extend_from_slice(&rest[cut.from..cut.to])?;
+        out.push(b'|')?;
+        rest = &rest[cut.after..];
+    }
+    Ok(())
+}
+
+/// The lines of a text that comes in pieces of so many bytes: after each piece all whole lines, and then the rest.
+fn whole_lines_of_pieces(
+    rt: &impl Abort,
+    alloc: Global,
+    text: &[u8],
+    most: u64,
+    len: usize,
+) -> Result<Vec<u8>, Fail> {
+    let mut feed = LineFeed::new(alloc, most);
+    let mut out = Vec::new(alloc);
+    assert!(rt; len > 0);
+    for piece in text.chunks(len) {
+        assert!(rt; !feed.has_line());
+        feed.push(piece)?;
+        put_lines(&mut out, feed.ready(), most)?;
+        feed.take_ready();
+    }
+    put_lines(&mut out, feed.rest(), most)?;
+    Ok(out)
+}
+
 #[test]
 fn a_text_has_the_same_lines_however_it_is_cut(rt: HostRuntime) -> Result<(), Fail> {
-    let cases: [(&[u8], u64, &[u8]); 9] = [
+    let cases: [(&[u8], u64, &[u8]); 14] = [
         (b"", 5, b""),
         (b"\n\n", 5, b"||"),
         (b"a\nbc", 5, b"a|bc|"),
@@ -218,6 +256,11 @@ fn a_text_has_the_same_lines_however_it_is_cut(rt: HostRuntime) -> Result<(), Fa
         (b"ab\r\nabcd", 2, b"!|!|"),
         (b"a\n\nb\n", 0, b"!||!|"),
         (b"abcdefgh", u64::MAX, b"abcdefgh|"),
+        (b"abcdefghijklmn\nop\n", 3, b"!|op|"),
+        (b"ab\r\ncdefg\r\nh\r\n", 5, b"ab|!|h|"),
+        (b"abcdef\nabcdefg\n\nh", 7, b"abcdef|abcdefg||h|"),
+        (b"a\nb\nc\nd\ne\nf\ng", 1, b"a|b|c|d|e|f|g|"),
+        (b"abcdefghijklmnop", 3, b"!|"),
     ];
     for (text, most, want) in cases {
         for cuts in 0..256u64 {
@@ -228,6 +271,35 @@ fn a_text_has_the_same_lines_however_it_is_cut(rt: HostRuntime) -> Result<(), Fa
                 "{text:?} at most {most}, cut by {cuts}"
             );
         }
+        for len in [1, 2, 3, 7] {
+            let got = whole_lines_of_pieces(&rt, rt.alloc(), text, most, len)?;
+            assert_eq!(rt;
+                got.as_slice(),
+                want,
+                "{text:?} at most {most}, in pieces of {len}"
+            );
+        }
+    }
+    Ok(())
+}
+
+#[test]
+fn whole_lines_are_lent_up_to_the_last_newline(rt: HostRuntime) -> Result<(), Fail> {
+    let cases: [(&[u8], &[u8], &[u8]); 6] = [
+        (b"", b"", b""),
+        (b"ab", b"", b"ab"),
+        (b"\n", b"\n", b""),
+        (b"a\n\r\nb", b"a\n\r\n", b"b"),
+        (b"abcdef\nab", b"abcdef\n", b"ab"),
+        (b"a\nabcdef", b"a\n", b"abcd"),
+    ];
+    for (piece, ready, rest) in cases {
+        let mut feed = LineFeed::new(rt.alloc(), 3);
+        feed.push(piece)?;
+        assert_eq!(rt; feed.ready(), ready, "{piece:?}");
+        feed.take_ready();
+        assert_eq!(rt; feed.ready(), b"".as_slice(), "{piece:?}");
+        assert_eq!(rt; feed.rest(), rest, "{piece:?}");
     }
     Ok(())
 }

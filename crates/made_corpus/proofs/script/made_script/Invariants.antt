@@ -1,5 +1,6 @@
 use Rattle.std.proofs.Common.{◌≡◌, ◌+◌, ◌-◌, ◌*◌, ◌≤◌, ◌++◌, length}
-use Rattle.made_corpus.specs.MadeLines.{text_of_lines, turns_from, made_lines, made_text}
+use Rattle.script_lang.specs.Lines.{text_of_lines}
+use Rattle.made_corpus.specs.MadeLines.{turns_from, made_lines, made_text}
 use Rattle.made_corpus.proofs.script.made_script.Given as goal
 
 -- what is written, and then the turns that are left, is the script; and so with the number of its lines
