@@ -1,5 +1,6 @@
 ghost use Rattle.std.specs.Prelude.{◌≡◌, ◌≤◌, [], ◌∷◌, IfOk};
 ghost use Rattle.std.specs.List.{AllByRecursion};
+ghost use Rattle.gcl_model.specs.Limits.{most_readers};
 ghost use Rattle.live_version.specs.Changes.{empty_version};
 ghost use Rattle.manifest_publish.specs.Accounts.{with_pass};
 ghost use Rattle.collection.specs.Changes.{IsOpened};
@@ -24,7 +25,7 @@ pub(crate) fn opened<R: Wait>(
     first: u64,
     readers: usize,
 ) -> Result<(Engine, Vec<Reader>), OpenFault>
-    requires { readers ≤ 16 }
+    requires { readers ≤ most_readers }
     ensures { IfOk result (λ made. AllByRecursion (λ reader. reader ≡ with_pass made.0.publisher (empty_version first ∷ [])) made.1.items) }
 {
     let Opened {

@@ -3,5 +3,5 @@ pub mod ReaderLemmas
 pub mod MergeLemmas
 pub mod LaneLemmas
 pub mod EachLane
-pub mod ShortLemmas
+pub mod PageLemmas
 mod Worked

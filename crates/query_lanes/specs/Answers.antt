@@ -1,5 +1,5 @@
 -- The answer to a query over a text.
-use Rattle.std.specs.Prelude.{List, length, take, Result, Ok, Err}
+use Rattle.std.specs.Prelude.{ℕ, List, length, take, Result, Ok, Err}
 use Rattle.gcl_model.specs.Extents.{Extent}
 use Rattle.gcl_model.specs.Texts.{Text}
 use Rattle.gcl_model.specs.FormOf.{form_of}
@@ -12,10 +12,15 @@ use Rattle.query_lanes.specs.declared.asks.Ask.{Ask}
 use Rattle.query_lanes.specs.declared.asks.Found.{Found}
 use Rattle.query_lanes.specs.declared.asks.Found.TheVariants.{List as Members, Number as Count, Refused}
 
--- what is found in a list: all of it, its first so many members, or how many it has. In (1, 1), (5, 5) a query for the first one finds (1, 1)
+-- how many members are found at once: a page of a list
+abbrev pub page_size : ℕ
+page_size = 4096
+
+-- what is found in a list: the first page of all of it, or of its first so many members, or how many it has. In (1, 1), (5, 5) a query for
+-- the first one finds (1, 1)
 abbrev pub found_in : Asked → List Extent → Found
-found_in All list = Members list
-found_in (First most) list = Members (take most list)
+found_in All list = Members (take page_size list)
+found_in (First most) list = Members (take page_size (take most list))
 found_in Number list = Count (length list)
 
 -- what is found in the concordance list of an expression, or the fault for which there is none

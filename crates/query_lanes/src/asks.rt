@@ -32,7 +32,7 @@ pub struct Ask {
 /// The answer to a query.
 #[derive(Drop)]
 pub enum Found {
-    /// All members of its list, or the first of them.
+    /// The first page of the members it asks for.
     List(IntervalList),
     /// How many members its list has.
     Number(u64),

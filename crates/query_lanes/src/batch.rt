@@ -1,7 +1,9 @@
 ghost use Rattle.std.specs.Prelude.{◌≡◌, ◌≤◌, ◌<◌, ◌⊎◌, length, map, IfOk, OnOk, OnErr};
 ghost use Rattle.std.specs.Thread.{IsSync};
 ghost use Rattle.gcl_model.specs.Collections.{Collection, text_of};
+ghost use Rattle.gcl_model.specs.Limits.{most_readers};
 ghost use Rattle.collection.specs.Engines.{merge_end};
+ghost use Rattle.live_version.specs.Contents.{version_text};
 ghost use Rattle.live_version.specs.StandsFor.{StandsFor, Keeps};
 ghost use Rattle.query_lanes.specs.Answers.{answer_in};
 ghost use Rattle.query_lanes.specs.Lanes.{AreRun};
@@ -33,7 +35,7 @@ fn run_beside<R: Threads + Wait + Sync, G: Gate + Sync>(
     readers: &mut [Reader],
 ) -> Result<(), AllocError>
     requires same { length works.old ≡ length readers.old }
-    requires few { length readers.old ≤ 16 }
+    requires few { length readers.old ≤ most_readers }
     requires number { engine.old.version.number < merge_end }
     ensures lanes { AreRun asks.now (length readers.old) 0 readers.old readers.new works.new }
     ensures merged { OnOk result (IsMerged engine.old engine.new) }
@@ -44,7 +46,7 @@ fn run_beside<R: Threads + Wait + Sync, G: Gate + Sync>(
     let (_, merged) = join_mut(
         rt,
         &mut ||
-            requires { IsSync R.row × IsSync G.row × (length works.now ≡ length readers.now) × (lanes ≤ 16) × (length readers.now ≤ lanes) }
+            requires { IsSync R.row × IsSync G.row × (length works.now ≡ length readers.now) × (lanes ≤ most_readers) × (length readers.now ≤ lanes) }
             ensures { AreRun asks.entry.now lanes 0 readers.entry.now readers.exit.now works.exit.now }
         { run_lanes(rt, alloc, gate, asks, 0, lanes, works, readers) },
         &mut || -> Result<(), AllocError>
@@ -69,7 +71,7 @@ fn run_all<R: Threads + Wait + Sync, G: Gate + Sync>(
     readers: &mut [Reader],
 ) -> Result<(), AllocError>
     requires same { length works.old ≡ length readers.old }
-    requires few { length readers.old ≤ 16 }
+    requires few { length readers.old ≤ most_readers }
     requires number { engine.old.version.number < merge_end }
     ensures lanes { AreRun asks.now (length readers.old) 0 readers.old readers.new works.new }
     ensures merged { OnOk result (IsMergedWhere wanted engine.old engine.new) }
@@ -97,6 +99,7 @@ fn answer_in_turn<R: Wait, G: Gate>(
 ) -> Result<Vec<Found>, AllocError>
     requires number { engine.old.version.number < merge_end }
     ensures answers { (c : Collection) → StandsFor engine.old.version c → IfOk result (λ answers. answers.items ≡ map (answer_in (text_of c)) asks.now) }
+    ensures here { IfOk result (λ answers. answers.items ≡ map (answer_in (version_text engine.new.version)) asks.now) }
     ensures merged { OnOk result (IsMergedWhere wanted engine.old engine.new) }
     ensures err { OnErr result ((engine.new ≡ engine.old) ⊎ IsMergedWhere wanted engine.old engine.new) }
     ensures stands { Keeps engine.old.version engine.new.version }
@@ -119,10 +122,11 @@ fn answer_in_lanes<R: Threads + Wait + Sync, G: Gate + Sync>(
     readers: &mut [Reader],
 ) -> Result<Vec<Found>, AllocError>
     requires same { length works.old ≡ length readers.old }
-    requires few { length readers.old ≤ 16 }
+    requires few { length readers.old ≤ most_readers }
     requires of { AreOf engine.old.publisher readers.old }
     requires number { engine.old.version.number < merge_end }
     ensures answers { (c : Collection) → StandsFor engine.old.version c → IfOk result (λ answers. answers.items ≡ map (answer_in (text_of c)) asks.now) }
+    ensures here { IfOk result (λ answers. answers.items ≡ map (answer_in (version_text engine.new.version)) asks.now) }
     ensures merged { OnOk result (IsMergedWhere wanted engine.old engine.new) }
     ensures err { OnErr result ((engine.new ≡ engine.old) ⊎ IsMergedWhere wanted engine.old engine.new) }
     ensures stands { Keeps engine.old.version engine.new.version }
@@ -154,10 +158,11 @@ pub fn answer_batch<R: Threads + Wait + Sync, G: Gate + Sync>(
     readers: &mut [Reader],
 ) -> Result<Vec<Found>, AllocError>
     requires same { length works.old ≡ length readers.old }
-    requires few { length readers.old ≤ 16 }
+    requires few { length readers.old ≤ most_readers }
     requires of { AreOf engine.old.publisher readers.old }
     requires number { engine.old.version.number < merge_end }
     ensures answers { (c : Collection) → StandsFor engine.old.version c → IfOk result (λ answers. answers.items ≡ map (answer_in (text_of c)) asks.now) }
+    ensures here { IfOk result (λ answers. answers.items ≡ map (answer_in (version_text engine.new.version)) asks.now) }
     ensures merged { OnOk result (IsMergedWhere wanted engine.old engine.new) }
     ensures err { OnErr result ((engine.new ≡ engine.old) ⊎ IsMergedWhere wanted engine.old engine.new) }
     ensures stands { Keeps engine.old.version engine.new.version }

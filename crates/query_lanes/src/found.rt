@@ -1,4 +1,4 @@
-ghost use Rattle.std.specs.Prelude.{◌≡◌, ◌-◌, length, IfOk};
+ghost use Rattle.std.specs.Prelude.{◌≡◌, length, IfOk};
 ghost use Rattle.gcl_model.specs.FormOf.{form_of};
 ghost use Rattle.gcl_model.specs.Meaning.{concordance};
 ghost use Rattle.gcl_model.specs.WellFormed.{IsWellFormed};
@@ -8,6 +8,7 @@ ghost use Rattle.reader_pass.specs.Members.{first_members};
 ghost use Rattle.query_lanes.specs.Answers.{found_in};
 
 use crate::asks::{Asked, Found};
+use crate::pages::PAGE;
 use gcl_model::{Expr, IntervalList, Ledger, Question, Steps, uncounted};
 use manifest_publish::Pass;
 use reader_pass::{pass_count, pass_list};
@@ -97,27 +98,18 @@ fn count(pass: &Pass, expr: &Expr) -> u64
     uncounted(&MemberCount { pass, expr })
 }
 
-/// How many addresses were given before the version of the pass.
-fn address_count(pass: &Pass) -> u64
-    ensures { (v : VersionContent) → IsLatest pass.now.history v → result ≡ v.next - v.first }
-{
-    let version = pass.version();
-    version.next() - version.first()
-}
-
-/// What is asked of the list of an expression over a pass. Its look-ups are not counted.
+/// What is asked of the list of an expression over a pass, and of members at most a page. Its look-ups are not counted.
 pub fn find(alloc: Global, pass: &Pass, asked: Asked, expr: &Expr) -> Result<Found, AllocError>
     requires { IsWellFormed (form_of expr.now) }
     ensures { (v : VersionContent) → IsLatest pass.now.history v → IfOk result (λ found. found ≡ found_in asked (concordance (version_text v) (form_of expr.now))) }
 {
     match asked {
-        // no list has more members than there are addresses
         Asked::All => {
-            let members = first(alloc, pass, expr, address_count(pass))?;
+            let members = first(alloc, pass, expr, PAGE)?;
             Ok(Found::List(members))
         }
         Asked::First(most) => {
-            let members = first(alloc, pass, expr, most)?;
+            let members = first(alloc, pass, expr, most.min(PAGE))?;
             Ok(Found::List(members))
         }
         Asked::Number => Ok(Found::Number(count(pass, expr))),

@@ -1,4 +1,5 @@
 ghost use Rattle.std.specs.Prelude.{◌≡◌, ◌≤◌, ◌<◌, length, IfOk, IfSome};
+ghost use Rattle.gcl_model.specs.Limits.{most_readers};
 ghost use Rattle.query_lanes.specs.Readers.{IsLater};
 ghost use Rattle.query_lanes.specs.Lanes.{IsMadeOn, AreMadeOn, IsRun};
 
@@ -43,7 +44,7 @@ fn make_all<G: Gate>(
     made: &mut Vec<Option<Made>>,
     reader: &mut Reader,
 ) -> Result<(), AllocError>
-    requires few { lanes ≤ 16 }
+    requires few { lanes ≤ most_readers }
     requires at { at < lanes }
     ensures later { IsLater reader.old reader.new }
     ensures made { AreMadeOn asks.now lanes at reader.old reader.new made.new.items }
@@ -68,7 +69,7 @@ pub fn run_lane<G: Gate>(
     work: &mut Work,
     reader: &mut Reader,
 )
-    requires few { lanes ≤ 16 }
+    requires few { lanes ≤ most_readers }
     requires at { at < lanes }
     ensures { IsRun asks.now lanes at reader.old reader.new work.new }
 {

@@ -1,5 +1,6 @@
 ghost use Rattle.std.specs.Prelude.{◌≡◌, ◌+◌, ◌≤◌, ◌<◌, length};
 ghost use Rattle.std.specs.Thread.{IsSync};
+ghost use Rattle.gcl_model.specs.Limits.{most_readers};
 ghost use Rattle.query_lanes.specs.Lanes.{AreRun};
 
 use crate::asks::Ask;
@@ -22,7 +23,7 @@ fn run_one<G: Gate>(
 )
     requires one { length readers.old < 2 }
     requires same { length works.old ≡ length readers.old }
-    requires few { lanes ≤ 16 }
+    requires few { lanes ≤ most_readers }
     requires inside { from + length readers.old ≤ lanes }
     ensures { AreRun asks.now lanes from readers.old readers.new works.new }
 {
@@ -53,7 +54,7 @@ pub fn run_lanes<R: Threads + Sync, G: Gate + Sync>(
     readers: &mut [Reader],
 )
     requires same { length works.old ≡ length readers.old }
-    requires few { lanes ≤ 16 }
+    requires few { lanes ≤ most_readers }
     requires inside { from + length readers.old ≤ lanes }
     ensures { AreRun asks.now lanes from readers.old readers.new works.new }
 {
@@ -99,7 +100,7 @@ fn run_halves<R: Threads + Sync, G: Gate + Sync>(
     requires some_high { 0 < length readers_high.old }
     requires same_low { length works_low.old ≡ length readers_low.old }
     requires same_high { length works_high.old ≡ length readers_high.old }
-    requires few { lanes ≤ 16 }
+    requires few { lanes ≤ most_readers }
     requires inside_low { from + length readers_low.old ≤ lanes }
     requires inside_high { up + length readers_high.old ≤ lanes }
     ensures low { AreRun asks.now lanes from readers_low.old readers_low.new works_low.new }
@@ -112,11 +113,11 @@ fn run_halves<R: Threads + Sync, G: Gate + Sync>(
         return;
     }
     let mut low = ||
-        requires { IsSync R.row × IsSync G.row × (length works_low.now ≡ length readers_low.now) × (lanes ≤ 16) × (from + length readers_low.now ≤ lanes) }
+        requires { IsSync R.row × IsSync G.row × (length works_low.now ≡ length readers_low.now) × (lanes ≤ most_readers) × (from + length readers_low.now ≤ lanes) }
         ensures { AreRun asks.entry.now lanes from readers_low.entry.now readers_low.exit.now works_low.exit.now }
     { run_lanes(rt, alloc, gate, asks, from, lanes, works_low, readers_low) };
     let mut high = ||
-        requires { IsSync R.row × IsSync G.row × (length works_high.now ≡ length readers_high.now) × (lanes ≤ 16) × (up + length readers_high.now ≤ lanes) }
+        requires { IsSync R.row × IsSync G.row × (length works_high.now ≡ length readers_high.now) × (lanes ≤ most_readers) × (up + length readers_high.now ≤ lanes) }
         ensures { AreRun asks.entry.now lanes up readers_high.entry.now readers_high.exit.now works_high.exit.now }
     { run_lanes(rt, alloc, gate, asks, up, lanes, works_high, readers_high) };
     join_mut(rt, &mut low, &mut high);

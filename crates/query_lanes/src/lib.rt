@@ -5,6 +5,9 @@
 //! the threads ran. So the layer above writes the answers of `answer_batch` in the order of the queries, and may let a merge run
 //! beside each batch.
 //!
+//! Of a list at most a page is found, `PAGE` members. Whoever wants more asks for the page behind the last member that it has, with
+//! `page_behind`: so no whole list is kept, however long it is.
+//!
 //! Over the file `to be or not to be` from address 0 on, with two readers, the batch `find "to"`, `count "be"`, `top 1 "to"` is answered
 //! by the list 1 to 1, 5 to 5, the number 2 and the list 1 to 1. The first and the third query are those of the first reader's
 //! lane, and while it answers, another thread may answer the second one, and a third one merge.
@@ -24,13 +27,17 @@ mod gather;
 mod lane;
 mod lanes;
 mod merging;
+mod pages;
 mod settle;
 mod work;
 
 pub use alone::answer_alone;
 pub use asks::{Ask, Asked, Found};
 pub use batch::answer_batch;
+pub use pages::{PAGE, page_behind};
 pub use work::Work;
 
+#[cfg(test)]
+mod page_tests;
 #[cfg(test)]
 mod tests;

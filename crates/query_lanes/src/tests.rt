@@ -1,5 +1,6 @@
 ghost use Rattle.std.specs.Prelude.{◌≡◌, ◌≤◌, ◌<◌, length, IfOk};
 ghost use Rattle.gcl_model.specs.FormOf.{form_of};
+ghost use Rattle.gcl_model.specs.Limits.{most_readers};
 ghost use Rattle.gcl_model.specs.WellFormed.{IsWellFormed};
 ghost use Rattle.query_lanes.specs.Readers.{AreOf};
 
@@ -30,7 +31,7 @@ const TABLE: [(Asked, &[u8], &[u64]); 7] = [
     (Asked::Number, b"\"nobody\"", &[0]),
 ];
 
-fn query(alloc: Global, text: &[u8]) -> Result<Result<Expr, QueryFault>, AllocError>
+pub(crate) fn query(alloc: Global, text: &[u8]) -> Result<Result<Expr, QueryFault>, AllocError>
     ensures { IfOk result (λ query. IfOk query (λ expr. IsWellFormed (form_of expr))) }
 {
     match parse(alloc, text) {
@@ -70,11 +71,11 @@ fn numbers(alloc: Global, found: &Found) -> Result<Vec<u64>, AllocError> {
     Ok(numbers)
 }
 
-/// An engine of one file, and so many readers.
-fn opened<R: Wait>(rt: &R, alloc: Global, readers: usize) -> Result<Opened, AllocError>
-    requires { readers ≤ 16 }
+/// An engine of no file, and so many readers.
+pub(crate) fn opened<R: Wait>(rt: &R, alloc: Global, readers: usize) -> Result<Opened, AllocError>
+    requires { readers ≤ most_readers }
     ensures of { IfOk result (λ opened. AreOf opened.engine.publisher opened.readers.items) }
-    ensures few { IfOk result (λ opened. length opened.readers.items ≤ 16) }
+    ensures few { IfOk result (λ opened. length opened.readers.items ≤ most_readers) }
 {
     let Ok(opened) = Engine::open(rt, alloc, 0, readers) else {
         return Err(AllocError);
@@ -98,7 +99,7 @@ fn answered<R: Threads + Wait + Sync, G: Gate + Sync>(
     engine: &mut Engine,
     readers: &mut [Reader],
 ) -> Result<Vec<Found>, AllocError>
-    requires few { length readers.old ≤ 16 }
+    requires few { length readers.old ≤ most_readers }
     requires of { AreOf engine.old.publisher readers.old }
     ensures { AreOf engine.new.publisher readers.new }
 {
@@ -145,7 +146,7 @@ fn answers_batches<R: Threads + Wait + Sync>(
     engine: &mut Engine,
     readers: &mut [Reader],
 ) -> Result<bool, AllocError>
-    requires few { length readers.old ≤ 16 }
+    requires few { length readers.old ≤ most_readers }
     requires of { AreOf engine.old.publisher readers.old }
 {
     for (wanted, count) in [
@@ -169,7 +170,7 @@ fn batches_are_answered<R: Threads + Wait + Sync>(
     alloc: Global,
     readers: usize,
 ) -> Result<bool, AllocError>
-    requires { readers ≤ 16 }
+    requires { readers ≤ most_readers }
 {
     let Opened {
         mut engine,

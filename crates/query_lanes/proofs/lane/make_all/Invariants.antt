@@ -1,4 +1,5 @@
 use Rattle.std.proofs.Common.{◌≡◌, ◌+◌, ◌*◌, ◌-◌, ◌<◌, length}
+use Rattle.gcl_model.specs.Limits.{most_readers}
 use Rattle.query_lanes.specs.Readers.{IsLater}
 use Rattle.query_lanes.specs.Lanes.{AreMadeOn}
 use Rattle.query_lanes.proofs.lane.make_all.Given as goal
@@ -6,7 +7,7 @@ use Rattle.query_lanes.proofs.lane.make_all.Given as goal
 abbrev pub invariant-loop-next : goal.invariant-loop-next
 invariant-loop-next g l = record {
   place : l.next ≡ l.at + length l.made.items * l.lanes;
-  room : l.next < length l.asks + 16;
+  room : l.next < length l.asks + most_readers;
   later : IsLater l.initial.reader l.reader;
   made : AreMadeOn l.asks l.lanes l.at l.initial.reader l.reader l.made.items;
 }

@@ -1,0 +1,110 @@
+ghost use Rattle.std.specs.Prelude.{◌≡◌, ◌+◌, ◌<◌, List, ◌∷◌, ◌++◌, take, IfOk};
+ghost use Rattle.gcl_model.specs.Extents.{Extent};
+ghost use Rattle.gcl_model.specs.FormOf.{form_of};
+ghost use Rattle.gcl_model.specs.Limits.{far};
+ghost use Rattle.gcl_model.specs.Meaning.{concordance};
+ghost use Rattle.gcl_model.specs.WellFormed.{IsWellFormed};
+ghost use Rattle.live_version.specs.Contents.{version_text};
+ghost use Rattle.reader_pass.specs.Members.{first_members_from};
+
+use collection::Engine;
+use gcl_model::{Expr, Interval, IntervalList, Ledger, Question, Steps, uncounted};
+use manifest_publish::Pass;
+use reader_pass::pass_list_from;
+use std::alloc::{AllocError, Global};
+
+/// How many members of a list are found at once.
+pub const PAGE: u64 = 4_096;
+
+/// What are the first members of a concordance list over a pass that start at an address or behind it?
+#[derive(Clone, Copy)]
+struct MembersFrom<'a> {
+    alloc: Global,
+    pass: &'a Pass,
+    expr: &'a Expr,
+    from: u64,
+    limit: u64,
+}
+
+impl Question for MembersFrom<'_> {
+    ghost use Rattle.std.specs.Prelude.{◌≡◌, ◌<◌, length, IfOk};
+    ghost use Rattle.gcl_model.specs.FormOf.{form_of};
+    ghost use Rattle.gcl_model.specs.Limits.{far};
+    ghost use Rattle.gcl_model.specs.WellFormed.{IsWellFormed};
+    ghost use Rattle.live_version.specs.Contents.{VersionContent, version_text};
+    ghost use Rattle.manifest_publish.specs.Histories.{IsLatest};
+    ghost use Rattle.reader_pass.specs.Members.{first_members_from, look_ups, access_most};
+    ghost use Rattle.collection.specs.Engines.{last_of};
+
+    type Answer = Result<IntervalList, AllocError>;
+
+    ghost can_ask = { λ q. IsWellFormed (form_of q.expr.now) × (q.from < far) };
+
+    ghost answers = { λ q answer. (v : VersionContent) → IsLatest q.pass.now.history v → IfOk answer (λ members. members ≡ first_members_from (version_text v) (form_of q.expr.now) q.from q.limit) };
+
+    ghost most = { λ q _. look_ups (version_text (last_of q.pass.now.history)) (access_most (last_of q.pass.now.history)) (form_of q.expr.now) (length (first_members_from (version_text (last_of q.pass.now.history)) (form_of q.expr.now) q.from q.limit)) };
+
+    fn ask<S: Ledger>(&self, steps: &mut Steps<S>) -> Result<IntervalList, AllocError> {
+        let _version = self.pass.version();
+        pass_list_from(
+            self.alloc, self.pass, self.expr, self.from, self.limit, steps,
+        )
+    }
+}
+
+/// The first members of the list over the engine's last version that start at an address or behind it.
+fn page_from(
+    alloc: Global,
+    engine: &Engine,
+    expr: &Expr,
+    from: u64,
+    most: u64,
+) -> Result<IntervalList, AllocError>
+    requires well_formed { IsWellFormed (form_of expr.now) }
+    requires below { from < far }
+    ensures { IfOk result (λ page. page ≡ first_members_from (version_text engine.now.version) (form_of expr.now) from most) }
+{
+    // by it the history is known to end with the engine's version
+    let _version = engine.version();
+    let pass = engine.pass()?;
+    let page = uncounted(&MembersFrom {
+        alloc,
+        pass: &pass,
+        expr,
+        from,
+        limit: most,
+    })?;
+    Ok(page)
+}
+
+/// The address behind the start of a member: the next member starts there at the earliest.
+fn next_start(engine: &Engine, expr: &Expr, last: Interval) -> u64
+    requires member { (before : List Extent) × (rest : List Extent) × (concordance (version_text engine.now.version) (form_of expr.now) ≡ before ++ last ∷ rest) }
+    ensures value { result ≡ last.start + 1 }
+    ensures below { result < far }
+{
+    // by it addresses are known to end
+    let _version = engine.version();
+    last.start + 1
+}
+
+/// The members of a list behind one of them, and no more than `most` of these, on the engine's own pass. Each is found by leaping from
+/// there on, so a page takes the look-ups of its own members alone. At `Err` memory was wanted.
+///
+/// Over `to be or not to be` from address 0 on, of the list of `"to"` behind the interval from 1 to 1 there is the one from 5 to 5, and
+/// behind this there is none.
+pub fn page_behind(
+    alloc: Global,
+    engine: &Engine,
+    expr: &Expr,
+    last: Interval,
+    most: u64,
+) -> Result<IntervalList, AllocError>
+    requires well_formed { IsWellFormed (form_of expr.now) }
+    requires member { (before : List Extent) × (rest : List Extent) × (concordance (version_text engine.now.version) (form_of expr.now) ≡ before ++ last ∷ rest) }
+    ensures { IfOk result (λ page. (before rest : List Extent) → concordance (version_text engine.now.version) (form_of expr.now) ≡ before ++ last ∷ rest → page ≡ take most rest) }
+{
+    let from = next_start(engine, expr, last);
+    let page = page_from(alloc, engine, expr, from, most)?;
+    Ok(page)
+}
