@@ -6,6 +6,7 @@ pub mod ChainRules
 pub mod OperandLemmas
 pub mod ChainSteps
 pub mod Listing
+pub mod KnownLemmas
 mod Worked
 pub mod ContainLoops
 pub mod ContainForms

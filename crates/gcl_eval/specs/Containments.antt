@@ -6,6 +6,8 @@ use Rattle.gcl_contain.specs.Kinds.{Kind, first_from, last_upto}
 use Rattle.gcl_contain.specs.Kinds as Kinds
 use Rattle.gcl_model.specs.declared.containment.Containment.{Containment}
 use Rattle.gcl_model.specs.declared.containment.Containment.TheVariants.{Containing, ContainedIn, NotContaining, NotContainedIn}
+use Rattle.gcl_eval.specs.declared.direction.Access.{Access}
+use Rattle.gcl_eval.specs.declared.direction.Access.TheVariants.{FirstStart, FirstEnd, LastEnd, LastStart}
 use Rattle.gcl_model.specs.declared.direction.Direction.{Direction}
 use Rattle.gcl_model.specs.declared.direction.Direction.TheVariants.{Forward, Backward}
 
@@ -28,6 +30,17 @@ loop_of Backward Containing = Kinds.containing_back
 loop_of Backward ContainedIn = Kinds.contained_in_back
 loop_of Backward NotContaining = Kinds.not_containing_back
 loop_of Backward NotContainedIn = Kinds.not_contained_in_back
+
+-- the access by which the loop asks the second operand at each member: forward, that of "containing" asks for a first start
+abbrev pub asks : Direction → Containment → Access
+asks Forward Containing = FirstStart
+asks Forward ContainedIn = FirstEnd
+asks Forward NotContaining = FirstStart
+asks Forward NotContainedIn = FirstEnd
+asks Backward Containing = LastEnd
+asks Backward ContainedIn = LastStart
+asks Backward NotContaining = LastEnd
+asks Backward NotContainedIn = LastStart
 
 -- the access of the first operand by which the loop goes on: forward by ends, of (1, 2) and (5, 6) at 2 it gives (1, 2)
 abbrev pub goes_by : Direction → Kind → List Extent → ℕ → Option Extent

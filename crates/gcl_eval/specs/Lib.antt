@@ -3,3 +3,4 @@ pub mod Directions
 pub mod Containments
 pub mod Costs
 pub mod Members
+pub mod KnownAnswers

@@ -52,6 +52,9 @@ pub(crate) fn access<C: CountedLeaves>(
         Expr::Containing(_, _)
         | Expr::ContainedIn(_, _)
         | Expr::NotContaining(_, _)
-        | Expr::NotContainedIn(_, _) => containment_access(expr, access, source, k, counter),
+        | Expr::NotContainedIn(_, _) => {
+            let mut known = None;
+            containment_access(expr, access, source, k, &mut known, counter)
+        }
     }
 }

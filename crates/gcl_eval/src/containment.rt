@@ -5,7 +5,7 @@ ghost use Rattle.gcl_model.specs.Extents.{Extent};
 ghost use Rattle.gcl_model.specs.FormOf.{form_of, containment_form};
 ghost use Rattle.gcl_contain.specs.Moves.{move_of};
 ghost use Rattle.gcl_eval.specs.Directions.{access_of};
-ghost use Rattle.gcl_eval.specs.Containments.{IsContainment, loop_of, goes_by};
+ghost use Rattle.gcl_eval.specs.Containments.{IsContainment, loop_of, goes_by, asks};
 
 use crate::direction::Access;
 use gcl_contain::{
@@ -53,6 +53,7 @@ pub(crate) fn question(
     member: Interval,
 ) -> (Access, u64)
     requires { member.end < address_end }
+    ensures access { result.0 ≡ asks direction containment }
     ensures asks { (list : List Extent) → access_of result.0 list result.1 ≡ (loop_of direction containment).ask list member }
     ensures below { result.1 < far }
 {

@@ -1,4 +1,4 @@
-ghost use Rattle.std.specs.Prelude.{◌≡◌, ◌<◌, ◌≤◌, map, IfOk};
+ghost use Rattle.std.specs.Prelude.{◌≡◌, ◌<◌, ◌≤◌, length, map, IfOk};
 ghost use Rattle.gcl_model.specs.Limits.{address_end, far};
 ghost use Rattle.gcl_model.specs.Forms.{forms_count};
 ghost use Rattle.gcl_model.specs.FormOf.{form_of, forms_from};
@@ -199,6 +199,18 @@ fn two(alloc: Global, chain: Chain, a: &str, b: &str) -> Result<Expr, AllocError
     pair(alloc, chain, term(alloc, a)?, term(alloc, b)?)
 }
 
+/// One of these words.
+fn one_of(alloc: Global, words: &[&str]) -> Result<Expr, AllocError>
+    requires { 2 ≤ length words.now }
+    ensures { IfOk result (λ expr. IsWellFormed (form_of expr)) }
+{
+    let mut operands = Vec::new(alloc);
+    for word in words {
+        operands.push(term(alloc, word)?)?;
+    }
+    Ok(node(Chain::One, operands))
+}
+
 fn contain(alloc: Global, kind: Containment, a: Expr, b: Expr) -> Result<Expr, AllocError>
     requires a_well_formed { IsWellFormed (form_of a) }
     requires b_well_formed { IsWellFormed (form_of b) }
@@ -350,6 +362,76 @@ fn each_kind_of_chain_has_the_members_of_the_plain_list(rt: HostRuntime) -> Resu
     Ok(())
 }
 
+/// Each place of a token that is one of these words.
+fn places_of(alloc: Global, tokens: &[&str], words: &[&str]) -> Result<Vec<Interval>, AllocError> {
+    let mut places = Vec::new(alloc);
+    for (i, token) in tokens.iter().enumerate() {
+        if words.iter().any(|word| word == token) {
+            places.push(interval(i as u64, i as u64))?;
+        }
+    }
+    Ok(places)
+}
+
+const LETTERS: [&str; 12] = ["a", "b", "a", "c", "b", "a", "b", "d", "e", "f", "g", "h"];
+
+const ALPHABET: [&str; 17] = [
+    "a", "b", "c", "d", "e", "f", "g", "h", "i", "j", "k", "l", "m", "n", "o", "p", "q",
+];
+
+/// Each operand is looked up once at first, and once more for each of its members; the last of 65 has no place and is asked at each turn.
+#[test]
+fn one_of_many_words_has_the_places_of_each(rt: HostRuntime) -> Result<(), Fail> {
+    let alloc = rt.alloc();
+    let tokens = TokenList::of(alloc, &LETTERS)?;
+    assert_eq!(rt; tokens.len(), 12);
+    let text = &of_tokens(alloc, 0, &tokens)?;
+    let mut many = ["none"; 65];
+    many[0] = "c";
+    many[63] = "a";
+    many[64] = "b";
+    for (words, look_ups) in [
+        (&ALPHABET[..2], 8),
+        (&ALPHABET[..3], 10),
+        (&ALPHABET[..8], 20),
+        (&ALPHABET[..16], 28),
+        (&ALPHABET[..17], 29),
+        (&ALPHABET[12..], 5),
+        (many.as_slice(), 76),
+    ] {
+        assert!(rt; words.len() >= 2);
+        let want = places_of(alloc, &LETTERS, words)?;
+        let expr = &one_of(alloc, words)?;
+        assert_eq!(rt;
+            counted(&Count { expr, text }),
+            (want.len() as u64, look_ups)
+        );
+        has(&rt, alloc, text, one_of(alloc, words)?, want.as_slice())?;
+    }
+    Ok(())
+}
+
+/// The first answer of `"or" ^ "to"`, (1, 3), has (1, 2) in it: it is passed together with that, and the operand is asked again.
+#[test]
+fn one_of_longer_operands_has_the_members_of_the_plain_list(rt: HostRuntime) -> Result<(), Fail> {
+    let alloc = rt.alloc();
+    let tokens = TokenList::of(alloc, &HAMLET)?;
+    assert_eq!(rt; tokens.len(), 8);
+    let text = of_tokens(alloc, 0, &tokens)?;
+    let mut operands = Vec::new(alloc);
+    operands.push(phrase(alloc, "to", "be")?)?;
+    operands.push(two(alloc, Chain::Seq, "be", "not")?)?;
+    operands.push(two(alloc, Chain::Both, "or", "to")?)?;
+    let want = [
+        interval(1, 2),
+        interval(2, 4),
+        interval(3, 5),
+        interval(5, 6),
+    ];
+    has(&rt, alloc, &text, node(Chain::One, operands), &want)?;
+    Ok(())
+}
+
 #[test]
 fn each_kind_of_containment_has_the_members_of_the_plain_list(rt: HostRuntime) -> Result<(), Fail> {
     let alloc = rt.alloc();
@@ -432,6 +514,57 @@ fn counting_a_containment_takes_turns_alone(rt: HostRuntime) -> Result<(), Fail>
     let to = term(alloc, "to")?;
     let expr = &contain(alloc, Containment::ContainedIn, to, term(alloc, "to")?)?;
     assert_eq!(rt; counted(&Count { expr, text }), (2, 5));
+    Ok(())
+}
+
+/// At (2, 3) the second operand's answer is (4, 4), and at the next member, (3, 6), it still is: only the first one is asked again.
+#[test]
+fn a_containment_asks_its_second_operand_once_while_the_answer_holds(
+    rt: HostRuntime,
+) -> Result<(), Fail> {
+    let alloc = rt.alloc();
+    let tokens = TokenList::of(alloc, &HAMLET)?;
+    assert_eq!(rt; tokens.len(), 8);
+    let text = &of_tokens(alloc, 0, &tokens)?;
+    let or_and_be = two(alloc, Chain::Both, "or", "be")?;
+    let expr = &contain(
+        alloc,
+        Containment::Containing,
+        or_and_be,
+        term(alloc, "not")?,
+    )?;
+    let asked = AccessAt {
+        expr,
+        text,
+        access: Access::FirstStart,
+        k: 0,
+    };
+    assert_eq!(rt; counted(&asked), (Some(interval(3, 6)), 13));
+    Ok(())
+}
+
+/// The one "h" is looked up once for all three members, and "a" once for each and once more.
+#[test]
+fn a_count_keeps_what_is_known_of_the_second_operand_from_member_to_member(
+    rt: HostRuntime,
+) -> Result<(), Fail> {
+    let alloc = rt.alloc();
+    let tokens = TokenList::of(alloc, &LETTERS)?;
+    assert_eq!(rt; tokens.len(), 12);
+    let text = &of_tokens(alloc, 0, &tokens)?;
+    let all = [interval(0, 0), interval(2, 2), interval(5, 5)];
+    let a = term(alloc, "a")?;
+    let expr = contain(alloc, Containment::NotContaining, a, term(alloc, "h")?)?;
+    let count = Count { expr: &expr, text };
+    assert_eq!(rt; counted(&count), (3, 5));
+    has(&rt, alloc, text, expr, &all)?;
+    let c_to_h = two(alloc, Chain::Seq, "c", "h")?;
+    let a = term(alloc, "a")?;
+    let expr = contain(alloc, Containment::NotContainedIn, a, c_to_h)?;
+    has(&rt, alloc, text, expr, &all[..2])?;
+    let a_to_b = two(alloc, Chain::Seq, "a", "b")?;
+    let expr = contain(alloc, Containment::Containing, a_to_b, term(alloc, "c")?)?;
+    has(&rt, alloc, text, expr, &[interval(2, 4)])?;
     Ok(())
 }
 

@@ -1,4 +1,4 @@
-use Rattle.std.proofs.Common.{◌+◌, Some, None, drop, ap, sym, ◌∙◌, arith, rules}
+use Rattle.std.proofs.Common.{◌+◌, Some, None, drop, ap, sym, ◌∙◌, subst, arith, rules}
 use Rattle.gcl_model.specs.Forms.{term, phrase, width, both, one, seq}
 use Rattle.gcl_model.specs.FormOf.{form_of}
 use Rattle.gcl_model.specs.Meaning.{concordance}
@@ -10,6 +10,8 @@ use Rattle.gcl_eval.proofs.Found.{access_within}
 use Rattle.gcl_eval.proofs.ChainRules.{back_is_as_far}
 use Rattle.gcl_eval.proofs.OperandLemmas.{costs_beside, parts_beside, depth_beside, form-Both, form-One, form-Seq, by_form-near}
 use Rattle.gcl_eval.proofs.ChainSteps.{walk_ends, walk_next, farthest_next, best_next, best_all, farther_below, both_far, both_near, seq_found, seq_far, seq_near, joins, near_within, far_ends}
+use Rattle.gcl_eval.specs.KnownAnswers.{IsKnown}
+use Rattle.gcl_eval.proofs.KnownLemmas.{told_is, asked_second, kept_second}
 use Rattle.gcl_eval.proofs.ContainLoops.{goes_below}
 use Rattle.gcl_eval.proofs.ContainForms.{both_operands, access_spans, spans_below}
 use Rattle.gcl_eval.proofs.ContainSteps.{node_enters, node_enters_none, node_accepts, node_finishes, node_ends, node_goes_on, node_more_turns, fewer_left, none_within, starts_within, stops_within, ends_within, goes_within}
@@ -276,12 +278,13 @@ containments::containment_access-loop-next-init g t c =
     record {
       reached = node_enters c.operands-containment.result.0 (g.C.CountedLeaves.text c.args.source.now) (form_of c.args.expr.now) (form_of c.operands-containment.result.1.now) (form_of c.operands-containment.result.2.now) c.operands-containment.ensures.form c.args.wanted c.direction-direction.result c.direction-direction.ensures c.args.k c.in_ok-member.member c.in_ok-member.ensures.answer;
       within = c.in_ok-member.ensures.within;
+      known = asked_second c.direction-direction.result c.args.wanted c.direction-direction.ensures c.operands-containment.result.0 (g.C.CountedLeaves.text c.args.source.now) (form_of c.args.expr.now) (form_of c.operands-containment.result.1.now) (form_of c.operands-containment.result.2.now) c.operands-containment.ensures.form c.args.known.now c.requires.known;
       counted = c.access.ensures.counted;
       cost = starts_within c.operands-containment.result.0 (g.C.CountedLeaves.text c.args.source.now) (form_of c.args.expr.now) (form_of c.operands-containment.result.1.now) (form_of c.operands-containment.result.2.now) c.operands-containment.ensures.form (g.C.CountedLeaves.most c.args.source.now) (g.C.CountedLeaves.count c.args.counter.now) c.direction-direction.result c.in_ok-member.member (g.C.CountedLeaves.count c.access.new.counter) c.access.ensures.cost;
     }
 
-pub containments::containment_access-access-answer-requires : goal.containments::containment_access-access-answer-requires
-containments::containment_access-access-answer-requires g t c =
+pub containments::containment_access-known_access-answer-requires : goal.containments::containment_access-known_access-answer-requires
+containments::containment_access-known_access-answer-requires g t c =
     let parts = both_operands c.operands-containment.result.0 (form_of c.args.expr.now) (form_of c.operands-containment.result.1.now) (form_of c.operands-containment.result.2.now) c.operands-containment.ensures.form c.requires.well_formed in
     let below = c.question-asked.ensures.below in
     search rules
@@ -290,54 +293,77 @@ pub containments::containment_access-turn-requires : goal.containments::containm
 containments::containment_access-turn-requires g t c =
     record {
       member_below = let within = c.loop-next.invariant.within in omega arith;
-      answer_below = spans_below c.access-answer.result (access_spans c.question-asked.result.0 (g.C.CountedLeaves.text c.args.source.now) (form_of c.operands-containment.result.2.now) c.question-asked.result.1 c.access-answer.result c.access-answer.ensures.within c.access-answer.ensures.answer);
+      answer_below = spans_below c.known_access-answer.result (access_spans c.question-asked.result.0 (g.C.CountedLeaves.text c.args.source.now) (form_of c.operands-containment.result.2.now) c.question-asked.result.1 c.known_access-answer.result c.known_access-answer.ensures.within c.known_access-answer.ensures.answer);
     }
 
 pub containments::containment_access-returns-in-Accept-clause-answer : goal.containments::containment_access-returns-in-Accept-clause-answer
 containments::containment_access-returns-in-Accept-clause-answer g t c =
-    node_accepts c.operands-containment.result.0 (g.C.CountedLeaves.text c.args.source.now) (form_of c.args.expr.now) (form_of c.operands-containment.result.1.now) (form_of c.operands-containment.result.2.now) c.operands-containment.ensures.form c.direction-direction.result (access_of c.args.wanted (concordance (g.C.CountedLeaves.text c.args.source.now) (form_of c.args.expr.now)) c.args.k) c.loop-next.member c.loop-next.invariant.reached c.question-asked.result.0 c.question-asked.result.1 c.question-asked.ensures.asks c.access-answer.result c.access-answer.ensures.answer c.in-Accept.ensures
+    node_accepts c.operands-containment.result.0 (g.C.CountedLeaves.text c.args.source.now) (form_of c.args.expr.now) (form_of c.operands-containment.result.1.now) (form_of c.operands-containment.result.2.now) c.operands-containment.ensures.form c.direction-direction.result (access_of c.args.wanted (concordance (g.C.CountedLeaves.text c.args.source.now) (form_of c.args.expr.now)) c.args.k) c.loop-next.member c.loop-next.invariant.reached c.question-asked.result.0 c.question-asked.result.1 c.question-asked.ensures.asks c.known_access-answer.result c.known_access-answer.ensures.answer c.in-Accept.ensures
 
 pub containments::containment_access-returns-in-Accept-clause-cost : goal.containments::containment_access-returns-in-Accept-clause-cost
 containments::containment_access-returns-in-Accept-clause-cost g t c =
-    stops_within c.operands-containment.result.0 (g.C.CountedLeaves.text c.args.source.now) (form_of c.args.expr.now) (form_of c.operands-containment.result.1.now) (form_of c.operands-containment.result.2.now) c.operands-containment.ensures.form (g.C.CountedLeaves.most c.args.source.now) (g.C.CountedLeaves.count c.args.counter.now) c.direction-direction.result c.loop-next.member (g.C.CountedLeaves.count c.loop-next.counter) c.loop-next.invariant.cost (g.C.CountedLeaves.count c.access-answer.new.counter) c.access-answer.ensures.cost
+    stops_within c.operands-containment.result.0 (g.C.CountedLeaves.text c.args.source.now) (form_of c.args.expr.now) (form_of c.operands-containment.result.1.now) (form_of c.operands-containment.result.2.now) c.operands-containment.ensures.form (g.C.CountedLeaves.most c.args.source.now) (g.C.CountedLeaves.count c.args.counter.now) c.direction-direction.result c.loop-next.member (g.C.CountedLeaves.count c.loop-next.counter) c.loop-next.invariant.cost (g.C.CountedLeaves.count c.known_access-answer.new.counter) c.known_access-answer.ensures.cost
 
 pub containments::containment_access-returns-in-Finish-clause-answer : goal.containments::containment_access-returns-in-Finish-clause-answer
 containments::containment_access-returns-in-Finish-clause-answer g t c =
-    node_finishes c.operands-containment.result.0 (g.C.CountedLeaves.text c.args.source.now) (form_of c.args.expr.now) (form_of c.operands-containment.result.1.now) (form_of c.operands-containment.result.2.now) c.operands-containment.ensures.form c.direction-direction.result (access_of c.args.wanted (concordance (g.C.CountedLeaves.text c.args.source.now) (form_of c.args.expr.now)) c.args.k) c.loop-next.member c.loop-next.invariant.reached c.question-asked.result.0 c.question-asked.result.1 c.question-asked.ensures.asks c.access-answer.result c.access-answer.ensures.answer c.in-Finish.ensures
+    node_finishes c.operands-containment.result.0 (g.C.CountedLeaves.text c.args.source.now) (form_of c.args.expr.now) (form_of c.operands-containment.result.1.now) (form_of c.operands-containment.result.2.now) c.operands-containment.ensures.form c.direction-direction.result (access_of c.args.wanted (concordance (g.C.CountedLeaves.text c.args.source.now) (form_of c.args.expr.now)) c.args.k) c.loop-next.member c.loop-next.invariant.reached c.question-asked.result.0 c.question-asked.result.1 c.question-asked.ensures.asks c.known_access-answer.result c.known_access-answer.ensures.answer c.in-Finish.ensures
 
 pub containments::containment_access-returns-in-Finish-clause-cost : goal.containments::containment_access-returns-in-Finish-clause-cost
 containments::containment_access-returns-in-Finish-clause-cost g t c =
-    stops_within c.operands-containment.result.0 (g.C.CountedLeaves.text c.args.source.now) (form_of c.args.expr.now) (form_of c.operands-containment.result.1.now) (form_of c.operands-containment.result.2.now) c.operands-containment.ensures.form (g.C.CountedLeaves.most c.args.source.now) (g.C.CountedLeaves.count c.args.counter.now) c.direction-direction.result c.loop-next.member (g.C.CountedLeaves.count c.loop-next.counter) c.loop-next.invariant.cost (g.C.CountedLeaves.count c.access-answer.new.counter) c.access-answer.ensures.cost
+    stops_within c.operands-containment.result.0 (g.C.CountedLeaves.text c.args.source.now) (form_of c.args.expr.now) (form_of c.operands-containment.result.1.now) (form_of c.operands-containment.result.2.now) c.operands-containment.ensures.form (g.C.CountedLeaves.most c.args.source.now) (g.C.CountedLeaves.count c.args.counter.now) c.direction-direction.result c.loop-next.member (g.C.CountedLeaves.count c.loop-next.counter) c.loop-next.invariant.cost (g.C.CountedLeaves.count c.known_access-answer.new.counter) c.known_access-answer.ensures.cost
 
 pub containments::containment_access-access-requires-in-GoTo : goal.containments::containment_access-access-requires-in-GoTo
 containments::containment_access-access-requires-in-GoTo g t c =
     let parts = both_operands c.operands-containment.result.0 (form_of c.args.expr.now) (form_of c.operands-containment.result.1.now) (form_of c.operands-containment.result.2.now) c.operands-containment.ensures.form c.requires.well_formed in
-    let spans = access_spans c.question-asked.result.0 (g.C.CountedLeaves.text c.args.source.now) (form_of c.operands-containment.result.2.now) c.question-asked.result.1 c.access-answer.result c.access-answer.ensures.within c.access-answer.ensures.answer in
-    let below = goes_below c.direction-direction.result c.operands-containment.result.0 c.loop-next.member c.access-answer.result c.in-GoTo.next spans c.in-GoTo.ensures in
+    let spans = access_spans c.question-asked.result.0 (g.C.CountedLeaves.text c.args.source.now) (form_of c.operands-containment.result.2.now) c.question-asked.result.1 c.known_access-answer.result c.known_access-answer.ensures.within c.known_access-answer.ensures.answer in
+    let below = goes_below c.direction-direction.result c.operands-containment.result.0 c.loop-next.member c.known_access-answer.result c.in-GoTo.next spans c.in-GoTo.ensures in
     search rules
 
 pub containments::containment_access-returns-in_err-member-in-GoTo-clause-answer : goal.containments::containment_access-returns-in_err-member-in-GoTo-clause-answer
 containments::containment_access-returns-in_err-member-in-GoTo-clause-answer g t c =
     let from = rw c.goes_by-onward.ensures at c.in_err-member-in-GoTo.ensures.answer in
-    let r = node_ends c.operands-containment.result.0 (g.C.CountedLeaves.text c.args.source.now) (form_of c.args.expr.now) (form_of c.operands-containment.result.1.now) (form_of c.operands-containment.result.2.now) c.operands-containment.ensures.form c.direction-direction.result (access_of c.args.wanted (concordance (g.C.CountedLeaves.text c.args.source.now) (form_of c.args.expr.now)) c.args.k) c.loop-next.member c.loop-next.invariant.reached c.question-asked.result.0 c.question-asked.result.1 c.question-asked.ensures.asks c.access-answer.result c.access-answer.ensures.answer c.in-GoTo.next c.in-GoTo.ensures from in
+    let r = node_ends c.operands-containment.result.0 (g.C.CountedLeaves.text c.args.source.now) (form_of c.args.expr.now) (form_of c.operands-containment.result.1.now) (form_of c.operands-containment.result.2.now) c.operands-containment.ensures.form c.direction-direction.result (access_of c.args.wanted (concordance (g.C.CountedLeaves.text c.args.source.now) (form_of c.args.expr.now)) c.args.k) c.loop-next.member c.loop-next.invariant.reached c.question-asked.result.0 c.question-asked.result.1 c.question-asked.ensures.asks c.known_access-answer.result c.known_access-answer.ensures.answer c.in-GoTo.next c.in-GoTo.ensures from in
     search rules
 
 pub containments::containment_access-returns-in_err-member-in-GoTo-clause-cost : goal.containments::containment_access-returns-in_err-member-in-GoTo-clause-cost
 containments::containment_access-returns-in_err-member-in-GoTo-clause-cost g t c =
-    let r = ends_within c.operands-containment.result.0 (g.C.CountedLeaves.text c.args.source.now) (form_of c.args.expr.now) (form_of c.operands-containment.result.1.now) (form_of c.operands-containment.result.2.now) c.operands-containment.ensures.form (g.C.CountedLeaves.most c.args.source.now) (g.C.CountedLeaves.count c.args.counter.now) c.direction-direction.result c.loop-next.member (g.C.CountedLeaves.count c.loop-next.counter) c.loop-next.invariant.cost (g.C.CountedLeaves.count c.access-answer.new.counter) (g.C.CountedLeaves.count c.access-in-GoTo.new.counter) c.access-answer.ensures.cost c.access-in-GoTo.ensures.cost in
+    let r = ends_within c.operands-containment.result.0 (g.C.CountedLeaves.text c.args.source.now) (form_of c.args.expr.now) (form_of c.operands-containment.result.1.now) (form_of c.operands-containment.result.2.now) c.operands-containment.ensures.form (g.C.CountedLeaves.most c.args.source.now) (g.C.CountedLeaves.count c.args.counter.now) c.direction-direction.result c.loop-next.member (g.C.CountedLeaves.count c.loop-next.counter) c.loop-next.invariant.cost (g.C.CountedLeaves.count c.known_access-answer.new.counter) (g.C.CountedLeaves.count c.access-in-GoTo.new.counter) c.known_access-answer.ensures.cost c.access-in-GoTo.ensures.cost in
     search rules
 
 pub containments::containment_access-loop-next-smaller : goal.containments::containment_access-loop-next-smaller
 containments::containment_access-loop-next-smaller g t c =
     let from = rw c.goes_by-onward.ensures at c.in_ok-member-in-GoTo.ensures.answer in
-    fewer_left c.operands-containment.result.0 (g.C.CountedLeaves.text c.args.source.now) (form_of c.args.expr.now) (form_of c.operands-containment.result.1.now) (form_of c.operands-containment.result.2.now) c.operands-containment.ensures.form c.direction-direction.result (access_of c.args.wanted (concordance (g.C.CountedLeaves.text c.args.source.now) (form_of c.args.expr.now)) c.args.k) c.loop-next.member c.loop-next.invariant.reached c.question-asked.result.0 c.question-asked.result.1 c.question-asked.ensures.asks c.access-answer.result c.access-answer.ensures.answer c.in-GoTo.next c.in-GoTo.ensures c.in_ok-member-in-GoTo.member from
+    fewer_left c.operands-containment.result.0 (g.C.CountedLeaves.text c.args.source.now) (form_of c.args.expr.now) (form_of c.operands-containment.result.1.now) (form_of c.operands-containment.result.2.now) c.operands-containment.ensures.form c.direction-direction.result (access_of c.args.wanted (concordance (g.C.CountedLeaves.text c.args.source.now) (form_of c.args.expr.now)) c.args.k) c.loop-next.member c.loop-next.invariant.reached c.question-asked.result.0 c.question-asked.result.1 c.question-asked.ensures.asks c.known_access-answer.result c.known_access-answer.ensures.answer c.in-GoTo.next c.in-GoTo.ensures c.in_ok-member-in-GoTo.member from
 
 pub containments::containment_access-loop-next-preserved : goal.containments::containment_access-loop-next-preserved
 containments::containment_access-loop-next-preserved g t c =
     let from = rw c.goes_by-onward.ensures at c.in_ok-member-in-GoTo.ensures.answer in
     record {
-      reached = node_goes_on c.operands-containment.result.0 (g.C.CountedLeaves.text c.args.source.now) (form_of c.args.expr.now) (form_of c.operands-containment.result.1.now) (form_of c.operands-containment.result.2.now) c.operands-containment.ensures.form c.direction-direction.result (access_of c.args.wanted (concordance (g.C.CountedLeaves.text c.args.source.now) (form_of c.args.expr.now)) c.args.k) c.loop-next.member c.loop-next.invariant.reached c.question-asked.result.0 c.question-asked.result.1 c.question-asked.ensures.asks c.access-answer.result c.access-answer.ensures.answer c.in-GoTo.next c.in-GoTo.ensures c.in_ok-member-in-GoTo.member from;
+      reached = node_goes_on c.operands-containment.result.0 (g.C.CountedLeaves.text c.args.source.now) (form_of c.args.expr.now) (form_of c.operands-containment.result.1.now) (form_of c.operands-containment.result.2.now) c.operands-containment.ensures.form c.direction-direction.result (access_of c.args.wanted (concordance (g.C.CountedLeaves.text c.args.source.now) (form_of c.args.expr.now)) c.args.k) c.loop-next.member c.loop-next.invariant.reached c.question-asked.result.0 c.question-asked.result.1 c.question-asked.ensures.asks c.known_access-answer.result c.known_access-answer.ensures.answer c.in-GoTo.next c.in-GoTo.ensures c.in_ok-member-in-GoTo.member from;
       within = c.in_ok-member-in-GoTo.ensures.within;
-      counted = omega (arith, c.loop-next.invariant.counted, c.access-answer.ensures.counted, c.access-in-GoTo.ensures.counted);
-      cost = goes_within c.operands-containment.result.0 (g.C.CountedLeaves.text c.args.source.now) (form_of c.args.expr.now) (form_of c.operands-containment.result.1.now) (form_of c.operands-containment.result.2.now) c.operands-containment.ensures.form (g.C.CountedLeaves.most c.args.source.now) (g.C.CountedLeaves.count c.args.counter.now) c.direction-direction.result c.loop-next.member (g.C.CountedLeaves.count c.loop-next.counter) c.loop-next.invariant.cost c.in_ok-member-in-GoTo.member (node_more_turns c.operands-containment.result.0 (g.C.CountedLeaves.text c.args.source.now) (form_of c.args.expr.now) (form_of c.operands-containment.result.1.now) (form_of c.operands-containment.result.2.now) c.operands-containment.ensures.form c.direction-direction.result (access_of c.args.wanted (concordance (g.C.CountedLeaves.text c.args.source.now) (form_of c.args.expr.now)) c.args.k) c.loop-next.member c.loop-next.invariant.reached c.question-asked.result.0 c.question-asked.result.1 c.question-asked.ensures.asks c.access-answer.result c.access-answer.ensures.answer c.in-GoTo.next c.in-GoTo.ensures c.in_ok-member-in-GoTo.member from) (g.C.CountedLeaves.count c.access-answer.new.counter) (g.C.CountedLeaves.count c.access-in-GoTo.new.counter) c.access-answer.ensures.cost c.access-in-GoTo.ensures.cost;
+      known = subst (λ asked. IsKnown asked (concordance (g.C.CountedLeaves.text c.args.source.now) (form_of c.operands-containment.result.2.now)) c.known_access-answer.new.known) c.question-asked.ensures.access c.known_access-answer.ensures.known;
+      counted = omega (arith, c.loop-next.invariant.counted, c.known_access-answer.ensures.counted, c.access-in-GoTo.ensures.counted);
+      cost = goes_within c.operands-containment.result.0 (g.C.CountedLeaves.text c.args.source.now) (form_of c.args.expr.now) (form_of c.operands-containment.result.1.now) (form_of c.operands-containment.result.2.now) c.operands-containment.ensures.form (g.C.CountedLeaves.most c.args.source.now) (g.C.CountedLeaves.count c.args.counter.now) c.direction-direction.result c.loop-next.member (g.C.CountedLeaves.count c.loop-next.counter) c.loop-next.invariant.cost c.in_ok-member-in-GoTo.member (node_more_turns c.operands-containment.result.0 (g.C.CountedLeaves.text c.args.source.now) (form_of c.args.expr.now) (form_of c.operands-containment.result.1.now) (form_of c.operands-containment.result.2.now) c.operands-containment.ensures.form c.direction-direction.result (access_of c.args.wanted (concordance (g.C.CountedLeaves.text c.args.source.now) (form_of c.args.expr.now)) c.args.k) c.loop-next.member c.loop-next.invariant.reached c.question-asked.result.0 c.question-asked.result.1 c.question-asked.ensures.asks c.known_access-answer.result c.known_access-answer.ensures.answer c.in-GoTo.next c.in-GoTo.ensures c.in_ok-member-in-GoTo.member from) (g.C.CountedLeaves.count c.known_access-answer.new.counter) (g.C.CountedLeaves.count c.access-in-GoTo.new.counter) c.known_access-answer.ensures.cost c.access-in-GoTo.ensures.cost;
     }
+
+-- what is known of the second operand
+pub containments::containment_access-returns-in-Accept-clause-known : goal.containments::containment_access-returns-in-Accept-clause-known
+containments::containment_access-returns-in-Accept-clause-known g t c =
+    kept_second c.direction-direction.result c.args.wanted c.direction-direction.ensures c.operands-containment.result.0 (g.C.CountedLeaves.text c.args.source.now) (form_of c.args.expr.now) (form_of c.operands-containment.result.1.now) (form_of c.operands-containment.result.2.now) c.operands-containment.ensures.form c.known_access-answer.new.known c.question-asked.result.0 c.question-asked.ensures.access c.known_access-answer.ensures.known
+
+pub containments::containment_access-returns-in-Finish-clause-known : goal.containments::containment_access-returns-in-Finish-clause-known
+containments::containment_access-returns-in-Finish-clause-known g t c =
+    kept_second c.direction-direction.result c.args.wanted c.direction-direction.ensures c.operands-containment.result.0 (g.C.CountedLeaves.text c.args.source.now) (form_of c.args.expr.now) (form_of c.operands-containment.result.1.now) (form_of c.operands-containment.result.2.now) c.operands-containment.ensures.form c.known_access-answer.new.known c.question-asked.result.0 c.question-asked.ensures.access c.known_access-answer.ensures.known
+
+pub containments::containment_access-returns-in_err-member-in-GoTo-clause-known : goal.containments::containment_access-returns-in_err-member-in-GoTo-clause-known
+containments::containment_access-returns-in_err-member-in-GoTo-clause-known g t c =
+    kept_second c.direction-direction.result c.args.wanted c.direction-direction.ensures c.operands-containment.result.0 (g.C.CountedLeaves.text c.args.source.now) (form_of c.args.expr.now) (form_of c.operands-containment.result.1.now) (form_of c.operands-containment.result.2.now) c.operands-containment.ensures.form c.known_access-answer.new.known c.question-asked.result.0 c.question-asked.ensures.access c.known_access-answer.ensures.known
+
+-- an answer that is known
+pub known::known_access-returns-in-Some-clause-answer : goal.known::known_access-returns-in-Some-clause-answer
+known::known_access-returns-in-Some-clause-answer g t c =
+    (told_is c.args.wanted (concordance (g.C.CountedLeaves.text c.args.source.now) (form_of c.args.expr.now)) c.args.known.now c.requires.known c.args.k c.in-Some.answer c.in-Some.ensures).0
+
+pub known::known_access-returns-in-Some-clause-within : goal.known::known_access-returns-in-Some-clause-within
+known::known_access-returns-in-Some-clause-within g t c =
+    (told_is c.args.wanted (concordance (g.C.CountedLeaves.text c.args.source.now) (form_of c.args.expr.now)) c.args.known.now c.requires.known c.args.k c.in-Some.answer c.in-Some.ensures).1

@@ -8,6 +8,8 @@ use Rattle.gcl_model.specs.Cost.{cost}
 use Rattle.gcl_model.specs.WellFormed.{AreWellFormed}
 use Rattle.gcl_eval.specs.Operands.{operand_forms, operand_lists, operand_costs}
 use Rattle.gcl_eval.specs.Directions.{access_of, farthest, best, walk}
+use Rattle.gcl_eval.specs.Containments.{asks}
+use Rattle.gcl_eval.specs.KnownAnswers.{IsKnown}
 use Rattle.gcl_eval.proofs.ContainLoops.{IsAt, turns}
 use Rattle.gcl_eval.proofs.+access.Given as goal
 
@@ -66,6 +68,7 @@ invariant-containments::containment_access-loop-next g l =
     record {
       reached : IsAt l.direction l.containment members node (access_of l.fn.wanted node l.k) l.member;
       within : l.member.end < address_end;
+      known : IsKnown (asks l.direction l.containment) others l.known;
       counted : g.C.CountedLeaves.count l.fn.counter ≤ g.C.CountedLeaves.count l.counter;
       cost : g.C.CountedLeaves.count l.counter ≤ g.C.CountedLeaves.count l.fn.counter + first + turns l.direction l.containment members others l.member * (first + second);
     }
@@ -80,6 +83,9 @@ decreases-containments::containment_access-loop-next g l =
 -- the depth, and at one depth the caller above those that it calls
 abbrev pub decreases-access::access : goal.decreases-access::access
 decreases-access::access g l = 8 * size-Expr l.expr.now + 4
+
+abbrev pub decreases-known::known_access : goal.decreases-known::known_access
+decreases-known::known_access g l = 8 * size-Expr l.expr.now + 5
 
 abbrev pub decreases-containments::containment_access : goal.decreases-containments::containment_access
 decreases-containments::containment_access g l = 8 * size-Expr l.expr.now + 1

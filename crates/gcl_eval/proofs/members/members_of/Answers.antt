@@ -5,6 +5,7 @@ use Rattle.gcl_model.specs.Meaning.{concordance}
 use Rattle.gcl_model.proofs.Meanings.{concordance_rises}
 use Rattle.gcl_eval.specs.Costs.{near_cost}
 use Rattle.gcl_eval.specs.Members.{members_from}
+use Rattle.gcl_eval.proofs.KnownLemmas.{none_is_known}
 use Rattle.gcl_eval.proofs.Listing.{next_member, put_next, put_counted, full, none_left, one_more}
 use Rattle.gcl_eval.proofs.members.members_of.Goals as goal
 use Rattle.gcl_eval.proofs.members.members_of.Goals.{else-loop-page-test, then-loop-page-test+in_default}
@@ -12,7 +13,7 @@ use Rattle.gcl_eval.proofs.members.members_of.Goals.{else-loop-page-test, then-l
 pub loop-page-init : goal.loop-page-init
 loop-page-init g c =
     let below = c.requires.below in
-    record { kept = rw c.new-members.ensures refl; few = rw c.new-members.ensures (omega arith); below = below; counted = omega arith; cost = rw c.new-members.ensures (omega arith) }
+    record { kept = rw c.new-members.ensures refl; few = rw c.new-members.ensures (omega arith); below = below; known = none_is_known 64 (g.C.CountedLeaves.text c.args.source.now) (form_of c.args.expr.now); counted = omega arith; cost = rw c.new-members.ensures (omega arith) }
 
 pub loop-page-smaller : goal.loop-page-smaller
 loop-page-smaller g c =
@@ -38,9 +39,10 @@ loop-page-preserved g c =
       kept = rw c.in_ok-push.ensures.ok (put_next list (members_from list c.args.page.from) c.loop-page.members c.loop-page.from c.loop-page.invariant.kept c.in-Some.member (c.member.inside.start + 1) next);
       few = omega arith;
       below = omega arith;
-      counted = omega (arith, c.loop-page.invariant.counted, c.access.ensures.counted);
-      cost = rw put (one_more (g.C.CountedLeaves.count c.args.counter.now) (g.C.CountedLeaves.count c.loop-page.counter) (g.C.CountedLeaves.count c.access.new.counter) (length c.loop-page.members)
-          (near_cost text (g.C.CountedLeaves.most c.args.source.now) (form_of c.args.expr.now)) c.loop-page.invariant.cost c.access.ensures.cost_by_access);
+      known = c.next_member.ensures.known;
+      counted = omega (arith, c.loop-page.invariant.counted, c.next_member.ensures.counted);
+      cost = rw put (one_more (g.C.CountedLeaves.count c.args.counter.now) (g.C.CountedLeaves.count c.loop-page.counter) (g.C.CountedLeaves.count c.next_member.new.counter) (length c.loop-page.members)
+          (near_cost text (g.C.CountedLeaves.most c.args.source.now) (form_of c.args.expr.now)) c.loop-page.invariant.cost c.next_member.ensures.cost);
     }
 
 pub returns-clause-ok : goal.returns-clause-ok
@@ -49,5 +51,5 @@ returns-clause-ok g c =
     let few = c.loop-page.invariant.few in
     elim c.loop-page-test.branch [
       | else-loop-page-test w ↦ full list (members_from list c.args.page.from) c.loop-page.members c.loop-page.from c.loop-page.invariant.kept c.args.page.most (let done = w.loop-page-test.false in omega arith)
-      | then-loop-page-test+in_default w ↦ none_left list (members_from list c.args.page.from) c.loop-page.members c.loop-page.from c.loop-page.invariant.kept c.args.page.most (sym w.access.ensures.answer ∙ w.in_default.is) few
+      | then-loop-page-test+in_default w ↦ none_left list (members_from list c.args.page.from) c.loop-page.members c.loop-page.from c.loop-page.invariant.kept c.args.page.most (sym w.next_member.ensures.answer ∙ w.in_default.is) few
     ]

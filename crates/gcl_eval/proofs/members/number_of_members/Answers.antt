@@ -6,13 +6,14 @@ use Rattle.gcl_model.proofs.Meanings.{concordance_rises}
 use Rattle.gcl_eval.specs.Costs.{near_cost}
 use Rattle.gcl_eval.specs.Members.{members_from}
 use Rattle.gcl_eval.proofs.CostLemmas.{within_cost}
+use Rattle.gcl_eval.proofs.KnownLemmas.{none_is_known}
 use Rattle.gcl_eval.proofs.Listing.{all_members, next_member, no_member, from_le, one_more}
 use Rattle.gcl_eval.proofs.members.number_of_members.Goals as goal
 
 pub loop-member-init : goal.loop-member-init
 loop-member-init g c =
     let all = ap length (all_members (concordance (g.C.CountedLeaves.text c.args.source.now) (form_of c.args.expr.now))) in
-    record { kept = omega arith; few = omega arith; below = omega arith; counted = omega arith; cost = omega arith }
+    record { kept = omega arith; few = omega arith; below = omega arith; known = none_is_known 64 (g.C.CountedLeaves.text c.args.source.now) (form_of c.args.expr.now); counted = omega arith; cost = omega arith }
 
 pub loop-member-smaller : goal.loop-member-smaller
 loop-member-smaller g c =
@@ -37,14 +38,15 @@ loop-member-preserved g c =
       kept = omega arith;
       few = omega arith;
       below = omega arith;
-      counted = omega (arith, c.loop-member.invariant.counted, c.access.ensures.counted);
-      cost = one_more (g.C.CountedLeaves.count c.args.counter.now) (g.C.CountedLeaves.count c.loop-member.counter) (g.C.CountedLeaves.count c.access.new.counter) c.loop-member.members
-          (near_cost text (g.C.CountedLeaves.most c.args.source.now) (form_of c.args.expr.now)) c.loop-member.invariant.cost c.access.ensures.cost_by_access;
+      known = c.next_member.ensures.known;
+      counted = omega (arith, c.loop-member.invariant.counted, c.next_member.ensures.counted);
+      cost = one_more (g.C.CountedLeaves.count c.args.counter.now) (g.C.CountedLeaves.count c.loop-member.counter) (g.C.CountedLeaves.count c.next_member.new.counter) c.loop-member.members
+          (near_cost text (g.C.CountedLeaves.most c.args.source.now) (form_of c.args.expr.now)) c.loop-member.invariant.cost c.next_member.ensures.cost;
     }
 
 pub returns-clause-value : goal.returns-clause-value
 returns-clause-value g c =
-    let none = ap length (no_member (concordance (g.C.CountedLeaves.text c.args.source.now) (form_of c.args.expr.now)) c.loop-member.from (sym c.access.ensures.answer ∙ c.in_default.is)) in
+    let none = ap length (no_member (concordance (g.C.CountedLeaves.text c.args.source.now) (form_of c.args.expr.now)) c.loop-member.from (sym c.next_member.ensures.answer ∙ c.in_default.is)) in
     omega arith
 
 pub returns-clause-cost : goal.returns-clause-cost
@@ -52,6 +54,6 @@ returns-clause-cost g c =
     let text = g.C.CountedLeaves.text c.args.source.now in
     let most = g.C.CountedLeaves.most c.args.source.now in
     let old = g.C.CountedLeaves.count c.args.counter.now in
-    let new = g.C.CountedLeaves.count c.access.new.counter in
+    let new = g.C.CountedLeaves.count c.next_member.new.counter in
     within_cost text most (form_of c.args.expr.now) old new (c.loop-member.members + 1)
-    (one_more old (g.C.CountedLeaves.count c.loop-member.counter) new c.loop-member.members (near_cost text most (form_of c.args.expr.now)) c.loop-member.invariant.cost c.access.ensures.cost_by_access)
+    (one_more old (g.C.CountedLeaves.count c.loop-member.counter) new c.loop-member.members (near_cost text most (form_of c.args.expr.now)) c.loop-member.invariant.cost c.next_member.ensures.cost)

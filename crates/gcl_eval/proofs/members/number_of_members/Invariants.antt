@@ -3,6 +3,7 @@ use Rattle.gcl_model.specs.Limits.{address_end}
 use Rattle.gcl_model.specs.FormOf.{form_of}
 use Rattle.gcl_model.specs.Meaning.{concordance}
 use Rattle.gcl_eval.specs.Costs.{near_cost}
+use Rattle.gcl_eval.specs.KnownAnswers.{KnowsOperands}
 use Rattle.gcl_eval.specs.Members.{members_from}
 use Rattle.gcl_eval.proofs.members.number_of_members.Given as goal
 
@@ -15,6 +16,7 @@ invariant-loop-member g l =
       kept : l.members + length (members_from list l.from) ≡ length list;
       few : l.members ≤ l.from;
       below : l.from ≤ address_end;
+      known : KnowsOperands text (form_of l.expr) l.known;
       counted : g.C.CountedLeaves.count l.fn.counter ≤ g.C.CountedLeaves.count l.counter;
       cost : g.C.CountedLeaves.count l.counter ≤ g.C.CountedLeaves.count l.fn.counter + l.members * near_cost text (g.C.CountedLeaves.most l.source) (form_of l.expr);
     }

@@ -1,0 +1,109 @@
+//! Answers that are known.
+//!
+//! What an access found at one position it finds wherever that position is passed and the member is not: the first member
+//! that starts at 2 or later, (5, 6), is the first from 4 on, too. So who asks at positions that go on keeps the last
+//! answer, and asks again where it was passed.
+
+ghost use Rattle.std.specs.Prelude.{◌≡◌, ◌+◌, ◌<◌, ◌≤◌, IfSome};
+ghost use Rattle.gcl_model.specs.Limits.{address_end, far};
+ghost use Rattle.gcl_model.specs.FormOf.{form_of};
+ghost use Rattle.gcl_model.specs.Meaning.{concordance};
+ghost use Rattle.gcl_model.specs.Cost.{cost};
+ghost use Rattle.gcl_model.specs.WellFormed.{IsWellFormed};
+ghost use Rattle.gcl_eval.specs.Directions.{access_of};
+ghost use Rattle.gcl_eval.specs.KnownAnswers.{goes_on, lies_beyond, stays, told, IsKnown};
+
+use crate::access::access;
+use crate::direction::Access;
+use gcl_model::{CountedLeaves, Expr, Interval};
+
+/// An answer of an access, and where it was asked.
+#[derive(Clone, Copy)]
+pub(crate) struct Known {
+    at: u64,
+    answer: Option<Interval>,
+}
+
+/// Whether `k` is a position where the access, asked at `at` before, comes to.
+fn goes_on(access: Access, at: u64, k: u64) -> bool
+    ensures { result ≡ goes_on access at k }
+{
+    match access {
+        Access::FirstStart | Access::FirstEnd => at <= k,
+        Access::LastEnd | Access::LastStart => k <= at,
+    }
+}
+
+/// Whether a member is one that the access at `k` may find.
+fn lies_beyond(access: Access, k: u64, member: Interval) -> bool
+    ensures { result ≡ lies_beyond access k member }
+{
+    match access {
+        Access::FirstStart => k <= member.start,
+        Access::FirstEnd => k <= member.end,
+        Access::LastEnd => member.end <= k,
+        Access::LastStart => member.start <= k,
+    }
+}
+
+/// Whether the access at `k` does not pass over the member that it found before, where there was one.
+fn stays(access: Access, answer: Option<Interval>, k: u64) -> bool
+    ensures { result ≡ stays access answer k }
+{
+    match answer {
+        None => true,
+        Some(member) => lies_beyond(access, k, member),
+    }
+}
+
+/// The answer that is known, where it is that at `k`, too.
+fn told(access: Access, known: Option<Known>, k: u64) -> Option<Option<Interval>>
+    ensures { result ≡ told access known k }
+{
+    match known {
+        Some(known) if goes_on(access, known.at, k) && stays(access, known.answer, k) => {
+            Some(known.answer)
+        }
+        _ => None,
+    }
+}
+
+fn asked_at(at: u64, answer: &Option<Interval>) -> Known
+    ensures at { result.at ≡ at }
+    ensures answer { result.answer ≡ answer.now }
+{
+    Known {
+        at,
+        answer: *answer,
+    }
+}
+
+/// An access of an expression: the answer that is known where it holds, else a new one, which is kept in its place.
+#[cycle(access)]
+pub(crate) fn known_access<C: CountedLeaves>(
+    expr: &Expr,
+    wanted: Access,
+    source: &C,
+    k: u64,
+    known: &mut Option<Known>,
+    counter: &mut C::Counter,
+) -> Option<Interval>
+    requires well_formed { IsWellFormed (form_of expr.now) }
+    requires below { k < far }
+    requires known { IsKnown wanted (concordance (C.text source.now) (form_of expr.now)) known.old }
+    ensures answer { result ≡ access_of wanted (concordance (C.text source.now) (form_of expr.now)) k }
+    ensures within { IfSome result (λ a. a.end < address_end) }
+    ensures known { IsKnown wanted (concordance (C.text source.now) (form_of expr.now)) known.new }
+    ensures counted { C.count counter.old ≤ C.count counter.new }
+    ensures cost { C.count counter.new ≤ C.count counter.old + cost (C.text source.now) (C.most source.now) (form_of expr.now) }
+{
+    let last = *known;
+    match told(wanted, last, k) {
+        Some(answer) => answer,
+        None => {
+            let answer = access(expr, wanted, source, k, counter);
+            *known = Some(asked_at(k, &answer));
+            answer
+        }
+    }
+}

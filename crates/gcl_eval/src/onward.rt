@@ -1,0 +1,124 @@
+//! From member to member of an expression.
+//!
+//! Of "one of", the last answer of each operand is kept, and of a containment that of the second one: it is asked again
+//! only where its member was passed. Of 64 words one is looked up at each member, and the other 63 are known.
+
+ghost use Rattle.std.specs.Prelude.{◌≡◌, ◌+◌, ◌<◌, ◌≤◌, IfSome, set, get_or, None};
+ghost use Rattle.gcl_model.specs.Limits.{address_end, far};
+ghost use Rattle.gcl_model.specs.Forms.{one};
+ghost use Rattle.gcl_model.specs.FormOf.{form_of};
+ghost use Rattle.gcl_model.specs.Meaning.{concordance};
+ghost use Rattle.gcl_model.specs.Access.{first_start};
+ghost use Rattle.gcl_model.specs.Cost.{cost};
+ghost use Rattle.gcl_model.specs.WellFormed.{IsWellFormed};
+ghost use Rattle.gcl_eval.specs.Containments.{IsContainment};
+ghost use Rattle.gcl_eval.specs.Costs.{near_cost};
+ghost use Rattle.gcl_eval.specs.Operands.{operand_forms, operand_lists, operand_costs, AreOperands};
+ghost use Rattle.gcl_eval.specs.KnownAnswers.{AreKnown, KnowsOperands};
+
+use crate::access::access;
+use crate::containments::containment_access;
+use crate::direction::{Access, better};
+use crate::known::{Known, known_access};
+use gcl_model::{CountedLeaves, Direction, Expr, Interval};
+
+/// How many operands have a place for their last answer. A count takes no memory, so these places stand in an array.
+pub(crate) const MOST_KNOWN: usize = 64;
+
+/// The first member from `k` on, and what is known of the operands after it.
+pub(crate) fn next_member<C: CountedLeaves>(
+    expr: &Expr,
+    source: &C,
+    k: u64,
+    known: &mut [Option<Known>; MOST_KNOWN],
+    counter: &mut C::Counter,
+) -> Option<Interval>
+    requires well_formed { IsWellFormed (form_of expr.now) }
+    requires below { k < far }
+    requires known { KnowsOperands (C.text source.now) (form_of expr.now) known.old }
+    ensures answer { result ≡ first_start (concordance (C.text source.now) (form_of expr.now)) k }
+    ensures within { IfSome result (λ a. a.end < address_end) }
+    ensures known { KnowsOperands (C.text source.now) (form_of expr.now) known.new }
+    ensures counted { C.count counter.old ≤ C.count counter.new }
+    ensures cost { C.count counter.new ≤ C.count counter.old + near_cost (C.text source.now) (C.most source.now) (form_of expr.now) }
+{
+    match expr {
+        Expr::One(operands) => first_of_one(operands, source, k, known, counter),
+        Expr::Containing(_, _)
+        | Expr::ContainedIn(_, _)
+        | Expr::NotContaining(_, _)
+        | Expr::NotContainedIn(_, _) => first_of_containment(expr, source, k, known, counter),
+        _ => access(expr, Access::FirstStart, source, k, counter),
+    }
+}
+
+/// "One of": the best of the operands' answers, of which those that are known are not asked for again.
+fn first_of_one<C: CountedLeaves>(
+    operands: &[Expr],
+    source: &C,
+    k: u64,
+    known: &mut [Option<Known>; MOST_KNOWN],
+    counter: &mut C::Counter,
+) -> Option<Interval>
+    requires operands { AreOperands (operand_forms operands.now) }
+    requires below { k < far }
+    requires known { AreKnown (operand_lists (C.text source.now) operands.now) known.old }
+    ensures answer { result ≡ first_start (concordance (C.text source.now) (one (operand_forms operands.now))) k }
+    ensures within { IfSome result (λ a. a.end < address_end) }
+    ensures known { AreKnown (operand_lists (C.text source.now) operands.now) known.new }
+    ensures counted { C.count counter.old ≤ C.count counter.new }
+    ensures cost { C.count counter.new ≤ C.count counter.old + operand_costs (C.text source.now) (C.most source.now) operands.now }
+{
+    let mut best = None;
+    for (number, operand) in operands.iter().enumerate() {
+        let mut last = known_of(known, number);
+        let answer = known_access(operand, Access::FirstStart, source, k, &mut last, counter);
+        keep(known, number, last);
+        best = better(Direction::Forward, best, answer);
+    }
+    best
+}
+
+/// A containment: what is known of its second operand has the first place.
+fn first_of_containment<C: CountedLeaves>(
+    expr: &Expr,
+    source: &C,
+    k: u64,
+    known: &mut [Option<Known>; MOST_KNOWN],
+    counter: &mut C::Counter,
+) -> Option<Interval>
+    requires containment { IsContainment (form_of expr.now) }
+    requires well_formed { IsWellFormed (form_of expr.now) }
+    requires below { k < far }
+    requires known { KnowsOperands (C.text source.now) (form_of expr.now) known.old }
+    ensures answer { result ≡ first_start (concordance (C.text source.now) (form_of expr.now)) k }
+    ensures within { IfSome result (λ a. a.end < address_end) }
+    ensures known { KnowsOperands (C.text source.now) (form_of expr.now) known.new }
+    ensures counted { C.count counter.old ≤ C.count counter.new }
+    ensures cost { C.count counter.new ≤ C.count counter.old + cost (C.text source.now) (C.most source.now) (form_of expr.now) }
+{
+    let mut last = known_of(known, 0);
+    let answer = containment_access(expr, Access::FirstStart, source, k, &mut last, counter);
+    keep(known, 0, last);
+    answer
+}
+
+/// What is known of the operand with this number.
+fn known_of(known: &[Option<Known>; MOST_KNOWN], number: usize) -> Option<Known>
+    ensures { result ≡ get_or known.now number None }
+{
+    if number < MOST_KNOWN {
+        known[number]
+    } else {
+        None
+    }
+}
+
+/// Keeps what is known of the operand with this number, where it has a place.
+fn keep(known: &mut [Option<Known>; MOST_KNOWN], number: usize, last: Option<Known>)
+    ensures { known.new ≡ set known.old number last }
+{
+    if number < MOST_KNOWN {
+        known[number] = last;
+    }
+}
