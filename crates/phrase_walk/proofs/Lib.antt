@@ -1,8 +1,9 @@
 pub mod Finds
 pub mod Places
-pub mod Near
+pub mod Rows
 pub mod Passed
 pub mod Members
-pub mod Sums
+pub mod Ring
+pub mod Asked
 pub mod Steps
 mod Worked

@@ -10,7 +10,7 @@ use Rattle.gcl_model.proofs.Covers.{Has, find_agree_on, find_last_agree_on}
 use Rattle.gcl_model.proofs.Minimal.{filter_has, has_filter, has_extent, same_truth}
 use Rattle.gcl_model.proofs.Meanings.{concordance_rises}
 use Rattle.phrase_walk.proofs.Places.{held_within}
-use Rattle.phrase_walk.proofs.Near.{InRow, row_parts}
+use Rattle.phrase_walk.proofs.Rows.{InRow, row_parts}
 use Rattle.phrase_walk.proofs.Finds.{none_first, none_last, one_first, one_last}
 
 -- a row lies within the text

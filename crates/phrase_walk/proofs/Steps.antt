@@ -1,84 +1,20 @@
--- The steps of the walks, token by token and turn by turn.
-use Rattle.std.proofs.Common.{◌≡◌, ℕ, suc, ◌+◌, ◌-◌, ◌*◌, ◌<◌, ◌≤◌, List, [], ◌∷◌, ◌++◌, length, drop, get_or, Option, Some, None, inl, inr, refl, sym, ap, ◌∙◌, subst, arith, le_refl}
-use Rattle.std.specs.Option.{option_and_then}
+-- The steps of the walks, token by token.
+use Rattle.std.proofs.Common.{◌≡◌, ℕ, ◌+◌, ◌-◌, ◌*◌, ◌<◌, ◌≤◌, ◌⊎◌, List, length, Some, None, inl, inr, refl, sym, subst, arith}
 use Rattle.std.proofs.lemmas.Bool.{cases_lt}
-use Rattle.gcl_model.specs.Extents.{Extent, extent}
+use Rattle.std.proofs.Math.Nat.{mul-le-mul_right}
+use Rattle.gcl_model.specs.Extents.{extent}
 use Rattle.gcl_model.specs.Access.{first_start, last_start}
-use Rattle.gcl_model.specs.Texts.{Text, Word, IsText, next_place, previous_place}
+use Rattle.gcl_model.specs.Texts.{Text, IsText, next_place, previous_place, places}
 use Rattle.gcl_model.specs.Forms.{phrase}
 use Rattle.gcl_model.specs.Meaning.{concordance}
-use Rattle.gcl_model.specs.Limits.{address_end}
-use Rattle.phrase_walk.specs.Rows.{IsRowFrom, row_end, row_start, place_before}
-use Rattle.phrase_walk.proofs.Places.{Held, next_tells, none_next}
-use Rattle.phrase_walk.proofs.Near.{InRow, AreNear, near_row, end_tells, none_end, start_tells, none_start}
+use Rattle.gcl_model.specs.Cost.{fewest_places}
+use Rattle.phrase_walk.specs.Rounds.{rounds_cost}
+use Rattle.phrase_walk.proofs.Places.{Held, next_tells, none_next, previous_tells, none_previous}
+use Rattle.phrase_walk.proofs.Rows.{InRow, token_at, IsInPlace, row_place, places_row, fewest_of_each}
+use Rattle.phrase_walk.proofs.Passed.{places_before, before_most, before_rises, before_more}
 use Rattle.phrase_walk.proofs.Members.{row_within, first_row, no_first_row, last_row, no_last_row}
-use Rattle.phrase_walk.proofs.Passed.{fewest_passed, fewest_more}
-
-pub token_count : (rest : List (List ℕ)) (t : List ℕ) (others : List (List ℕ)) → rest ≡ t ∷ others → length rest ≡ length others + 1
-token_count rest t others e = rw e (omega arith)
-
-pub end_next : (words : List Word) (rest : List (List ℕ)) (t : List ℕ) (others : List (List ℕ)) (at : ℕ) (whole : Option ℕ) → rest ≡ t ∷ others →
-    row_end words rest at ≡ whole → (o : Option ℕ) → o ≡ next_place words t at → option_and_then (λ q. row_end words others (q + 1)) o ≡ whole
-end_next words rest t others at whole item kept o is =
-    ap (option_and_then (λ q. row_end words others (q + 1))) is ∙ ap (λ ts. row_end words ts at) (sym item) ∙ kept
-
-pub place_within : (text : Text) → IsText text → (t : List ℕ) (k q : ℕ) → Some q ≡ next_place text.words t k → q + 1 ≤ address_end
-place_within text sound t k q is =
-    let below : q < text.next = (next_tells text t sound k q (sym is)).within in
-    let bound : text.next ≤ address_end = sound.in_range in
-    omega arith
-
--- the tokens go on behind the first place of the first one
-pub row_by_first : (words : List Word) (tokens : List (List ℕ)) (t : List ℕ) (others : List (List ℕ)) (p : ℕ) (o : Option ℕ) → tokens ≡ t ∷ others → o ≡ next_place words t p →
-    option_and_then (λ q. row_end words others (q + 1)) o ≡ row_end words tokens p
-row_by_first words tokens t others p o item is = ap (option_and_then (λ q. row_end words others (q + 1))) is ∙ ap (λ ts. row_end words ts p) (sym item)
-
--- where a token stands, it is the first from there on
-next_here : (text : Text) → IsText text → (t : List ℕ) (q : ℕ) → Held text t q → (o : Option ℕ) → next_place text.words t q ≡ o → Some q ≡ next_place text.words t q
-next_here text sound t q held None at = absurd (none_next text t sound q at q held (le_refl q))
-next_here text sound t q held (Some r) at =
-    let n = next_tells text t sound q r at in
-    let from : q ≤ r = n.from in
-    let upto : r ≤ q = n.least q held (le_refl q) in
-    let same : q ≡ r = omega arith in
-    ap Some same ∙ sym at
-
-pub row_is : (text : Text) → IsText text → (tokens : List (List ℕ)) (t : List ℕ) (others : List (List ℕ)) (p q e : ℕ) → tokens ≡ t ∷ others → Some q ≡ next_place text.words t p → Some e ≡ row_end text.words others (q + 1) →
-    IsRowFrom text.words tokens p q e
-row_is text sound tokens t others p q e item at is =
-    let n = next_tells text t sound p q (sym at) in
-    record {
-      from = n.from;
-      ends = sym (is ∙ row_by_first text.words tokens t others p (Some q) item at);
-      again = sym (is ∙ row_by_first text.words tokens t others q (Some q) item (next_here text sound t q n.held (next_place text.words t q) refl));
-    }
-
-start_none : (words : List Word) (tokens : List (List ℕ)) → row_start words tokens None ≡ None
-start_none words [] = refl
-start_none words (t ∷ ts) = rw (start_none words ts) refl
-
-start_snoc : (words : List Word) (tokens : List (List ℕ)) (t : List ℕ) (o : Option ℕ) → row_start words (tokens ++ t ∷ []) o ≡ row_start words tokens (place_before words t o)
-start_snoc words [] t o = refl
-start_snoc words (x ∷ tokens) t o = ap (place_before words x) (start_snoc words tokens t o)
-
-nothing_before : (words : List Word) (t : List ℕ) (at : ℕ) → at ≡ 0 → None ≡ place_before words t (Some at)
-nothing_before words t at e = ap (λ n. place_before words t (Some n)) (sym e)
-
-place_before-suc : (words : List Word) (t : List ℕ) (at b : ℕ) → at ≡ b + 1 → previous_place words t b ≡ place_before words t (Some at)
-place_before-suc words t at b e = let is : suc b ≡ at = omega arith in ap (λ n. place_before words t (Some n)) is
-
-module _ (words : List Word) (rest others : List (List ℕ)) (t : List ℕ) (at : ℕ) (whole : Option ℕ) (item : rest ≡ others ++ t ∷ []) (kept : row_start words rest (Some at) ≡ whole) where
-  start_on : (o : Option ℕ) → o ≡ place_before words t (Some at) → row_start words others o ≡ whole
-  start_on o is = ap (row_start words others) is ∙ sym (start_snoc words others t (Some at)) ∙ ap (λ ts. row_start words ts (Some at)) (sym item) ∙ kept
-
-  pub start_next : (b : ℕ) → at ≡ b + 1 → (o : Option ℕ) → o ≡ previous_place words t b → row_start words others o ≡ whole
-  start_next b before o is = start_on o (is ∙ place_before-suc words t at b before)
-
-  pub start_lost : (b : ℕ) → at ≡ b + 1 → None ≡ previous_place words t b → None ≡ whole
-  start_lost b before is = sym (start_none words others) ∙ start_next b before None is
-
-  pub start_at_zero : at ≡ 0 → None ≡ whole
-  start_at_zero zero_is = sym (start_none words others) ∙ start_on None (nothing_before words t at zero_is)
+use Rattle.phrase_walk.proofs.Ring.{ring_agrees, ring_rounds}
+use Rattle.phrase_walk.proofs.Asked.{IsAskedWithin, asked_stays, asked_moves, asked_bound}
 
 -- no row starts from k on before s; and none from behind s up to k
 abbrev pub NoneBefore : Text → List (List ℕ) → ℕ → ℕ → Type 0
@@ -87,61 +23,168 @@ NoneBefore text tokens k s = (r : ℕ) → k ≤ r → r < s → InRow text toke
 abbrev pub NoneBehind : Text → List (List ℕ) → ℕ → ℕ → Type 0
 NoneBehind text tokens k s = (r : ℕ) → s < r → r ≤ k → InRow text tokens r → ⊥
 
+-- a walk is smaller the nearer it is to its end, and then the more tokens agree
+pub closer : (rest left m agreed following : ℕ) → agreed < m → following ≤ m → 1 ≤ following → (left ≡ rest × agreed < following) ⊎ (left < rest) → left * (m + 1) + (m - following) < rest * (m + 1) + (m - agreed)
+closer rest left m agreed following few within some (inl (same, more)) = rw same (omega (arith, few, within, more))
+closer rest left m agreed following few within some (inr less) =
+    let a : (left + 1) * (m + 1) ≤ rest * (m + 1) = mul-le-mul_right (m + 1) (omega (arith, less)) in
+    omega (arith, a, few, within, some)
+
+-- a token leads on, or as many agree as said
+abbrev pub Leads : (next start agreed following : ℕ) → Type 0
+Leads next start agreed following = ((next ≡ start) × (following ≡ agreed + 1)) ⊎ ((next ≡ start → ⊥) × (following ≡ 1))
+
+pub closer_on : (end start turn place m agreed following : ℕ) → agreed < m → start + turn ≤ place → place < end → Leads (place - turn) start agreed following →
+    (end - (place - turn)) * (m + 1) + (m - following) < (end - start) * (m + 1) + (m - agreed)
+closer_on end start turn place m agreed following few from below (inl (e, n)) =
+    closer (end - start) (end - (place - turn)) m agreed following few (omega (arith, n, few)) (omega (arith, n)) (inl (omega (arith, e), omega (arith, n)))
+closer_on end start turn place m agreed following few from below (inr (e, n)) =
+    closer (end - start) (end - (place - turn)) m agreed following few (omega (arith, n, few)) (omega (arith, n)) (inr (omega (arith, e, from, below)))
+
+-- how many places of a token lie before its place in the row from s on
+abbrev pub passed_upto : Text → List (List ℕ) → ℕ → ℕ → ℕ
+passed_upto text tokens s i = places_before text.words (token_at tokens i) (s + i)
+
+-- the tokens in order, asked up to here for the row from s on
+abbrev pub IsAskedForward : (text : Text) (tokens : List (List ℕ)) (turn agreed s most old now : ℕ) → Type 0
+IsAskedForward text tokens turn agreed s most old now = IsAskedWithin (length tokens) turn agreed (passed_upto text tokens s) (IsInPlace text tokens s) most old now
+
+-- backward, the last token is asked first: this is the number of the one that is asked at this turn
+abbrev pub from_last : List (List ℕ) → ℕ → ℕ
+from_last tokens turn = length tokens - 1 - turn
+
+-- how many places of that token lie behind its place in the row from s on
+abbrev pub passed_downto : Text → List (List ℕ) → ℕ → ℕ → ℕ
+passed_downto text tokens s i =
+    length (places text.words (token_at tokens (from_last tokens i))) - places_before text.words (token_at tokens (from_last tokens i)) (s + from_last tokens i + 1)
+
+abbrev pub IsAskedBackward : (text : Text) (tokens : List (List ℕ)) (turn agreed s most old now : ℕ) → Type 0
+IsAskedBackward text tokens turn agreed s most old now =
+    IsAskedWithin (length tokens) turn agreed (passed_downto text tokens s) (λ i. IsInPlace text tokens s (from_last tokens i)) most old now
+
+pub closer_back : (start place at m agreed following : ℕ) → agreed < m → at ≤ place → place ≤ start + at → Leads (place - at) start agreed following →
+    (place - at) * (m + 1) + (m - following) < start * (m + 1) + (m - agreed)
+closer_back start place at m agreed following few room upto (inl (e, n)) =
+    closer start (place - at) m agreed following few (omega (arith, n, few)) (omega (arith, n)) (inl (e, omega (arith, n)))
+closer_back start place at m agreed following few room upto (inr (e, n)) =
+    closer start (place - at) m agreed following few (omega (arith, n, few)) (omega (arith, n)) (inr (omega (arith, e, room, upto)))
+
 module _ (text : Text) (tokens : List (List ℕ)) (sound : IsText text) (some : 1 ≤ length tokens) where
-  pub forward_none : (k s : ℕ) → NoneBefore text tokens k s → None ≡ row_end text.words tokens s → None ≡ first_start (concordance text (phrase tokens)) k
-  forward_none k s before is =
-      sym (no_first_row text tokens k (λ r ge row.
-      elim (cases_lt r s) [ inl lt ↦ before r ge lt row | inr le ↦ none_end text sound tokens s (sym is) r le row ]))
+  pub next_within : (i s q : ℕ) → Some q ≡ next_place text.words (token_at tokens i) (s + i) → (s + i ≤ q) × (q < text.next)
+  next_within i s q is =
+      let n = next_tells text (token_at tokens i) sound (s + i) q (sym is) in
+      (n.from, n.within)
 
-  pub forward_past : (k s : ℕ) → NoneBefore text tokens k s → text.next ≤ s → None ≡ first_start (concordance text (phrase tokens)) k
-  forward_past k s before past =
-      sym (no_first_row text tokens k (λ r ge row.
-      let below : r + length tokens ≤ text.next = (row_within text sound tokens r some row).1 in
-      before r ge (omega arith) row))
-
-  pub forward_long : (s e : ℕ) → Some e ≡ row_end text.words tokens s → s + length tokens ≤ e
-  forward_long s e is = (end_tells text sound tokens s e (sym is)).long
-
-  pub forward_found : (k s e : ℕ) → k ≤ s → NoneBefore text tokens k s → Some e ≡ row_end text.words tokens s → e - length tokens ≡ s →
-      Some (extent s (e - 1)) ≡ first_start (concordance text (phrase tokens)) k
-  forward_found k s e from before is here =
-      let i = end_tells text sound tokens s e (sym is) in
-      let long : s + length tokens ≤ e = i.long in
-      sym (first_row text sound tokens k s (e - 1) some from (near_row text tokens s (i.near s (omega arith))) (omega arith)
-      (λ r ge row. elim (cases_lt r s) [ inl lt ↦ absurd (before r ge lt row) | inr le ↦ le ]))
-
-  pub forward_before : (k s e : ℕ) → NoneBefore text tokens k s → Some e ≡ row_end text.words tokens s → NoneBefore text tokens k (e - length tokens)
-  forward_before k s e before is = λ r ge lt row.
+  -- no row starts before the one in which the token stands at its next place
+  pub none_before_next : (k s i q : ℕ) → i < length tokens → Some q ≡ next_place text.words (token_at tokens i) (s + i) → NoneBefore text tokens k s → NoneBefore text tokens k (q - i)
+  none_before_next k s i q lt is before r ge less row =
       elim (cases_lt r s) [
         | inl below ↦ before r ge below row
-        | inr from ↦ let le : e ≤ r + length tokens = (end_tells text sound tokens s e (sym is)).least r from row in absurd (omega arith)
+        | inr from ↦
+            let n = next_tells text (token_at tokens i) sound (s + i) q (sym is) in
+            let le : q ≤ r + i = n.least (r + i) (row_place text tokens r i lt row) (omega (arith, from)) in
+            omega (arith, le, less)
       ]
 
-  -- the row of these tokens that starts at the place of the first one, if they stand in a row
-  pub forward_row : (k s f e : ℕ) → k ≤ s → NoneBefore text tokens k s → IsRowFrom text.words tokens s f e → e - length tokens ≡ f →
-      Some (extent (e - length tokens) (e - 1)) ≡ first_start (concordance text (phrase tokens)) k
-  forward_row k s f e from before i here =
-      let ends : s ≤ f = i.from in
-      ap (λ n. Some (extent n (e - 1))) here
-      ∙ forward_found k f e (omega arith) (subst (NoneBefore text tokens k) here (forward_before k s e before (sym i.ends))) (sym i.again) here
+  pub no_next : (k s i : ℕ) → i < length tokens → None ≡ next_place text.words (token_at tokens i) (s + i) → NoneBefore text tokens k s → None ≡ first_start (concordance text (phrase tokens)) k
+  no_next k s i lt is before =
+      sym (no_first_row text tokens k (λ r ge row.
+      elim (cases_lt r s) [
+        | inl below ↦ before r ge below row
+        | inr from ↦ none_next text (token_at tokens i) sound (s + i) (sym is) (r + i) (row_place text tokens r i lt row) (omega (arith, from))
+      ]))
 
-  -- else the walk goes on
-  pub forward_moves : (s f e : ℕ) → IsRowFrom text.words tokens s f e → (e - length tokens ≡ f → ⊥) → s < e - length tokens
-  forward_moves s f e i moved =
-      let from : s ≤ f = i.from in
-      let long : f + length tokens ≤ e = forward_long f e (sym i.again) in
-      omega arith
+  pub forward_past : (k : ℕ) → text.next ≤ k → None ≡ first_start (concordance text (phrase tokens)) k
+  forward_past k past =
+      sym (no_first_row text tokens k (λ r ge row.
+      let below : r + length tokens ≤ text.next = (row_within text sound tokens r some row).1 in
+      omega (arith, below, ge, past, some)))
 
-  pub forward_more : (s e : ℕ) → Some e ≡ row_end text.words tokens s → (e - length tokens ≡ s → ⊥) → fewest_passed text.words tokens s + 1 ≤ fewest_passed text.words tokens (e - length tokens)
-  forward_more s e is moved =
-      let i = end_tells text sound tokens s e (sym is) in
-      let long : s + length tokens ≤ e = i.long in
-      fewest_more text tokens s (e - length tokens) some (i.near (e - length tokens) (omega arith)) (omega arith)
+  module _ (turn agreed s most old now after q : ℕ) (few : agreed < length tokens) (step : after ≤ now + most) (is : Some q ≡ next_place text.words (token_at tokens turn) (s + turn)) where
+    held_next : (t : ℕ) → q - turn ≡ t → IsInPlace text tokens t turn
+    held_next t e =
+        let n = next_tells text (token_at tokens turn) sound (s + turn) q (sym is) in
+        let from : s + turn ≤ q = n.from in
+        let same : q ≡ t + turn = omega (arith, from, e) in
+        subst (Held text (token_at tokens turn)) same n.held
 
-  pub backward_none : (k s : ℕ) → NoneBehind text tokens k s → None ≡ row_start text.words tokens (Some (s + length tokens)) → None ≡ last_start (concordance text (phrase tokens)) k
-  backward_none k s behind is =
+    forward_stays : q - turn ≡ s → IsAskedForward text tokens turn agreed s most old now → IsAskedForward text tokens (turn + 1) (agreed + 1) s most old after
+    forward_stays e asked = asked_stays (length tokens) turn agreed few (passed_upto text tokens s) (IsInPlace text tokens s) most old now after step asked (held_next s e)
+
+    forward_moves : (q - turn ≡ s → ⊥) → IsAskedForward text tokens turn agreed s most old now → IsAskedForward text tokens (turn + 1) 1 (q - turn) most old after
+    forward_moves moved asked =
+        let from : s + turn ≤ q = (next_within turn s q is).0 in
+        asked_moves (length tokens) turn agreed few (passed_upto text tokens s) (IsInPlace text tokens s) most old now after step asked
+        (passed_upto text tokens (q - turn)) (IsInPlace text tokens (q - turn))
+        (λ i lt. before_rises text.words (token_at tokens i) (s + i) (q - turn + i) (omega (arith, from)))
+        (λ i lt held. before_more text.words (token_at tokens i) (s + i) (s + i) (q - turn + i) held (omega arith) (omega (arith, from, moved)))
+        (held_next (q - turn) refl)
+
+  -- after a token was asked, whether it agreed or leads on
+  pub forward_on : (turn agreed following s most old now after q : ℕ) → agreed < length tokens → after ≤ now + most → Some q ≡ next_place text.words (token_at tokens turn) (s + turn) →
+      Leads (q - turn) s agreed following →
+      IsAskedForward text tokens turn agreed s most old now → IsAskedForward text tokens (turn + 1) following (q - turn) most old after
+  forward_on turn agreed following s most old now after q few step is (inl (e, n)) asked =
+      subst (λ t. IsAskedForward text tokens (turn + 1) following t most old after) (sym e)
+      (subst (λ f. IsAskedForward text tokens (turn + 1) f s most old after) (sym n) (forward_stays turn agreed s most old now after q few step is e asked))
+  forward_on turn agreed following s most old now after q few step is (inr (moved, n)) asked =
+      subst (λ f. IsAskedForward text tokens (turn + 1) f (q - turn) most old after) (sym n) (forward_moves turn agreed s most old now after q few step is moved asked)
+
+  -- where each token agreed, this is the first row
+  pub forward_found : (k s turn most old now : ℕ) → turn ≤ length tokens → k ≤ s → NoneBefore text tokens k s → IsAskedForward text tokens turn (length tokens) s most old now →
+      Some (extent s (s + (length tokens - 1))) ≡ first_start (concordance text (phrase tokens)) k
+  forward_found k s turn most old now within from before asked =
+      let row : InRow text tokens s = places_row text tokens s (ring_agrees (length tokens) asked.rounds turn (passed_upto text tokens s) (IsInPlace text tokens s) within asked.ring) in
+      sym (first_row text sound tokens k s (s + (length tokens - 1)) some from row (omega (arith, some))
+      (λ r ge other. elim (cases_lt r s) [ inl lt ↦ absurd (before r ge lt other) | inr le ↦ le ]))
+
+  forward_rounds : (turn agreed s most old now : ℕ) → (asked : IsAskedForward text tokens turn agreed s most old now) → asked.rounds ≤ fewest_places text.words tokens
+  forward_rounds turn agreed s most old now asked =
+      fewest_of_each text.words tokens asked.rounds some
+      (ring_rounds (length tokens) asked.rounds turn agreed (passed_upto text tokens s) (λ i. length (places text.words (token_at tokens i))) (IsInPlace text tokens s)
+      (λ i lt. before_most text.words (token_at tokens i) (s + i))
+      (λ i lt held.
+      let more : places_before text.words (token_at tokens i) (s + i) + 1 ≤ places_before text.words (token_at tokens i) (s + i + 1) = before_more text.words (token_at tokens i) (s + i) (s + i) (s + i + 1) held (omega arith) (omega arith) in
+      let upto : places_before text.words (token_at tokens i) (s + i + 1) ≤ length (places text.words (token_at tokens i)) = before_most text.words (token_at tokens i) (s + i + 1) in
+      omega (arith, more, upto))
+      asked.ring)
+
+  pub forward_cost : (turn agreed s most old now after : ℕ) → turn < length tokens → after ≤ now + most → IsAskedForward text tokens turn agreed s most old now → after ≤ old + rounds_cost text.words most tokens
+  forward_cost turn agreed s most old now after within step asked =
+      asked_bound (length tokens) turn (fewest_places text.words tokens) most old now after asked.rounds within
+      (forward_rounds turn agreed s most old now asked) asked.cost step
+
+  pub previous_within : (i s q : ℕ) → Some q ≡ previous_place text.words (token_at tokens i) (s + i) → q ≤ s + i
+  previous_within i s q is = (previous_tells text (token_at tokens i) sound (s + i) q (sym is)).upto
+
+  row_upto : (s i q r : ℕ) → i < length tokens → Some q ≡ previous_place text.words (token_at tokens i) (s + i) → r ≤ s → InRow text tokens r → r + i ≤ q
+  row_upto s i q r lt is upto row =
+      (previous_tells text (token_at tokens i) sound (s + i) q (sym is)).greatest (r + i) (row_place text tokens r i lt row) (omega (arith, upto))
+
+  -- no row starts behind the one in which the token stands at its previous place
+  pub none_behind_previous : (k s i q : ℕ) → i < length tokens → Some q ≡ previous_place text.words (token_at tokens i) (s + i) → NoneBehind text tokens k s → NoneBehind text tokens k (q - i)
+  none_behind_previous k s i q lt is behind r more le row =
+      elim (cases_lt s r) [
+        | inl above ↦ behind r above le row
+        | inr upto ↦ let ge : r + i ≤ q = row_upto s i q r lt is upto row in omega (arith, ge, more)
+      ]
+
+  pub no_previous : (k s i : ℕ) → i < length tokens → None ≡ previous_place text.words (token_at tokens i) (s + i) → NoneBehind text tokens k s → None ≡ last_start (concordance text (phrase tokens)) k
+  no_previous k s i lt is behind =
       sym (no_last_row text tokens k (λ r le row.
-      elim (cases_lt s r) [ inl lt ↦ behind r lt le row | inr ge ↦ none_start text sound tokens (s + length tokens) (sym is) r (omega arith) row ]))
+      elim (cases_lt s r) [
+        | inl above ↦ behind r above le row
+        | inr upto ↦ none_previous text (token_at tokens i) sound (s + i) (sym is) (r + i) (row_place text tokens r i lt row) (omega (arith, upto))
+      ]))
+
+  -- no row starts before the first address
+  pub no_room : (k s i q : ℕ) → i < length tokens → Some q ≡ previous_place text.words (token_at tokens i) (s + i) → (i ≤ q → ⊥) → NoneBehind text tokens k s → None ≡ last_start (concordance text (phrase tokens)) k
+  no_room k s i q lt is low behind =
+      sym (no_last_row text tokens k (λ r le row.
+      elim (cases_lt s r) [
+        | inl above ↦ behind r above le row
+        | inr upto ↦ let ge : r + i ≤ q = row_upto s i q r lt is upto row in low (omega (arith, ge))
+      ]))
 
   pub backward_short : (k : ℕ) → text.next < length tokens → None ≡ last_start (concordance text (phrase tokens)) k
   backward_short k short =
@@ -155,28 +198,80 @@ module _ (text : Text) (tokens : List (List ℕ)) (sound : IsText text) (some : 
       let room : text.next ≤ s + length tokens = full (omega arith) in
       absurd (omega arith)
 
-  pub backward_long : (s u : ℕ) → Some u ≡ row_start text.words tokens (Some (s + length tokens)) → u ≤ s
-  backward_long s u is =
-      let long : u + length tokens ≤ s + length tokens = (start_tells text sound tokens (s + length tokens) u (sym is)).long in
-      omega arith
+  module _ (turn agreed s most old now after q : ℕ) (few : agreed < length tokens) (step : after ≤ now + most) (is : Some q ≡ previous_place text.words (token_at tokens (from_last tokens turn)) (s + from_last tokens turn)) (room : from_last tokens turn ≤ q) where
+    held_previous : (t : ℕ) → q - from_last tokens turn ≡ t → IsInPlace text tokens t (from_last tokens turn)
+    held_previous t e =
+        let same : q ≡ t + from_last tokens turn = omega (arith, room, e) in
+        subst (Held text (token_at tokens (from_last tokens turn))) same (previous_tells text (token_at tokens (from_last tokens turn)) sound (s + from_last tokens turn) q (sym is)).held
 
-  pub backward_found : (k s u : ℕ) → s ≤ k → NoneBehind text tokens k s → Some u ≡ row_start text.words tokens (Some (s + length tokens)) → u ≡ s →
+    backward_stays : q - from_last tokens turn ≡ s → IsAskedBackward text tokens turn agreed s most old now → IsAskedBackward text tokens (turn + 1) (agreed + 1) s most old after
+    backward_stays e asked =
+        asked_stays (length tokens) turn agreed few (passed_downto text tokens s) (λ i. IsInPlace text tokens s (from_last tokens i)) most old now after step asked (held_previous s e)
+
+    backward_moves : (q - from_last tokens turn ≡ s → ⊥) → IsAskedBackward text tokens turn agreed s most old now → IsAskedBackward text tokens (turn + 1) 1 (q - from_last tokens turn) most old after
+    backward_moves moved asked =
+        let upto : q ≤ s + from_last tokens turn = previous_within (from_last tokens turn) s q is in
+        let t = q - from_last tokens turn in
+        let lower : t < s = omega (arith, upto, room, moved) in
+        asked_moves (length tokens) turn agreed few (passed_downto text tokens s) (λ i. IsInPlace text tokens s (from_last tokens i)) most old now after step asked
+        (passed_downto text tokens t) (λ i. IsInPlace text tokens t (from_last tokens i))
+        (λ i lt. left_rises (from_last tokens i) t s lower)
+        (λ i lt held. left_more (from_last tokens i) t s lower held)
+        (held_previous t refl)
+      where
+        left_rises : (j t s : ℕ) → t < s →
+            length (places text.words (token_at tokens j)) - places_before text.words (token_at tokens j) (s + j + 1) ≤ length (places text.words (token_at tokens j)) - places_before text.words (token_at tokens j) (t + j + 1)
+        left_rises j t s lower =
+            let less : places_before text.words (token_at tokens j) (t + j + 1) ≤ places_before text.words (token_at tokens j) (s + j + 1) = before_rises text.words (token_at tokens j) (t + j + 1) (s + j + 1) (omega (arith, lower)) in
+            omega (arith, less)
+
+        left_more : (j t s : ℕ) → t < s → IsInPlace text tokens s j →
+            length (places text.words (token_at tokens j)) - places_before text.words (token_at tokens j) (s + j + 1) + 1 ≤ length (places text.words (token_at tokens j)) - places_before text.words (token_at tokens j) (t + j + 1)
+        left_more j t s lower held =
+            let less : places_before text.words (token_at tokens j) (t + j + 1) + 1 ≤ places_before text.words (token_at tokens j) (s + j + 1) = before_more text.words (token_at tokens j) (s + j) (t + j + 1) (s + j + 1) held (omega (arith, lower)) (omega arith) in
+            let within : places_before text.words (token_at tokens j) (s + j + 1) ≤ length (places text.words (token_at tokens j)) = before_most text.words (token_at tokens j) (s + j + 1) in
+            omega (arith, less, within)
+
+  pub backward_on : (turn agreed following s most old now after q : ℕ) → agreed < length tokens → after ≤ now + most → Some q ≡ previous_place text.words (token_at tokens (from_last tokens turn)) (s + from_last tokens turn) →
+      from_last tokens turn ≤ q → Leads (q - from_last tokens turn) s agreed following →
+      IsAskedBackward text tokens turn agreed s most old now → IsAskedBackward text tokens (turn + 1) following (q - from_last tokens turn) most old after
+  backward_on turn agreed following s most old now after q few step is room (inl (e, n)) asked =
+      subst (λ t. IsAskedBackward text tokens (turn + 1) following t most old after) (sym e)
+      (subst (λ f. IsAskedBackward text tokens (turn + 1) f s most old after) (sym n) (backward_stays turn agreed s most old now after q few step is room e asked))
+  backward_on turn agreed following s most old now after q few step is room (inr (moved, n)) asked =
+      subst (λ f. IsAskedBackward text tokens (turn + 1) f (q - from_last tokens turn) most old after) (sym n) (backward_moves turn agreed s most old now after q few step is room moved asked)
+
+  -- where each token agreed, this is the last row
+  pub backward_found : (k s turn most old now : ℕ) → turn ≤ length tokens → s ≤ k → NoneBehind text tokens k s → IsAskedBackward text tokens turn (length tokens) s most old now →
       Some (extent s (s + (length tokens - 1))) ≡ last_start (concordance text (phrase tokens)) k
-  backward_found k s u upto behind is here =
-      let i = start_tells text sound tokens (s + length tokens) u (sym is) in
-      let near : AreNear text tokens s s = subst (λ v. AreNear text tokens v s) here (i.near s refl) in
-      sym (last_row text sound tokens k s (s + (length tokens - 1)) some upto (near_row text tokens s near) (omega arith)
-      (λ r le row. elim (cases_lt s r) [ inl lt ↦ absurd (behind r lt le row) | inr ge ↦ ge ]))
+  backward_found k s turn most old now within upto behind asked =
+      sym (last_row text sound tokens k s (s + (length tokens - 1)) some upto (places_row text tokens s in_place) (omega (arith, some))
+      (λ r le other. elim (cases_lt s r) [ inl lt ↦ absurd (behind r lt le other) | inr ge ↦ ge ]))
+    where
+      in_place : (j : ℕ) → j < length tokens → IsInPlace text tokens s j
+      in_place j lt =
+          let same : from_last tokens (from_last tokens j) ≡ j = omega (arith, lt) in
+          subst (IsInPlace text tokens s) same
+          (ring_agrees (length tokens) asked.rounds turn (passed_downto text tokens s) (λ i. IsInPlace text tokens s (from_last tokens i)) within asked.ring (from_last tokens j) (omega (arith, lt)))
 
-  pub backward_behind : (k s u : ℕ) → NoneBehind text tokens k s → Some u ≡ row_start text.words tokens (Some (s + length tokens)) → NoneBehind text tokens k u
-  backward_behind k s u behind is = λ r lt le row.
-      elim (cases_lt s r) [
-        | inl above ↦ behind r above le row
-        | inr upto ↦ let ge : r ≤ u = (start_tells text sound tokens (s + length tokens) u (sym is)).greatest r (omega arith) row in absurd (omega arith)
-      ]
+  backward_rounds : (turn agreed s most old now : ℕ) → (asked : IsAskedBackward text tokens turn agreed s most old now) → asked.rounds ≤ fewest_places text.words tokens
+  backward_rounds turn agreed s most old now asked =
+      fewest_of_each text.words tokens asked.rounds some (λ j lt.
+      let same : from_last tokens (from_last tokens j) ≡ j = omega (arith, lt) in
+      subst (λ n. asked.rounds ≤ length (places text.words (token_at tokens n))) same
+      (ring_rounds (length tokens) asked.rounds turn agreed (passed_downto text tokens s) (λ i. length (places text.words (token_at tokens (from_last tokens i)))) (λ i. IsInPlace text tokens s (from_last tokens i))
+      (λ i less. omega arith)
+      (λ i less held. left_some (from_last tokens i) held)
+      asked.ring (from_last tokens j) (omega (arith, lt))))
+    where
+      left_some : (j : ℕ) → IsInPlace text tokens s j →
+          length (places text.words (token_at tokens j)) - places_before text.words (token_at tokens j) (s + j + 1) + 1 ≤ length (places text.words (token_at tokens j))
+      left_some j held =
+          let more : places_before text.words (token_at tokens j) 0 + 1 ≤ places_before text.words (token_at tokens j) (s + j + 1) = before_more text.words (token_at tokens j) (s + j) 0 (s + j + 1) held (omega arith) (omega arith) in
+          let within : places_before text.words (token_at tokens j) (s + j + 1) ≤ length (places text.words (token_at tokens j)) = before_most text.words (token_at tokens j) (s + j + 1) in
+          omega (arith, more, within)
 
-  pub backward_more : (s u : ℕ) → Some u ≡ row_start text.words tokens (Some (s + length tokens)) → (u ≡ s → ⊥) → fewest_passed text.words tokens u + 1 ≤ fewest_passed text.words tokens s
-  backward_more s u is moved =
-      let i = start_tells text sound tokens (s + length tokens) u (sym is) in
-      let long : u ≤ s = backward_long s u is in
-      fewest_more text tokens u s some (i.near s refl) (omega arith)
+  pub backward_cost : (turn agreed s most old now after : ℕ) → turn < length tokens → after ≤ now + most → IsAskedBackward text tokens turn agreed s most old now → after ≤ old + rounds_cost text.words most tokens
+  backward_cost turn agreed s most old now after within step asked =
+      asked_bound (length tokens) turn (fewest_places text.words tokens) most old now after asked.rounds within
+      (backward_rounds turn agreed s most old now asked) asked.cost step

@@ -4,6 +4,7 @@ ghost use Rattle.gcl_model.specs.Access.{first_start, first_end, last_end, last_
 ghost use Rattle.gcl_model.specs.Forms.{phrase};
 ghost use Rattle.gcl_model.specs.Meaning.{concordance};
 ghost use Rattle.gcl_model.specs.Cost.{cost};
+ghost use Rattle.phrase_walk.specs.Rounds.{rounds_cost};
 
 use crate::counted::{
     counted_first_end, counted_first_start, counted_last_end, counted_last_start,
@@ -22,6 +23,7 @@ pub fn phrase_first_start<L: Leaves, S: Ledger>(
     ensures answer { result ≡ first_start (concordance (L.text leaves.now) (phrase tokens.now)) k }
     ensures counted { steps.old ≤ steps.new }
     ensures cost { steps.new ≤ steps.old + cost (L.text leaves.now) (L.most leaves.now) (phrase tokens.now) }
+    ensures rounds { steps.new ≤ steps.old + rounds_cost (L.text leaves.now).words (L.most leaves.now) tokens.now }
 {
     let source = LentLeaves::<L, S>::new(leaves);
     counted_first_start(tokens, &source, k, steps)
@@ -39,6 +41,7 @@ pub fn phrase_first_end<L: Leaves, S: Ledger>(
     ensures answer { result ≡ first_end (concordance (L.text leaves.now) (phrase tokens.now)) k }
     ensures counted { steps.old ≤ steps.new }
     ensures cost { steps.new ≤ steps.old + cost (L.text leaves.now) (L.most leaves.now) (phrase tokens.now) }
+    ensures rounds { steps.new ≤ steps.old + rounds_cost (L.text leaves.now).words (L.most leaves.now) tokens.now }
 {
     let source = LentLeaves::<L, S>::new(leaves);
     counted_first_end(tokens, &source, k, steps)
@@ -56,6 +59,7 @@ pub fn phrase_last_end<L: Leaves, S: Ledger>(
     ensures answer { result ≡ last_end (concordance (L.text leaves.now) (phrase tokens.now)) k }
     ensures counted { steps.old ≤ steps.new }
     ensures cost { steps.new ≤ steps.old + cost (L.text leaves.now) (L.most leaves.now) (phrase tokens.now) }
+    ensures rounds { steps.new ≤ steps.old + rounds_cost (L.text leaves.now).words (L.most leaves.now) tokens.now }
 {
     let source = LentLeaves::<L, S>::new(leaves);
     counted_last_end(tokens, &source, k, steps)
@@ -73,6 +77,7 @@ pub fn phrase_last_start<L: Leaves, S: Ledger>(
     ensures answer { result ≡ last_start (concordance (L.text leaves.now) (phrase tokens.now)) k }
     ensures counted { steps.old ≤ steps.new }
     ensures cost { steps.new ≤ steps.old + cost (L.text leaves.now) (L.most leaves.now) (phrase tokens.now) }
+    ensures rounds { steps.new ≤ steps.old + rounds_cost (L.text leaves.now).words (L.most leaves.now) tokens.now }
 {
     let source = LentLeaves::<L, S>::new(leaves);
     counted_last_start(tokens, &source, k, steps)

@@ -4,6 +4,7 @@ ghost use Rattle.gcl_model.specs.Access.{first_start, first_end, last_end, last_
 ghost use Rattle.gcl_model.specs.Forms.{phrase};
 ghost use Rattle.gcl_model.specs.Meaning.{concordance};
 ghost use Rattle.gcl_model.specs.Cost.{cost};
+ghost use Rattle.phrase_walk.specs.Rounds.{rounds_cost};
 
 use crate::walks::{first_from, last_upto};
 use gcl_model::{CountedLeaves, Interval, TokenList};
@@ -20,6 +21,7 @@ pub fn counted_first_start<C: CountedLeaves>(
     ensures answer { result ≡ first_start (concordance (C.text source.now) (phrase tokens.now)) k }
     ensures counted { C.count counter.old ≤ C.count counter.new }
     ensures cost { C.count counter.new ≤ C.count counter.old + cost (C.text source.now) (C.most source.now) (phrase tokens.now) }
+    ensures rounds { C.count counter.new ≤ C.count counter.old + rounds_cost (C.text source.now).words (C.most source.now) tokens.now }
 {
     first_from(tokens.as_slice(), source, k, counter)
 }
@@ -36,6 +38,7 @@ pub fn counted_first_end<C: CountedLeaves>(
     ensures answer { result ≡ first_end (concordance (C.text source.now) (phrase tokens.now)) k }
     ensures counted { C.count counter.old ≤ C.count counter.new }
     ensures cost { C.count counter.new ≤ C.count counter.old + cost (C.text source.now) (C.most source.now) (phrase tokens.now) }
+    ensures rounds { C.count counter.new ≤ C.count counter.old + rounds_cost (C.text source.now).words (C.most source.now) tokens.now }
 {
     let len = tokens.len() as u64;
     first_from(
@@ -58,6 +61,7 @@ pub fn counted_last_end<C: CountedLeaves>(
     ensures answer { result ≡ last_end (concordance (C.text source.now) (phrase tokens.now)) k }
     ensures counted { C.count counter.old ≤ C.count counter.new }
     ensures cost { C.count counter.new ≤ C.count counter.old + cost (C.text source.now) (C.most source.now) (phrase tokens.now) }
+    ensures rounds { C.count counter.new ≤ C.count counter.old + rounds_cost (C.text source.now).words (C.most source.now) tokens.now }
 {
     let len = tokens.len() as u64;
     let start = k.checked_sub(len - 1)?;
@@ -76,6 +80,7 @@ pub fn counted_last_start<C: CountedLeaves>(
     ensures answer { result ≡ last_start (concordance (C.text source.now) (phrase tokens.now)) k }
     ensures counted { C.count counter.old ≤ C.count counter.new }
     ensures cost { C.count counter.new ≤ C.count counter.old + cost (C.text source.now) (C.most source.now) (phrase tokens.now) }
+    ensures rounds { C.count counter.new ≤ C.count counter.old + rounds_cost (C.text source.now).words (C.most source.now) tokens.now }
 {
     last_upto(tokens.as_slice(), source, k, counter)
 }

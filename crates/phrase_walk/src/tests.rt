@@ -117,3 +117,22 @@ fn each_turn_of_a_walk_looks_up_each_token_once(rt: HostRuntime) -> Result<(), F
     );
     Ok(())
 }
+
+/// "the king" in `the a the king a the`: behind the first `the` the one `king` leads on to 2, and once `the` stands there, `king` is
+/// not asked again. From 0 on that takes 3 look-ups for the first start and 3 for the first end; none ends or starts up to 0, which
+/// takes none and 1.
+#[test]
+fn a_walk_ends_as_soon_as_each_token_agreed(rt: HostRuntime) -> Result<(), Fail> {
+    let alloc = rt.alloc();
+    let words = TokenList::of(alloc, &["the", "a", "the", "king", "a", "the"])?;
+    assert_eq!(rt; words.len(), 6);
+    let text = &of_tokens(alloc, 0, &words)?;
+    let tokens = &TokenList::of(alloc, &["the", "king"])?;
+    assert!(rt; tokens.len() >= 2);
+    let the_king = Some(Interval::new(2, 3));
+    assert_eq!(rt;
+        counted(&AccessesAt { tokens, text, k: 0 }),
+        ([the_king, the_king, None, None], 7)
+    );
+    Ok(())
+}

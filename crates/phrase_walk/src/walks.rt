@@ -1,13 +1,15 @@
-ghost use Rattle.std.specs.Prelude.{◌≡◌, ◌+◌, ◌≤◌, length};
+ghost use Rattle.std.specs.Prelude.{◌≡◌, ◌+◌, ◌<◌, ◌≤◌, length};
 ghost use Rattle.gcl_model.specs.Access.{first_start, last_start};
 ghost use Rattle.gcl_model.specs.Forms.{phrase};
 ghost use Rattle.gcl_model.specs.Meaning.{concordance};
 ghost use Rattle.gcl_model.specs.Cost.{cost};
+ghost use Rattle.phrase_walk.specs.Rounds.{rounds_cost};
 
-use crate::rows::{row_from, row_start};
 use gcl_model::{Bytes, CountedLeaves, Interval};
 
 /// The first row of the tokens that starts at or after `k`.
+// The tokens are asked in a ring, each for its place in the row from the nearest start that is left: so the walk goes as far as the
+// rarest of them lets it, whichever that is, and ends as soon as all agree.
 pub(crate) fn first_from<C: CountedLeaves>(
     tokens: &[Bytes],
     source: &C,
@@ -18,20 +20,24 @@ pub(crate) fn first_from<C: CountedLeaves>(
     ensures answer { result ≡ first_start (concordance (C.text source.now) (phrase tokens.now)) k }
     ensures counted { C.count counter.old ≤ C.count counter.new }
     ensures cost { C.count counter.new ≤ C.count counter.old + cost (C.text source.now) (C.most source.now) (phrase tokens.now) }
+    ensures rounds { C.count counter.new ≤ C.count counter.old + rounds_cost (C.text source.now).words (C.most source.now) tokens.now }
 {
-    let len = tokens.len() as u64;
-    let next = source.span().next;
-    let mut start = k;
-    while start < next {
-        let row = row_from(tokens, source, start, counter)?;
-        let earliest = row.end - len;
-        if earliest == row.first {
-            return Some(Interval::new(earliest, row.end - 1));
-        }
-        // No row starts before `earliest`: its last token would stand before that token's first place.
-        start = earliest;
+    let len = tokens.len();
+    if source.span().next <= k {
+        return None;
     }
-    None
+    let mut start = k;
+    let mut turn = 0usize;
+    let mut agreed = 0usize;
+    while agreed < len {
+        let place = source.next(tokens[turn].as_slice(), start + turn as u64, counter)?;
+        // No row starts before this: its token would stand before the first place.
+        let earliest = place - turn as u64;
+        agreed = if earliest == start { agreed + 1 } else { 1 };
+        start = earliest;
+        turn = next_turn(turn, len);
+    }
+    Some(Interval::new(start, start + (len as u64 - 1)))
 }
 
 /// The last row of the tokens that starts at or before `k`.
@@ -45,16 +51,30 @@ pub(crate) fn last_upto<C: CountedLeaves>(
     ensures answer { result ≡ last_start (concordance (C.text source.now) (phrase tokens.now)) k }
     ensures counted { C.count counter.old ≤ C.count counter.new }
     ensures cost { C.count counter.new ≤ C.count counter.old + cost (C.text source.now) (C.most source.now) (phrase tokens.now) }
+    ensures rounds { C.count counter.new ≤ C.count counter.old + rounds_cost (C.text source.now).words (C.most source.now) tokens.now }
 {
-    let len = tokens.len() as u64;
-    let room = source.span().next.checked_sub(len)?;
+    let len = tokens.len();
+    let room = source.span().next.checked_sub(len as u64)?;
     let mut start = k.min(room);
-    loop {
-        let latest = row_start(tokens, source, start + len, counter)?;
-        if latest == start {
-            return Some(Interval::new(start, start + (len - 1)));
-        }
-        // No row starts behind `latest`: its first token would stand behind that token's last place.
+    let mut turn = 0usize;
+    let mut agreed = 0usize;
+    while agreed < len {
+        let at = len - 1 - turn;
+        let place = source.prev(tokens[at].as_slice(), start + at as u64, counter)?;
+        // No row starts behind this: its token would stand behind the last place.
+        let latest = place.checked_sub(at as u64)?;
+        agreed = if latest == start { agreed + 1 } else { 1 };
         start = latest;
+        turn = next_turn(turn, len);
     }
+    Some(Interval::new(start, start + (len as u64 - 1)))
+}
+
+/// The turn after this one: behind the last of a round comes the first of the next.
+fn next_turn(turn: usize, len: usize) -> usize
+    requires { turn < len }
+    ensures wraps { turn + 1 ≡ len → result ≡ 0 }
+    ensures goes_on { turn + 1 < len → result ≡ turn + 1 }
+{
+    if turn + 1 == len { 0 } else { turn + 1 }
 }

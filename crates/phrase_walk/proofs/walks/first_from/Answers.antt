@@ -1,83 +1,117 @@
-use Rattle.std.proofs.Common.{◌≡◌, ◌+◌, ◌-◌, ◌<◌, ◌≤◌, Some, length, sym, ap, ◌∙◌, arith}
+use Rattle.std.proofs.Common.{◌≡◌, ◌+◌, ◌-◌, ◌≤◌, Some, None, length, ap, subst, ◌∙◌, inl, inr, arith}
 use Rattle.gcl_model.specs.Cost.{fewest_places}
-use Rattle.phrase_walk.specs.Rows.{row_end}
-use Rattle.phrase_walk.proofs.Steps.{forward_none, forward_past, forward_long, forward_row, forward_moves, forward_before, forward_more}
-use Rattle.phrase_walk.proofs.Passed.{fewest_passed, fewest_most}
-use Rattle.phrase_walk.proofs.Sums.{one_turn, last_turn, no_turn}
+use Rattle.gcl_model.specs.Texts.{next_place}
+use Rattle.phrase_walk.proofs.Rows.{IsInPlace, token_at, token_is}
+use Rattle.phrase_walk.proofs.Asked.{asked_turns, rounds_within}
+use Rattle.phrase_walk.proofs.Steps.{Leads, IsAskedForward, passed_upto, forward_on, forward_found, forward_past, forward_cost, none_before_next, no_next, next_within, closer_on}
 use Rattle.phrase_walk.proofs.walks.first_from.Goals as goal
+use Rattle.phrase_walk.proofs.walks.first_from.Goals.{then-earliest-start, else-earliest-start}
 
-pub returns-in_err-row-clause-answer : goal.returns-in_err-row-clause-answer
-returns-in_err-row-clause-answer g c =
+pub returns-then-span-k-clause-answer : goal.returns-then-span-k-clause-answer
+returns-then-span-k-clause-answer g c =
+    let next : c.span.result.next ≡ (g.C.CountedLeaves.text c.args.source.now).next = c.span.ensures.next in
+    let past : c.span.result.next ≤ c.args.k = c.if-span-k.true in
+    forward_past (g.C.CountedLeaves.text c.args.source.now) c.args.tokens.now c.span.ensures.sound c.requires c.args.k (omega (arith, next, past))
+
+pub returns-in_err-place-clause-answer : goal.returns-in_err-place-clause-answer
+returns-in_err-place-clause-answer g c =
+    let text = g.C.CountedLeaves.text c.args.source.now in
+    let tokens = c.args.tokens.now in
+    let start = c.loop-agreed.start in
+    let turn = c.loop-agreed.turn in
+    let kept = c.loop-agreed.invariant in
+    let token : c.as_slice.result.now ≡ token_at tokens turn = token_is tokens turn c.index-tokens-turn.result c.as_slice.result.now kept.turn (c.as_slice.ensures ∙ c.index-tokens-turn.is) in
     rw c.from_residual.ensures
-    (forward_none (g.C.CountedLeaves.text c.args.source.now) c.args.tokens.now c.span-next.ensures.sound c.requires c.args.k c.loop-start.start c.loop-start.invariant.before c.in_err-row.ensures.answer)
+    (no_next text tokens c.in_err-place.ensures.sound c.requires c.args.k start turn kept.turn (subst (λ t. None ≡ next_place text.words t (start + turn)) token c.in_err-place.ensures.answer) kept.before)
 
-pub returns-in_err-row-clause-cost : goal.returns-in_err-row-clause-cost
-returns-in_err-row-clause-cost g c =
-    let words = (g.C.CountedLeaves.text c.args.source.now).words in
-    last_turn (g.C.CountedLeaves.count c.args.counter.now) (g.C.CountedLeaves.count c.loop-start.counter) (g.C.CountedLeaves.count c.row_from.new.counter) (fewest_passed words c.args.tokens.now c.loop-start.start) (fewest_places words c.args.tokens.now)
-    (length c.args.tokens.now) (g.C.CountedLeaves.most c.args.source.now) c.loop-start.invariant.cost c.in_err-row.ensures.cost (fewest_most words c.args.tokens.now c.loop-start.start)
+pub returns-in_err-place-clause-rounds : goal.returns-in_err-place-clause-rounds
+returns-in_err-place-clause-rounds g c =
+    let kept = c.loop-agreed.invariant in
+    forward_cost (g.C.CountedLeaves.text c.args.source.now) c.args.tokens.now c.span.ensures.sound c.requires c.loop-agreed.turn c.loop-agreed.agreed c.loop-agreed.start (g.C.CountedLeaves.most c.args.source.now)
+    (g.C.CountedLeaves.count c.args.counter.now) (g.C.CountedLeaves.count c.loop-agreed.counter) (g.C.CountedLeaves.count c.next.new.counter) kept.turn c.in_err-place.ensures.cost kept.asked
+
+pub returns-in_err-place-clause-cost : goal.returns-in_err-place-clause-cost
+returns-in_err-place-clause-cost g c =
+    rounds_within (length c.args.tokens.now) (fewest_places (g.C.CountedLeaves.text c.args.source.now).words c.args.tokens.now) (g.C.CountedLeaves.most c.args.source.now)
+    (g.C.CountedLeaves.count c.args.counter.now) (g.C.CountedLeaves.count c.next.new.counter) (returns-in_err-place-clause-rounds g c)
 
 pub overflow_sub-earliest : goal.overflow_sub-earliest
 overflow_sub-earliest g c =
-    let long : c.loop-start.start + length c.args.tokens.now ≤ c.in_ok-row.row.end =
-    forward_long (g.C.CountedLeaves.text c.args.source.now) c.args.tokens.now c.span-next.ensures.sound c.requires c.loop-start.start c.in_ok-row.row.end (sym c.in_ok-row.ensures.answer.ends) in
-    omega arith
-
-pub overflow_sub-row : goal.overflow_sub-row
-overflow_sub-row g c =
-    let long : c.loop-start.start + length c.args.tokens.now ≤ c.in_ok-row.row.end =
-    forward_long (g.C.CountedLeaves.text c.args.source.now) c.args.tokens.now c.span-next.ensures.sound c.requires c.loop-start.start c.in_ok-row.row.end (sym c.in_ok-row.ensures.answer.ends) in
-    omega arith
-
-pub returns-then-earliest-row-clause-answer : goal.returns-then-earliest-row-clause-answer
-returns-then-earliest-row-clause-answer g c =
-    ap Some c.new.ensures
-    ∙ forward_row (g.C.CountedLeaves.text c.args.source.now) c.args.tokens.now c.span-next.ensures.sound c.requires c.args.k c.loop-start.start c.in_ok-row.row.first c.in_ok-row.row.end
-    c.loop-start.invariant.from c.loop-start.invariant.before c.in_ok-row.ensures.answer c.if-earliest-row.true
-
-pub returns-then-earliest-row-clause-cost : goal.returns-then-earliest-row-clause-cost
-returns-then-earliest-row-clause-cost g c =
-    let words = (g.C.CountedLeaves.text c.args.source.now).words in
-    last_turn (g.C.CountedLeaves.count c.args.counter.now) (g.C.CountedLeaves.count c.loop-start.counter) (g.C.CountedLeaves.count c.row_from.new.counter) (fewest_passed words c.args.tokens.now c.loop-start.start) (fewest_places words c.args.tokens.now)
-    (length c.args.tokens.now) (g.C.CountedLeaves.most c.args.source.now) c.loop-start.invariant.cost c.in_ok-row.ensures.cost (fewest_most words c.args.tokens.now c.loop-start.start)
-
-pub loop-start-smaller : goal.loop-start-smaller
-loop-start-smaller g c =
-    let long : c.loop-start.start + length c.args.tokens.now ≤ c.in_ok-row.row.end =
-    forward_long (g.C.CountedLeaves.text c.args.source.now) c.args.tokens.now c.span-next.ensures.sound c.requires c.loop-start.start c.in_ok-row.row.end (sym c.in_ok-row.ensures.answer.ends) in
-    let moved : c.loop-start.start < c.in_ok-row.row.end - length c.args.tokens.now =
-    forward_moves (g.C.CountedLeaves.text c.args.source.now) c.args.tokens.now c.span-next.ensures.sound c.requires c.loop-start.start c.in_ok-row.row.first c.in_ok-row.row.end c.in_ok-row.ensures.answer c.if-earliest-row.false in
-    let within : c.loop-start.start < c.span-next.result.next = c.loop-start-test.true in
-    let smaller : c.span-next.result.next - (c.in_ok-row.row.end - length c.args.tokens.now) < c.span-next.result.next - c.loop-start.start = omega arith in
-    smaller
-
-pub loop-start-preserved : goal.loop-start-preserved
-loop-start-preserved g c =
     let text = g.C.CountedLeaves.text c.args.source.now in
     let tokens = c.args.tokens.now in
-    let start = c.loop-start.start in
-    let end = c.in_ok-row.row.end in
-    let row = c.in_ok-row.ensures.answer in
-    let ends : Some end ≡ row_end text.words tokens start = sym row.ends in
-    let long : start + length tokens ≤ end = forward_long text tokens c.span-next.ensures.sound c.requires start end ends in
-    let from : c.args.k ≤ start = c.loop-start.invariant.from in
+    let start = c.loop-agreed.start in
+    let turn = c.loop-agreed.turn in
+    let kept = c.loop-agreed.invariant in
+    let token : c.as_slice.result.now ≡ token_at tokens turn = token_is tokens turn c.index-tokens-turn.result c.as_slice.result.now kept.turn (c.as_slice.ensures ∙ c.index-tokens-turn.is) in
+    let place = c.in_ok-place.place in
+    let is : Some place ≡ next_place text.words (token_at tokens turn) (start + turn) = subst (λ t. Some place ≡ next_place text.words t (start + turn)) token c.in_ok-place.ensures.answer in
+    let within = next_within text tokens c.in_ok-place.ensures.sound c.requires turn start place is in
+    omega (arith, within.0)
+
+pub loop-agreed-smaller : goal.loop-agreed-smaller
+loop-agreed-smaller g c =
+    let text = g.C.CountedLeaves.text c.args.source.now in
+    let tokens = c.args.tokens.now in
+    let start = c.loop-agreed.start in
+    let turn = c.loop-agreed.turn in
+    let kept = c.loop-agreed.invariant in
+    let token : c.as_slice.result.now ≡ token_at tokens turn = token_is tokens turn c.index-tokens-turn.result c.as_slice.result.now kept.turn (c.as_slice.ensures ∙ c.index-tokens-turn.is) in
+    let place = c.in_ok-place.place in
+    let is : Some place ≡ next_place text.words (token_at tokens turn) (start + turn) = subst (λ t. Some place ≡ next_place text.words t (start + turn)) token c.in_ok-place.ensures.answer in
+    let agreed = c.if-earliest-start.agreed in
+    let leads : Leads (place - turn) start c.loop-agreed.agreed agreed =
+    elim c.if-earliest-start.branch [ then-earliest-start w ↦ inl (w.if-earliest-start.true, w.agreed-is) | else-earliest-start w ↦ inr (w.if-earliest-start.false, w.agreed-is) ] in
+    let within = next_within text tokens c.in_ok-place.ensures.sound c.requires turn start place is in
+    closer_on text.next start turn place (length tokens) c.loop-agreed.agreed agreed c.loop-agreed-test.true within.0 within.1 leads
+
+pub loop-agreed-preserved : goal.loop-agreed-preserved
+loop-agreed-preserved g c =
+    let text = g.C.CountedLeaves.text c.args.source.now in
+    let tokens = c.args.tokens.now in
+    let start = c.loop-agreed.start in
+    let turn = c.loop-agreed.turn in
+    let kept = c.loop-agreed.invariant in
+    let token : c.as_slice.result.now ≡ token_at tokens turn = token_is tokens turn c.index-tokens-turn.result c.as_slice.result.now kept.turn (c.as_slice.ensures ∙ c.index-tokens-turn.is) in
+    let place = c.in_ok-place.place in
+    let is : Some place ≡ next_place text.words (token_at tokens turn) (start + turn) = subst (λ t. Some place ≡ next_place text.words t (start + turn)) token c.in_ok-place.ensures.answer in
+    let agreed = c.if-earliest-start.agreed in
+    let leads : Leads (place - turn) start c.loop-agreed.agreed agreed =
+    elim c.if-earliest-start.branch [ then-earliest-start w ↦ inl (w.if-earliest-start.true, w.agreed-is) | else-earliest-start w ↦ inr (w.if-earliest-start.false, w.agreed-is) ] in
+    let within = next_within text tokens c.in_ok-place.ensures.sound c.requires turn start place is in
+    let asked : IsAskedForward text tokens (turn + 1) agreed (place - turn) (g.C.CountedLeaves.most c.args.source.now) (g.C.CountedLeaves.count c.args.counter.now) (g.C.CountedLeaves.count c.next.new.counter) =
+    forward_on text tokens c.in_ok-place.ensures.sound c.requires turn c.loop-agreed.agreed agreed start (g.C.CountedLeaves.most c.args.source.now)
+    (g.C.CountedLeaves.count c.args.counter.now) (g.C.CountedLeaves.count c.loop-agreed.counter) (g.C.CountedLeaves.count c.next.new.counter) place
+    c.loop-agreed-test.true c.in_ok-place.ensures.cost is leads kept.asked in
+    let turns = asked_turns (length tokens) turn c.next_turn-turn.result agreed (passed_upto text tokens (place - turn)) (IsInPlace text tokens (place - turn))
+    (g.C.CountedLeaves.most c.args.source.now) (g.C.CountedLeaves.count c.args.counter.now) (g.C.CountedLeaves.count c.next.new.counter) kept.turn c.next_turn-turn.ensures.wraps c.next_turn-turn.ensures.goes_on asked in
     record {
-      before = forward_before text tokens c.span-next.ensures.sound c.requires c.args.k start end c.loop-start.invariant.before ends;
-      from = omega arith;
-      counted = omega (arith, c.loop-start.invariant.counted, c.in_ok-row.ensures.counted);
-      cost = one_turn (g.C.CountedLeaves.count c.args.counter.now) (g.C.CountedLeaves.count c.loop-start.counter) (g.C.CountedLeaves.count c.row_from.new.counter) (fewest_passed text.words tokens start) (fewest_passed text.words tokens (end - length tokens))
-          (length tokens) (g.C.CountedLeaves.most c.args.source.now) c.loop-start.invariant.cost c.in_ok-row.ensures.cost
-          (forward_more text tokens c.span-next.ensures.sound c.requires start end ends (λ same. let moved = forward_moves text tokens c.span-next.ensures.sound c.requires start c.in_ok-row.row.first end row c.if-earliest-row.false in absurd (omega (arith, moved, same))));
+      asked = turns.1;
+      before = none_before_next text tokens c.in_ok-place.ensures.sound c.requires c.args.k start turn place kept.turn is kept.before;
+      from = omega (arith, kept.from, within.0);
+      below = omega (arith, within.1);
+      turn = turns.0;
+      agreed = elim leads [ inl e ↦ omega (arith, e.1, c.loop-agreed-test.true) | inr e ↦ omega (arith, e.1, c.loop-agreed-test.true) ];
+      counted = omega (arith, kept.counted, c.in_ok-place.ensures.counted);
     }
 
 pub returns-clause-answer : goal.returns-clause-answer
 returns-clause-answer g c =
-    let next : c.span-next.result.next ≡ (g.C.CountedLeaves.text c.args.source.now).next = c.span-next.ensures.next in
-    let past : c.span-next.result.next ≤ c.loop-start.start = c.loop-start-test.false in
-    forward_past (g.C.CountedLeaves.text c.args.source.now) c.args.tokens.now c.span-next.ensures.sound c.requires c.args.k c.loop-start.start c.loop-start.invariant.before (omega arith)
+    let text = g.C.CountedLeaves.text c.args.source.now in
+    let tokens = c.args.tokens.now in
+    let kept = c.loop-agreed.invariant in
+    let all : c.loop-agreed.agreed ≡ length tokens = omega (arith, kept.agreed, c.loop-agreed-test.false) in
+    ap Some c.new.ensures
+    ∙ forward_found text tokens c.span.ensures.sound c.requires c.args.k c.loop-agreed.start c.loop-agreed.turn (g.C.CountedLeaves.most c.args.source.now) (g.C.CountedLeaves.count c.args.counter.now) (g.C.CountedLeaves.count c.loop-agreed.counter)
+    (omega (arith, kept.turn)) kept.from kept.before
+    (subst (λ n. IsAskedForward text tokens c.loop-agreed.turn n c.loop-agreed.start (g.C.CountedLeaves.most c.args.source.now) (g.C.CountedLeaves.count c.args.counter.now) (g.C.CountedLeaves.count c.loop-agreed.counter)) all kept.asked)
+
+pub returns-clause-rounds : goal.returns-clause-rounds
+returns-clause-rounds g c =
+    let kept = c.loop-agreed.invariant in
+    forward_cost (g.C.CountedLeaves.text c.args.source.now) c.args.tokens.now c.span.ensures.sound c.requires c.loop-agreed.turn c.loop-agreed.agreed c.loop-agreed.start (g.C.CountedLeaves.most c.args.source.now)
+    (g.C.CountedLeaves.count c.args.counter.now) (g.C.CountedLeaves.count c.loop-agreed.counter) (g.C.CountedLeaves.count c.loop-agreed.counter) kept.turn (omega arith) kept.asked
 
 pub returns-clause-cost : goal.returns-clause-cost
 returns-clause-cost g c =
-    let words = (g.C.CountedLeaves.text c.args.source.now).words in
-    no_turn (g.C.CountedLeaves.count c.args.counter.now) (g.C.CountedLeaves.count c.loop-start.counter) (fewest_passed words c.args.tokens.now c.loop-start.start) (fewest_places words c.args.tokens.now)
-    (length c.args.tokens.now) (g.C.CountedLeaves.most c.args.source.now) c.loop-start.invariant.cost (fewest_most words c.args.tokens.now c.loop-start.start)
+    rounds_within (length c.args.tokens.now) (fewest_places (g.C.CountedLeaves.text c.args.source.now).words c.args.tokens.now) (g.C.CountedLeaves.most c.args.source.now)
+    (g.C.CountedLeaves.count c.args.counter.now) (g.C.CountedLeaves.count c.loop-agreed.counter) (returns-clause-rounds g c)

@@ -1,22 +1,21 @@
-use Rattle.std.proofs.Common.{◌+◌, ◌*◌, ◌≤◌, length}
-use Rattle.gcl_model.specs.Cost.{fewest_places}
-use Rattle.phrase_walk.proofs.Steps.{NoneBehind}
-use Rattle.phrase_walk.proofs.Passed.{fewest_passed}
+use Rattle.std.proofs.Common.{◌+◌, ◌-◌, ◌*◌, ◌<◌, ◌≤◌, length}
+use Rattle.phrase_walk.proofs.Steps.{NoneBehind, IsAskedBackward}
 use Rattle.phrase_walk.proofs.walks.last_upto.Given as goal
 
--- no row starts behind here up to k, and what is left to pass bounds the turns that are left
-abbrev pub invariant-loop-latest : goal.invariant-loop-latest
-invariant-loop-latest g l =
+-- no row starts behind here up to k, and the tokens were asked in a ring, the last one first
+abbrev pub invariant-loop-agreed : goal.invariant-loop-agreed
+invariant-loop-agreed g l =
     let text = g.C.CountedLeaves.text l.source in
     let most = g.C.CountedLeaves.most l.source in
     record {
+      asked : IsAskedBackward text l.tokens l.turn l.agreed l.start most (g.C.CountedLeaves.count l.fn.counter) (g.C.CountedLeaves.count l.counter);
       behind : NoneBehind text l.tokens l.k l.start;
       upto : l.start ≤ l.k;
       within : l.start ≤ l.room;
+      turn : l.turn < length l.tokens;
+      agreed : l.agreed ≤ length l.tokens;
       counted : g.C.CountedLeaves.count l.fn.counter ≤ g.C.CountedLeaves.count l.counter;
-      cost : g.C.CountedLeaves.count l.counter + fewest_passed text.words l.tokens l.start * (length l.tokens * most)
-          ≤ g.C.CountedLeaves.count l.fn.counter + (2 * fewest_places text.words l.tokens) * (length l.tokens * most);
     }
 
-abbrev pub decreases-loop-latest : goal.decreases-loop-latest
-decreases-loop-latest g l = l.start
+abbrev pub decreases-loop-agreed : goal.decreases-loop-agreed
+decreases-loop-agreed g l = l.start * (l.len + 1) + (l.len - l.agreed)
