@@ -6,6 +6,7 @@ use Rattle.std.proofs.Math.Nat.{ne_of_lt}
 use Rattle.byteorder.specs.Endian.{little_bytes, little_number}
 use Rattle.byteorder.specs.Numbers.{little_number-reads_back, length-bytes_low_first}
 use Rattle.posting_code.specs.Numbers.{spelling}
+use Rattle.posting_code.specs.Packed.{packed_from}
 use Rattle.posting_code.specs.Postings.{RiseWithin}
 use Rattle.posting_code.proofs.Numbers.{prefix_free}
 use Rattle.posting_code.proofs.Rising.{rise_length}
@@ -13,7 +14,7 @@ use Rattle.address_space.specs.Runs.{FileEntry}
 use Rattle.index_shard.specs.Tables.{TermEntry}
 use Rattle.image_file.specs.declared.format.Format.{Format}
 use Rattle.image_file.specs.declared.format.Format.TheVariants.{One, Two}
-use Rattle.image_file.specs.Fields.{Fields, eight_bytes, long_text, short_text, differences, long_file, short_file, short_files, mark, files_bytes, term_bytes, head_bytes, image_bytes}
+use Rattle.image_file.specs.Fields.{Fields, eight_bytes, long_text, short_text, long_file, short_file, short_files, mark, files_bytes, term_bytes, head_bytes, image_bytes}
 use Rattle.image_file.specs.Images.{most_term}
 use Rattle.image_file.specs.Written.{CanPack, ArePacked, FitsLong, FitsShort}
 use Rattle.image_file.proofs.TermTables.{entry_is}
@@ -146,20 +147,20 @@ files_same Two first xs ys r s long px py is = short_files_same 0 first xs ys r 
 
 -- rising addresses from their differences
 pub differences_same : (from low low' : ℕ) (xs ys r s : List ℕ) → length xs ≡ length ys → from ≤ low → from ≤ low' → RiseWithin low (2 ^ 56) xs → RiseWithin low' (2 ^ 56) ys →
-    differences from xs ++ r ≡ differences from ys ++ s → (xs ≡ ys) × (r ≡ s)
+    packed_from from xs ++ r ≡ packed_from from ys ++ s → (xs ≡ ys) × (r ≡ s)
 differences_same from low low' [] [] r s long lx ly rx ry is = (refl, is)
 differences_same from low low' [] (y ∷ ys) r s long lx ly rx ry is = absurd (omega arith)
 differences_same from low low' (x ∷ xs) [] r s long lx ly rx ry is = absurd (omega arith)
 differences_same from low low' (x ∷ xs) (y ∷ ys) r s long lx ly rx ry is =
-    let whole = sym (append_assoc (spelling (x - from)) (differences x xs) r) ∙ is ∙ append_assoc (spelling (y - from)) (differences y ys) s in
+    let whole = sym (append_assoc (spelling (x - from)) (packed_from x xs) r) ∙ is ∙ append_assoc (spelling (y - from)) (packed_from y ys) s in
     let xa = rx.0 in
     let xb = rx.1 in
     let ya = ry.0 in
     let yb = ry.1 in
-    let cut = prefix_free (x - from) (y - from) (differences x xs ++ r) (differences y ys ++ s) (omega (arith, xb)) (omega (arith, yb)) whole in
+    let cut = prefix_free (x - from) (y - from) (packed_from x xs ++ r) (packed_from y ys ++ s) (omega (arith, xb)) (omega (arith, yb)) whole in
     let gap = cut.0 in
     let same : x ≡ y = omega (arith, gap, xa, ya, lx, ly) in
-    let moved : differences x xs ++ r ≡ differences x ys ++ s = cut.1 ∙ ap (λ z. differences z ys ++ s) (sym same) in
+    let moved : packed_from x xs ++ r ≡ packed_from x ys ++ s = cut.1 ∙ ap (λ z. packed_from z ys ++ s) (sym same) in
     let rest = differences_same x (x + 1) (y + 1) xs ys r s (omega arith) (omega arith) (omega (arith, same)) rx.2 ry.2 moved in
     (ap (λ z. z ∷ xs) same ∙ ap (λ zs. y ∷ zs) rest.0, rest.1)
 
@@ -171,21 +172,21 @@ pub record CanWrite (format : Format) (first : ℕ) (e : TermEntry) : Type 0 whe
 
 pub term_same : (format : Format) (first : ℕ) (x y : TermEntry) (r s : List ℕ) → CanWrite format first x → CanWrite format first y → term_bytes format first x ++ r ≡ term_bytes format first y ++ s → (x ≡ y) × (r ≡ s)
 term_same One first x y r s px py is =
-    let whole = sym (three (long_text x.term) (eight_bytes (length x.addresses)) (differences first x.addresses) r) ∙ is
-    ∙ three (long_text y.term) (eight_bytes (length y.addresses)) (differences first y.addresses) s in
-    let text = long_text_same x.term y.term (eight_bytes (length x.addresses) ++ (differences first x.addresses ++ r)) (eight_bytes (length y.addresses) ++ (differences first y.addresses ++ s)) px.short py.short whole in
+    let whole = sym (three (long_text x.term) (eight_bytes (length x.addresses)) (packed_from first x.addresses) r) ∙ is
+    ∙ three (long_text y.term) (eight_bytes (length y.addresses)) (packed_from first y.addresses) s in
+    let text = long_text_same x.term y.term (eight_bytes (length x.addresses) ++ (packed_from first x.addresses ++ r)) (eight_bytes (length y.addresses) ++ (packed_from first y.addresses ++ s)) px.short py.short whole in
     let xl = rise_length first (2 ^ 56) x.addresses px.rising in
     let yl = rise_length first (2 ^ 56) y.addresses py.rising in
-    let count = eight_same (length x.addresses) (length y.addresses) (differences first x.addresses ++ r) (differences first y.addresses ++ s) (omega (arith, xl)) (omega (arith, yl)) text.1 in
+    let count = eight_same (length x.addresses) (length y.addresses) (packed_from first x.addresses ++ r) (packed_from first y.addresses ++ s) (omega (arith, xl)) (omega (arith, yl)) text.1 in
     let list = differences_same first first first x.addresses y.addresses r s count.0 (omega arith) (omega arith) px.rising py.rising count.1 in
     (entry_is x y text.0 list.0, list.1)
 term_same Two first x y r s px py is =
-    let whole = sym (three (short_text x.term) (spelling (length x.addresses - 1)) (differences first x.addresses) r) ∙ is
-    ∙ three (short_text y.term) (spelling (length y.addresses - 1)) (differences first y.addresses) s in
-    let text = short_text_same x.term y.term (spelling (length x.addresses - 1) ++ (differences first x.addresses ++ r)) (spelling (length y.addresses - 1) ++ (differences first y.addresses ++ s)) px.short py.short whole in
+    let whole = sym (three (short_text x.term) (spelling (length x.addresses - 1)) (packed_from first x.addresses) r) ∙ is
+    ∙ three (short_text y.term) (spelling (length y.addresses - 1)) (packed_from first y.addresses) s in
+    let text = short_text_same x.term y.term (spelling (length x.addresses - 1) ++ (packed_from first x.addresses ++ r)) (spelling (length y.addresses - 1) ++ (packed_from first y.addresses ++ s)) px.short py.short whole in
     let xl = rise_length first (2 ^ 56) x.addresses px.rising in
     let yl = rise_length first (2 ^ 56) y.addresses py.rising in
-    let count = prefix_free (length x.addresses - 1) (length y.addresses - 1) (differences first x.addresses ++ r) (differences first y.addresses ++ s) (omega (arith, xl)) (omega (arith, yl)) text.1 in
+    let count = prefix_free (length x.addresses - 1) (length y.addresses - 1) (packed_from first x.addresses ++ r) (packed_from first y.addresses ++ s) (omega (arith, xl)) (omega (arith, yl)) text.1 in
     let less = count.0 in
     let xs = px.some in
     let ys = py.some in

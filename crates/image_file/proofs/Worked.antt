@@ -3,16 +3,17 @@ use Rattle.std.proofs.Common.{◌≡◌, ◌≤◌, List, [], ◌∷◌, ◌++�
 use Rattle.gcl_model.specs.Collections.{Collection, file_start, file_end, words_of}
 use Rattle.gcl_model.specs.Names.{is_name}
 use Rattle.gcl_model.specs.Texts.{places}
+use Rattle.posting_code.specs.Packed.{packed_from}
 use Rattle.index_shard.specs.Tables.{TermEntry, postings_of}
 use Rattle.index_shard.proofs.TableLaws.{term_entry as entry}
 use Rattle.image_file.specs.declared.format.Format.{Format}
 use Rattle.image_file.specs.declared.format.Format.TheVariants.{One, Two}
-use Rattle.image_file.specs.Fields.{differences, image_bytes}
+use Rattle.image_file.specs.Fields.{image_bytes}
 use Rattle.image_file.specs.Images.{AreTermsOf, CanBeSaid, Spells, end_of, fields_of}
 use Rattle.image_file.proofs.TermTables.{table_is}
 
-differences-from_three : differences 3 (5 ∷ 8 ∷ []) ≡ 2 ∷ 3 ∷ []
-differences-from_three = refl
+packed_from-three : packed_from 3 (5 ∷ 8 ∷ []) ≡ 2 ∷ 3 ∷ []
+packed_from-three = refl
 
 -- of a file "a" with "to be or not to be" and an empty file "b", the first deleted
 abbrev only_b : Collection

@@ -6,6 +6,7 @@ use Rattle.std.proofs.lemmas.List.{append_assoc, drop_more, flat_map_more}
 use Rattle.std.proofs.lemmas.Slice.Eq.{bytes_eq-Decides}
 use Rattle.gcl_model.specs.Texts.{Word, places}
 use Rattle.posting_code.specs.Numbers.{spelling}
+use Rattle.posting_code.specs.Packed.{packed_from}
 use Rattle.posting_code.specs.Postings.{RiseWithin}
 use Rattle.posting_code.proofs.Numbers.{spelling-small, spelling-more}
 use Rattle.posting_code.proofs.Rising.{rise_wider}
@@ -21,7 +22,7 @@ use Rattle.image_file.specs.declared.format.Format.TheVariants.{Two}
 use Rattle.gcl_model.specs.Collections.{Collection, IsSound}
 use Rattle.live_version.specs.StandsFor.{StandsFor}
 use Rattle.live_version.proofs.ChangeLaw.{stands_for_one}
-use Rattle.image_file.specs.Fields.{Fields, differences, eight_bytes, head_bytes, image_bytes, mark, short_files, short_term, short_text, term_bytes}
+use Rattle.image_file.specs.Fields.{Fields, eight_bytes, head_bytes, image_bytes, mark, short_files, short_term, short_text, term_bytes}
 use Rattle.image_file.proofs.Decoding.{fields_is, four, three}
 use Rattle.image_file.proofs.Packing.{forgotten_sound, sound_packs}
 use Rattle.image_file.specs.Images.{AreShort, AreTermsOf, CanBeSaved, Spells, TermsRise, fields_of, forgotten}
@@ -81,7 +82,7 @@ spelled_some n lt = elim (cases_lt n 128) [
 pub term_longer : (first : ℕ) (e : TermEntry) → length e.term < 2 ^ 56 → 0 < length (short_term first e)
 term_longer first e short =
     let some = spelled_some (length e.term) short in
-    omega (arith, some, length-append (spelling (length e.term)) e.term, length-append (short_text e.term) (spelling (length e.addresses - 1)), length-append (short_text e.term ++ spelling (length e.addresses - 1)) (differences first e.addresses))
+    omega (arith, some, length-append (spelling (length e.term)) e.term, length-append (short_text e.term) (spelling (length e.addresses - 1)), length-append (short_text e.term ++ spelling (length e.addresses - 1)) (packed_from first e.addresses))
 
 pub writing_pushes : (v : VersionContent) (parts : List PartContent) (count : ℕ) (bytes more term addresses : List ℕ) → Writes v parts count bytes → IsNext parts term addresses → 0 < length addresses → length term < 2 ^ 56 →
     more ≡ bytes ++ short_term v.first (entry term addresses) → Writes v (map (past term) parts) (count + 1) more
@@ -149,10 +150,10 @@ may_write v parts count bytes term addresses is short w next some =
 
 -- one difference more
 pub record IsPutNext (addresses : List ℕ) (i : ℕ) (more whole : List ℕ) : Type 0 where
-  pub together : more ++ differences (get_or addresses i 0) (drop (i + 1) addresses) ≡ whole
+  pub together : more ++ packed_from (get_or addresses i 0) (drop (i + 1) addresses) ≡ whole
   pub rising : RiseWithin (get_or addresses i 0) (2 ^ 56) (drop (i + 1) addresses)
 
-pub put_next : (addresses : List ℕ) (i before : ℕ) (now more whole : List ℕ) → i < length addresses → now ++ differences before (drop i addresses) ≡ whole → RiseWithin before (2 ^ 56) (drop i addresses) →
+pub put_next : (addresses : List ℕ) (i before : ℕ) (now more whole : List ℕ) → i < length addresses → now ++ packed_from before (drop i addresses) ≡ whole → RiseWithin before (2 ^ 56) (drop i addresses) →
     more ≡ now ++ spelling (get_or addresses i 0 - before) → IsPutNext addresses i more whole
 put_next addresses i before now more whole lt together rising is =
     let p = get_or addresses i 0 in
@@ -160,7 +161,7 @@ put_next addresses i before now more whole lt together rising is =
     let rest : drop i addresses ≡ p ∷ ps = drop_more addresses i 0 lt in
     let rises : RiseWithin before (2 ^ 56) (p ∷ ps) = subst (RiseWithin before (2 ^ 56)) rest rising in
     record {
-      together = ap (λ l. l ++ differences p ps) is ∙ append_assoc now (spelling (p - before)) (differences p ps) ∙ ap (λ l. now ++ differences before l) (sym rest) ∙ together;
+      together = ap (λ l. l ++ packed_from p ps) is ∙ append_assoc now (spelling (p - before)) (packed_from p ps) ∙ ap (λ l. now ++ packed_from before l) (sym rest) ∙ together;
       rising = rise_wider (p + 1) p (2 ^ 56) (2 ^ 56) ps rises.2 (omega arith) (omega arith);
     }
 

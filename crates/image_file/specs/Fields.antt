@@ -2,6 +2,7 @@
 use Rattle.std.specs.Prelude.{ℕ, ◌+◌, ◌-◌, List, [], ◌∷◌, ◌++◌, length, flat_map, codes}
 use Rattle.byteorder.specs.Endian.{little_bytes}
 use Rattle.posting_code.specs.Numbers.{spelling}
+use Rattle.posting_code.specs.Packed.{packed_from}
 use Rattle.address_space.specs.Runs.{FileEntry}
 use Rattle.index_shard.specs.Tables.{TermEntry}
 use Rattle.image_file.specs.declared.format.Format.{Format}
@@ -27,11 +28,6 @@ long_text bytes = little_bytes 4 (length bytes) ++ bytes
 abbrev pub short_text : List ℕ → List ℕ
 short_text bytes = spelling (length bytes) ++ bytes
 
--- the packed differences of rising addresses from one on: of 5 and 8 from 3 on they are 2 and 3
-abbrev pub differences : ℕ → List ℕ → List ℕ
-differences from [] = []
-differences from (p ∷ ps) = spelling (p - from) ++ differences p ps
-
 -- a file in version 1: its numbers as they are
 abbrev pub long_file : FileEntry → List ℕ
 long_file file = eight_bytes file.id ++ eight_bytes file.base ++ eight_bytes file.len ++ long_text file.name
@@ -47,11 +43,11 @@ short_files id at (file ∷ files) = short_file id at file ++ short_files (file.
 
 -- a term in version 1, with how many addresses it has, and these
 abbrev pub long_term : ℕ → TermEntry → List ℕ
-long_term first entry = long_text entry.term ++ eight_bytes (length entry.addresses) ++ differences first entry.addresses
+long_term first entry = long_text entry.term ++ eight_bytes (length entry.addresses) ++ packed_from first entry.addresses
 
 -- a term in version 2, with how many addresses it has beside one, and all of them
 abbrev pub short_term : ℕ → TermEntry → List ℕ
-short_term first entry = short_text entry.term ++ spelling (length entry.addresses - 1) ++ differences first entry.addresses
+short_term first entry = short_text entry.term ++ spelling (length entry.addresses - 1) ++ packed_from first entry.addresses
 
 -- what the image begins with
 abbrev pub mark : Format → List ℕ

@@ -1,8 +1,9 @@
 ghost use Rattle.std.specs.Prelude.{◌≡◌, ◌^◌, ◌<◌, ◌++◌, length, IfOk, OnOk};
 ghost use Rattle.std.specs.List.{AllByRecursion};
+ghost use Rattle.posting_code.specs.Packed.{packed_from};
 ghost use Rattle.posting_code.specs.Postings.{RiseWithin};
 ghost use Rattle.live_version.specs.Contents.{live_of};
-ghost use Rattle.image_file.specs.Fields.{differences, short_term};
+ghost use Rattle.image_file.specs.Fields.{short_term};
 ghost use Rattle.image_file.specs.Written.{IsTermText};
 
 use crate::numbers::put_text;
@@ -55,7 +56,7 @@ fn put_term(out: &mut Vec<u8>, first: u64, term: &[u8], addresses: &[u64]) -> Re
 /// Puts each address behind the bytes, as its difference from the one before.
 fn put_differences(out: &mut Vec<u8>, from: u64, addresses: &[u64]) -> Result<(), AllocError>
     requires { RiseWithin from (2 ^ 56) addresses.now }
-    ensures { OnOk result (out.new.items ≡ out.old.items ++ differences from addresses.now) }
+    ensures { OnOk result (out.new.items ≡ out.old.items ++ packed_from from addresses.now) }
 {
     let mut before = from;
     for address in addresses {

@@ -1,36 +1,27 @@
 -- The addresses that were read of a term, and those that any image of the bytes still has.
-use Rattle.std.proofs.Common.{◌≡◌, ℕ, zero, suc, ◌+◌, ◌-◌, ◌^◌, ◌<◌, ◌≤◌, Bool, true, false, ◌||◌, eqb, List, [], ◌∷◌, ◌++◌, length, Option, Some, None, inl, inr, refl, sym, ap, ◌∙◌, subst, arith, length-append, le_refl}
-use Rattle.std.specs.List.{AllByRecursion, list_any}
-use Rattle.std.proofs.lemmas.Bool.{true≢false, cases_Bool, or_cases, or_left, or_right, eqb-true, eqb-false, eq-eqb, ne_eqb, or_parts}
+use Rattle.std.proofs.Common.{◌≡◌, ℕ, zero, suc, ◌+◌, ◌-◌, ◌^◌, ◌<◌, ◌≤◌, Bool, true, false, ◌||◌, eqb, List, [], ◌∷◌, ◌++◌, length, Some, inl, inr, refl, sym, ap, ◌∙◌, subst, arith, length-append, le_refl}
+use Rattle.std.specs.List.{AllByRecursion}
+use Rattle.std.proofs.lemmas.Bool.{true≢false, cases_Bool, or_left, or_right, eqb-true, eq-eqb, ne_eqb, or_parts}
 use Rattle.std.proofs.lemmas.List.{append_assoc, append-nil}
 use Rattle.std.proofs.lemmas.List.Folds.{list_any-append}
 use Rattle.posting_code.specs.Numbers.{spelling}
+use Rattle.posting_code.specs.Packed.{last_of, packed_from}
 use Rattle.posting_code.specs.Postings.{ArePostings, RiseWithin}
 use Rattle.posting_code.proofs.Numbers.{prefix_free}
-use Rattle.posting_code.proofs.Rising.{rise_length, rise_push, rise_wider}
+use Rattle.posting_code.proofs.Rising.{last_of-push, rise_length, rise_push, rise_wider}
 use Rattle.index_shard.specs.Tables.{has_address}
 use Rattle.index_shard.proofs.TableLaws.{all_push}
 use Rattle.address_space.specs.Runs.{FileEntry}
 use Rattle.live_version.specs.Contents.{is_of_file, is_of_files}
 use Rattle.image_file.specs.declared.format.Format.{Format}
 use Rattle.image_file.specs.declared.format.Format.TheVariants.{One, Two}
-use Rattle.image_file.specs.Fields.{differences}
 use Rattle.image_file.proofs.Decoding.{eight_same}
 use Rattle.image_read.specs.declared.places.Role.{Role}
 use Rattle.image_read.specs.Reading.{FillRole, HasNoAddresses, HasNoCount, HasNoPacked, IsAddressesFront, IsCountFront, IsPacked, SeenContent, Sees, SeesAll, count_bytes, count_end, is_seen, role_in}
 
--- where differences end
-abbrev pub last_from : ℕ → List ℕ → ℕ
-last_from from [] = from
-last_from from (p ∷ ps) = last_from p ps
-
-differences_push : (from : ℕ) (ps : List ℕ) (p : ℕ) → differences from (ps ++ p ∷ []) ≡ differences from ps ++ spelling (p - last_from from ps)
-differences_push from [] p = append-nil (spelling (p - from))
-differences_push from (q ∷ qs) p = ap (λ l. spelling (q - from) ++ l) (differences_push q qs p) ∙ sym (append_assoc (spelling (q - from)) (differences q qs) (spelling (p - last_from q qs)))
-
-last_push : (from : ℕ) (ps : List ℕ) (p : ℕ) → last_from from (ps ++ p ∷ []) ≡ p
-last_push from [] p = refl
-last_push from (q ∷ qs) p = last_push q qs p
+packed_from-push : (from : ℕ) (ps : List ℕ) (p : ℕ) → packed_from from (ps ++ p ∷ []) ≡ packed_from from ps ++ spelling (p - last_of (from ∷ ps))
+packed_from-push from [] p = append-nil (spelling (p - from))
+packed_from-push from (q ∷ qs) p = ap (λ l. spelling (q - from) ++ l) (packed_from-push q qs p) ∙ sym (append_assoc (spelling (q - from)) (packed_from q qs) (spelling (p - last_of (q ∷ qs))))
 
 pub lacks_later : (low bound : ℕ) (ps : List ℕ) (p : ℕ) → RiseWithin low bound ps → bound ≤ p → has_address ps p ≡ false
 lacks_later low bound [] p rise le = refl
@@ -51,12 +42,12 @@ pub record AreAllAddresses (first next number : ℕ) (start : SeenContent) (role
   pub long : length all ≡ number
   pub fills : FillRole first next start.files role all
   pub unseen : AllByRecursion (λ p. is_seen start p ≡ false) all
-  pub bytes : whole ≡ differences first all ++ end
+  pub bytes : whole ≡ packed_from first all ++ end
 
 -- those that are left
 pub record AreLeft (bound next : ℕ) (start : SeenContent) (role : Role) (before : ℕ) (addresses rest all end left : List ℕ) : Type 0 where
   pub whole : all ≡ addresses ++ left
-  pub bytes : rest ≡ differences before left ++ end
+  pub bytes : rest ≡ packed_from before left ++ end
   pub rising : RiseWithin bound next left
   pub roles : AllByRecursion (λ p. role_in start.files p ≡ Some role) left
   pub unseen : AllByRecursion (λ p. is_seen start p ≡ false) left
@@ -69,8 +60,8 @@ pub record AreRead (first next number : ℕ) (start : SeenContent) (role : Role)
   pub none : i ≡ 0 → before ≡ bound
   pub some : 0 < i → before + 1 ≡ bound
   pub rising : RiseWithin first bound addresses
-  pub last : last_from first addresses ≡ before
-  pub bytes : whole ≡ differences first addresses ++ rest
+  pub last : last_of (first ∷ addresses) ≡ before
+  pub bytes : whole ≡ packed_from first addresses ++ rest
   pub roles : AllByRecursion (λ p. role_in start.files p ≡ Some role) addresses
   pub unseen : AllByRecursion (λ p. is_seen start p ≡ false) addresses
   pub sees : SeesAll start now addresses
@@ -105,7 +96,7 @@ pub record HasNextAddress (bound next : ℕ) (start : SeenContent) (role : Role)
   pub below : p < next
   pub role_is : role_in start.files p ≡ Some role
   pub fresh : is_seen start p ≡ false
-  pub bytes : rest ≡ spelling (p - before) ++ (differences p more ++ end)
+  pub bytes : rest ≡ spelling (p - before) ++ (packed_from p more ++ end)
   pub rising : RiseWithin (p + 1) next more
   pub roles : AllByRecursion (λ q. role_in start.files q ≡ Some role) more
   pub unseen : AllByRecursion (λ q. is_seen start q ≡ false) more
@@ -132,7 +123,7 @@ has_next_address first next number start role whole i before now addresses rest 
         below = left.rising.1;
         role_is = left.roles.0;
         fresh = left.unseen.0;
-        bytes = left.bytes ∙ append_assoc (spelling (p - before)) (differences p more) end;
+        bytes = left.bytes ∙ append_assoc (spelling (p - before)) (packed_from p more) end;
         rising = left.rising.2;
         roles = left.roles.1;
         unseen = left.unseen.1;
@@ -141,11 +132,11 @@ has_next_address first next number start role whole i before now addresses rest 
 
 -- the gap that stands there is that of the address
 pub next_is : (bound next : ℕ) (start : SeenContent) (role : Role) (before : ℕ) (addresses rest all end : List ℕ) (p : ℕ) (more : List ℕ) (gap : ℕ) (behind : List ℕ) → next ≤ 2 ^ 56 → before ≤ bound →
-    HasNextAddress bound next start role before addresses rest all end p more → IsPacked rest gap behind → (before + gap ≡ p) × (behind ≡ differences p more ++ end)
+    HasNextAddress bound next start role before addresses rest all end p more → IsPacked rest gap behind → (before + gap ≡ p) × (behind ≡ packed_from p more ++ end)
 next_is bound next start role before addresses rest all end p more gap behind end_le le has packed =
     let from = has.from in
     let below = has.below in
-    let cut = prefix_free gap (p - before) behind (differences p more ++ end) packed.small (omega (arith, below, end_le)) (sym packed.bytes ∙ has.bytes) in
+    let cut = prefix_free gap (p - before) behind (packed_from p more ++ end) packed.small (omega (arith, below, end_le)) (sym packed.bytes ∙ has.bytes) in
     let same = cut.0 in
     (omega (arith, same, from, le), cut.1)
 
@@ -194,11 +185,11 @@ addresses_step first next number start role whole i before now addresses rest bo
       none = λ e. absurd (omega arith);
       some = λ some. refl;
       rising = rise_push first bound (p + 1) addresses p read.rising read.low from (omega arith);
-      last = last_push first addresses p;
+      last = last_of-push (first ∷ addresses) p;
       bytes =
-          read.bytes ∙ ap (λ l. differences first addresses ++ l) packed.bytes ∙ sym (append_assoc (differences first addresses) (spelling gap) behind)
-          ∙ ap (λ n. differences first addresses ++ spelling n ++ behind) (sym (ap (λ b. p - b) read.last ∙ apart))
-          ∙ ap (λ l. l ++ behind) (sym (differences_push first addresses p));
+          read.bytes ∙ ap (λ l. packed_from first addresses ++ l) packed.bytes ∙ sym (append_assoc (packed_from first addresses) (spelling gap) behind)
+          ∙ ap (λ n. packed_from first addresses ++ spelling n ++ behind) (sym (ap (λ b. p - b) read.last ∙ apart))
+          ∙ ap (λ l. l ++ behind) (sym (packed_from-push first addresses p));
       roles = all_push (λ q. role_in start.files q ≡ Some role) addresses p read.roles is;
       unseen = all_push (λ q. is_seen start q ≡ false) addresses p read.unseen (fresh_at start now addresses p role read.sees is none);
       sees = sees_push start now after addresses p read.sees sees;
@@ -208,7 +199,7 @@ addresses_step first next number start role whole i before now addresses rest bo
             has.1,
             record {
               whole = has.2.whole ∙ ap (λ q. addresses ++ (q ∷ has.1)) (sym same.0) ∙ sym (append_assoc addresses (p ∷ []) has.1);
-              bytes = same.1 ∙ ap (λ q. differences q has.1 ++ end) (sym same.0);
+              bytes = same.1 ∙ ap (λ q. packed_from q has.1 ++ end) (sym same.0);
               rising = subst (λ q. RiseWithin (q + 1) next has.1) (sym same.0) has.2.rising;
               roles = has.2.roles;
               unseen = has.2.unseen;
@@ -225,7 +216,7 @@ pub addresses_stop : (first next number : ℕ) (start : SeenContent) (role : Rol
 addresses_stop first next number start role whole i before now addresses rest bound end_le lt read none all end is =
     let has = has_next_address first next number start role whole i before now addresses rest bound lt read all end is in
     let below = has.2.below in
-    none (has.0 - before) (differences has.0 has.1 ++ end) (omega (arith, below, end_le)) has.2.bytes
+    none (has.0 - before) (packed_from has.0 has.1 ++ end) (omega (arith, below, end_le)) has.2.bytes
 
 pub addresses_beyond : (first next number : ℕ) (start : SeenContent) (role : Role) (whole : List ℕ) (i before : ℕ) (now : SeenContent) (addresses rest : List ℕ) (bound gap : ℕ) (behind : List ℕ) → next ≤ 2 ^ 56 → i < number →
     AreRead first next number start role whole i before now addresses rest bound → IsPacked rest gap behind → (bound ≤ before + gap → before + gap < next → ⊥) → HaveNone first next number start role whole
@@ -270,18 +261,18 @@ few_addresses : (first next : ℕ) (ps : List ℕ) → next ≤ 2 ^ 56 → RiseW
 few_addresses first next ps le rise = let long = rise_length first next ps rise in omega (arith, long, le)
 
 front_counted : (format : Format) (first next : ℕ) (start : SeenContent) (role : Role) (whole addresses rest : List ℕ) → next ≤ 2 ^ 56 → IsAddressesFront format first next start role whole addresses rest →
-    IsCountFront format whole (length addresses) (differences first addresses ++ rest)
+    IsCountFront format whole (length addresses) (packed_from first addresses ++ rest)
 front_counted format first next start role whole addresses rest le is =
     record { some = is.some; small = small_count format (length addresses) (few_addresses first next addresses le is.fills.rising); bytes = is.bytes }
 
 pub addresses_uncounted : (format : Format) (first next : ℕ) (start : SeenContent) (role : Role) (whole : List ℕ) → next ≤ 2 ^ 56 → HasNoCount format whole → HasNoAddresses format first next start role whole
 addresses_uncounted format first next start role whole le none addresses rest is =
-    none (length addresses) (differences first addresses ++ rest) (few_addresses first next addresses le is.fills.rising) (front_counted format first next start role whole addresses rest le is)
+    none (length addresses) (packed_from first addresses ++ rest) (few_addresses first next addresses le is.fills.rising) (front_counted format first next start role whole addresses rest le is)
 
 pub addresses_none : (format : Format) (first next : ℕ) (start : SeenContent) (role : Role) (whole : List ℕ) (number : ℕ) (behind : List ℕ) → next ≤ 2 ^ 56 → IsCountFront format whole number behind → HaveNone first next number start role behind →
     HasNoAddresses format first next start role whole
 addresses_none format first next start role whole number behind le count none addresses rest is =
-    let same = count_same format whole number (length addresses) behind (differences first addresses ++ rest) count (front_counted format first next start role whole addresses rest le is) in
+    let same = count_same format whole number (length addresses) behind (packed_from first addresses ++ rest) count (front_counted format first next start role whole addresses rest le is) in
     none addresses rest record { long = sym same.0; fills = is.fills; unseen = is.unseen; bytes = same.1 }
 
 pub addresses_end : (format : Format) (first next : ℕ) (start : SeenContent) (role : Role) (whole : List ℕ) (number : ℕ) (behind : List ℕ) (i before : ℕ) (now : SeenContent) (addresses rest : List ℕ) (bound : ℕ) → next ≤ 2 ^ 56 → i ≡ number →
@@ -293,7 +284,7 @@ addresses_end format first next start role whole number behind i before now addr
       some = omega (arith, some, counted);
       fills = record { rising = rise_wider first first bound next addresses read.rising (le_refl first) read.high; roles = read.roles };
       unseen = read.unseen;
-      bytes = count.bytes ∙ ap (λ l. count_bytes format number ++ l) read.bytes ∙ ap (λ n. count_bytes format n ++ (differences first addresses ++ rest)) (sym counted);
+      bytes = count.bytes ∙ ap (λ l. count_bytes format number ++ l) read.bytes ∙ ap (λ n. count_bytes format n ++ (packed_from first addresses ++ rest)) (sym counted);
     }
 
 pub address_small : (first next number : ℕ) (start : SeenContent) (role : Role) (whole : List ℕ) (i before : ℕ) (now : SeenContent) (addresses rest : List ℕ) (bound : ℕ) → AreRead first next number start role whole i before now addresses rest bound → before ≤ next

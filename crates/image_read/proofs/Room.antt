@@ -4,13 +4,14 @@ use Rattle.std.specs.List.{AllByRecursion}
 use Rattle.std.proofs.lemmas.Bool.{cases_Bool, or_left, or_right, eqb-true}
 use Rattle.gcl_model.proofs.Lists.{all_weaker}
 use Rattle.posting_code.specs.Numbers.{spelling}
+use Rattle.posting_code.specs.Packed.{packed_from}
 use Rattle.posting_code.specs.Postings.{RiseWithin}
 use Rattle.address_space.specs.Runs.{FileEntry, IsFileRun}
 use Rattle.index_shard.specs.Tables.{TermEntry, has_address}
 use Rattle.live_version.specs.Contents.{is_of_file, is_of_files}
 use Rattle.live_version.proofs.ChangeFiles.{is_of_file-inside}
 use Rattle.image_file.specs.declared.format.Format.{Format}
-use Rattle.image_file.specs.Fields.{differences, eight_bytes, term_bytes}
+use Rattle.image_file.specs.Fields.{eight_bytes, term_bytes}
 use Rattle.image_read.specs.Reading.{AreTermBytes, HasNoTerms, count_bytes, is_covered, text_bytes, widths}
 use Rattle.image_read.proofs.TermTracking.{term_parts}
 
@@ -161,21 +162,21 @@ spelling_some n = elim (cases_Bool (ltb n 128)) [
   | inr h ↦ rw h (omega arith)
 ]
 
-differences_long : (from : ℕ) (ps : List ℕ) → length ps ≤ length (differences from ps)
-differences_long from [] = omega arith
-differences_long from (p ∷ ps) =
+packed_from-long : (from : ℕ) (ps : List ℕ) → length ps ≤ length (packed_from from ps)
+packed_from-long from [] = omega arith
+packed_from-long from (p ∷ ps) =
     let here = spelling_some (p - from) in
-    let rest = differences_long p ps in
-    let long = length-append (spelling (p - from)) (differences p ps) in
+    let rest = packed_from-long p ps in
+    let long = length-append (spelling (p - from)) (packed_from p ps) in
     omega (arith, here, rest, long)
 
 term_long : (format : Format) (first : ℕ) (e : TermEntry) (rest : List ℕ) → length e.addresses + length rest ≤ length (term_bytes format first e ++ rest)
 term_long format first e rest =
     let parts = ap length (term_parts format first e rest) in
-    let one = length-append (text_bytes format e.term) (count_bytes format (length e.addresses) ++ (differences first e.addresses ++ rest)) in
-    let two = length-append (count_bytes format (length e.addresses)) (differences first e.addresses ++ rest) in
-    let three = length-append (differences first e.addresses) rest in
-    let long = differences_long first e.addresses in
+    let one = length-append (text_bytes format e.term) (count_bytes format (length e.addresses) ++ (packed_from first e.addresses ++ rest)) in
+    let two = length-append (count_bytes format (length e.addresses)) (packed_from first e.addresses ++ rest) in
+    let three = length-append (packed_from first e.addresses) rest in
+    let long = packed_from-long first e.addresses in
     omega (arith, parts, one, two, three, long)
 
 terms_long : (format : Format) (first : ℕ) (es : List TermEntry) → total es ≤ length (flat_map (term_bytes format first) es)

@@ -1,7 +1,6 @@
 -- The terms that were read, and those that any image of the bytes still has.
-use Rattle.std.proofs.Common.{◌≡◌, ℕ, zero, suc, ◌+◌, ◌-◌, ◌^◌, ◌<◌, ◌≤◌, Bool, true, false, ◌||◌, eqb, List, [], ◌∷◌, ◌++◌, length, flat_map, nat_cmp, Option, Some, inl, inr, refl, sym, ap, ◌∙◌, subst, arith, length-append, le_refl, None}
-use Rattle.std.specs.List.{AllByRecursion, list_any}
-use Rattle.std.specs.Option.{option_map, IfSome}
+use Rattle.std.proofs.Common.{◌≡◌, ℕ, ◌+◌, ◌-◌, ◌^◌, ◌<◌, ◌≤◌, Bool, true, false, ◌||◌, eqb, List, [], ◌∷◌, ◌++◌, length, flat_map, Option, Some, inl, inr, refl, sym, ap, ◌∙◌, subst, arith, length-append, le_refl}
+use Rattle.std.specs.List.{AllByRecursion}
 use Rattle.std.proofs.lemmas.Bool.{true≢false, cases_Bool, or_cases, or_left, or_right, eqb-true, eq-eqb, false_from_ne_true, or_parts}
 use Rattle.std.proofs.lemmas.Cmp.{nat_list_cmp_total}
 use Rattle.std.proofs.lemmas.List.{append_assoc, append-nil, flat_map_more}
@@ -9,16 +8,17 @@ use Rattle.std.proofs.lemmas.List.Folds.{list_any-append}
 use Rattle.gcl_model.specs.Slots.{SlotRange}
 use Rattle.gcl_model.proofs.Lists.{all_right, all_weaker}
 use Rattle.posting_code.specs.Numbers.{spelling}
+use Rattle.posting_code.specs.Packed.{packed_from}
 use Rattle.posting_code.specs.Postings.{RiseWithin}
 use Rattle.posting_code.proofs.Rising.{rise_wider}
-use Rattle.index_shard.specs.Tables.{TermEntry, AreApart, ArePostingsIn, ComesBefore, has_address, last_entry}
+use Rattle.index_shard.specs.Tables.{TermEntry, AreApart, ArePostingsIn, ComesBefore, has_address}
 use Rattle.index_shard.proofs.TableLaws.{all_push, term_entry as entry}
 use Rattle.address_space.specs.Runs.{FileEntry}
-use Rattle.live_version.specs.Contents.{LiesIn, is_of_file, is_of_files}
+use Rattle.live_version.specs.Contents.{is_of_file, is_of_files}
 use Rattle.live_version.proofs.ChangeFiles.{is_of_file-bounds}
 use Rattle.image_file.specs.declared.format.Format.{Format}
 use Rattle.image_file.specs.declared.format.Format.TheVariants.{One, Two}
-use Rattle.image_file.specs.Fields.{differences, eight_bytes, long_text, short_text, term_bytes}
+use Rattle.image_file.specs.Fields.{eight_bytes, long_text, short_text, term_bytes}
 use Rattle.image_file.specs.Images.{TermsRise}
 use Rattle.image_file.proofs.Decoding.{CanWrite, long_text_same, short_text_same, term_same, three}
 use Rattle.image_file.proofs.Writing.{rising_push}
@@ -30,9 +30,9 @@ use Rattle.image_read.proofs.AddressTracking.{role_of_files}
 
 -- a term is a text, a number of addresses and their differences
 pub term_parts : (format : Format) (first : ℕ) (e : TermEntry) (rest : List ℕ) →
-    term_bytes format first e ++ rest ≡ text_bytes format e.term ++ (count_bytes format (length e.addresses) ++ (differences first e.addresses ++ rest))
-term_parts One first e rest = three (long_text e.term) (eight_bytes (length e.addresses)) (differences first e.addresses) rest
-term_parts Two first e rest = three (short_text e.term) (spelling (length e.addresses - 1)) (differences first e.addresses) rest
+    term_bytes format first e ++ rest ≡ text_bytes format e.term ++ (count_bytes format (length e.addresses) ++ (packed_from first e.addresses ++ rest))
+term_parts One first e rest = three (long_text e.term) (eight_bytes (length e.addresses)) (packed_from first e.addresses) rest
+term_parts Two first e rest = three (short_text e.term) (spelling (length e.addresses - 1)) (packed_from first e.addresses) rest
 
 pub text_same : (format : Format) (whole t u r s : List ℕ) → IsTextFront format whole t r → IsTextFront format whole u s → (t ≡ u) × (r ≡ s)
 text_same One whole t u r s a b = long_text_same t u r s a.short b.short (sym a.bytes ∙ b.bytes)
@@ -78,7 +78,7 @@ unseen_next format first next places table e holds entry apart =
 
 pub no_next_term : (format : Format) (first next : ℕ) (files : List FileEntry) (table : List TermEntry) (whole : List ℕ) → HasNoTerm format (last_term table) whole → HasNoNextTerm format first next files table whole
 no_next_term format first next files table whole none e rest is =
-    none e.term (role_of e.term) (count_bytes format (length e.addresses) ++ (differences first e.addresses ++ rest))
+    none e.term (role_of e.term) (count_bytes format (length e.addresses) ++ (packed_from first e.addresses ++ rest))
     record {
       text = record { short = is.entry.short; bytes = is.bytes ∙ term_parts format first e rest };
       role = record { role = refl; token = is.entry.token };
@@ -88,7 +88,7 @@ no_next_term format first next files table whole none e rest is =
 pub no_next_addresses : (format : Format) (first next : ℕ) (places : SeenContent) (table : List TermEntry) (whole term : List ℕ) (role : Role) (behind : List ℕ) → HoldsTerms format first next places table →
     IsTermFront format (last_term table) whole term role behind → HasNoAddresses format first next places role behind → HasNoNextTerm format first next places.files table whole
 no_next_addresses format first next places table whole term role behind holds front none e rest is =
-    let left = count_bytes format (length e.addresses) ++ (differences first e.addresses ++ rest) in
+    let left = count_bytes format (length e.addresses) ++ (packed_from first e.addresses ++ rest) in
     let same = text_same format whole term e.term behind left front.text record { short = is.entry.short; bytes = is.bytes ∙ term_parts format first e rest } in
     let roles : role_of e.term ≡ role = ap role_of (sym same.0) ∙ front.role.role in
     none e.addresses rest

@@ -6,13 +6,14 @@ use Rattle.gcl_model.specs.Collections.{FitsHole, IsToken, file_start, file_end}
 use Rattle.gcl_model.specs.Names.{is_name}
 use Rattle.byteorder.specs.Endian.{little_bytes}
 use Rattle.posting_code.specs.Numbers.{spelling}
+use Rattle.posting_code.specs.Packed.{packed_from}
 use Rattle.posting_code.specs.Postings.{RiseWithin}
 use Rattle.address_space.specs.Runs.{FileEntry, IsFileRun}
 use Rattle.index_shard.specs.Tables.{TermEntry, AreApart, has_address}
 use Rattle.live_version.specs.Contents.{is_of_file, is_of_files}
 use Rattle.image_file.specs.declared.format.Format.{Format}
 use Rattle.image_file.specs.declared.format.Format.TheVariants.{One, Two}
-use Rattle.image_file.specs.Fields.{eight_bytes, long_text, short_text, differences, long_file, short_file, mark, term_bytes}
+use Rattle.image_file.specs.Fields.{eight_bytes, long_text, short_text, long_file, short_file, mark, term_bytes}
 use Rattle.image_file.specs.Images.{end_of, most_term, TermsRise}
 use Rattle.image_file.specs.Written.{FitsLong, FitsShort}
 use Rattle.image_read.specs.declared.places.Role.{Role}
@@ -232,7 +233,7 @@ pub record IsAddressesFront (format : Format) (first next : ℕ) (places : SeenC
   pub some : 0 < length addresses
   pub fills : FillRole first next places.files role addresses
   pub unseen : AllByRecursion (λ p. is_seen places p ≡ false) addresses
-  pub bytes : whole ≡ count_bytes format (length addresses) ++ (differences first addresses ++ rest)
+  pub bytes : whole ≡ count_bytes format (length addresses) ++ (packed_from first addresses ++ rest)
 
 -- the bytes begin with no addresses of a role of which no word was seen yet
 abbrev pub HasNoAddresses : Format → (first next : ℕ) → SeenContent → Role → List ℕ → Type 0

@@ -1,4 +1,4 @@
--- How a list is kept, for this crate alone: the differences between its members, packed.
+-- How a list is kept: the differences between its members, packed. Images have them too; the rest is for this crate alone.
 use Rattle.std.specs.Prelude.{◌≡◌, ℕ, zero, suc, ◌+◌, ◌-◌, ◌*◌, ◌/◌, ◌%◌, ◌^◌, ◌<◌, ◌≤◌, List, [], ◌∷◌, ◌++◌, length, drop, get_or, nat_lt, ◌==◌, if◌then◌else◌}
 use Rattle.posting_code.specs.declared.head.Head.{Head}
 use Rattle.posting_code.specs.Numbers.{spelling}
@@ -20,7 +20,7 @@ abbrev pub kept : ℕ → ℕ → List ℕ → List ℕ
 kept zero first packed = []
 kept (suc count) first packed = first ∷ unpacked first 0 1 packed
 
--- the packed differences of the members behind one
+-- the packed differences of the members behind one: of 5 and 8 behind 3 they are 2 and 3
 abbrev pub packed_from : ℕ → List ℕ → List ℕ
 packed_from before [] = []
 packed_from before (p ∷ ps) = spelling (p - before) ++ packed_from p ps

@@ -1,5 +1,5 @@
 -- The groups of the tokens so far, one token after the other.
-use Rattle.std.proofs.Common.{◌≡◌, ℕ, ◌+◌, ◌≤◌, cond, List, [], ◌∷◌, ◌++◌, length, bytes_eq, Option, Some, refl, sym, ap, ◌∙◌, subst, arith}
+use Rattle.std.proofs.Common.{◌≡◌, ℕ, ◌+◌, cond, List, [], ◌∷◌, ◌++◌, length, bytes_eq, Option, Some, refl, sym, ap, ◌∙◌, arith}
 use Rattle.std.specs.Option.{IfSome, unwrap_or}
 use Rattle.std.proofs.lemmas.List.{append_assoc, append-nil, length-append}
 use Rattle.gcl_model.specs.Collections.{words_from, with_boundaries, file_start, file_end}

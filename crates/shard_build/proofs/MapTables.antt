@@ -12,7 +12,7 @@ use Rattle.gcl_model.specs.Slots.{SlotRange, slot_range}
 use Rattle.gcl_model.specs.Collections.{words_from}
 use Rattle.index_shard.specs.Tables.{TermEntry, ShardContent, ComesBefore, IsTable, words_of}
 use Rattle.shard_build.specs.Groups.{group_of, table_entry, table_of}
-use Rattle.shard_build.proofs.Tables.{entry_of, TermsRise, ComesNext, all_groups, groups_are_table, groups_have_words, comes_next}
+use Rattle.shard_build.proofs.Tables.{entry_of, term_cmp, ComesNext, all_groups, groups_are_table, groups_have_words, comes_next}
 
 -- the entry of a token is what the map has for it
 pub entry_of-table_of : (entries : List (Vec ℕ × List ℕ)) (token : List ℕ) →
@@ -31,7 +31,7 @@ all_before key [] all = tt
 all_before key (e ∷ es) all = (all.0, all_before key es all.1)
 
 -- the keys' order is the terms'
-pub table_rises : (entries : List (Vec ℕ × List ℕ)) → IsStrictlySortedBy (λ x y. slice_cmp nat_cmp x.items y.items) (keys_of entries) → TermsRise (table_of entries)
+pub table_rises : (entries : List (Vec ℕ × List ℕ)) → IsStrictlySortedBy (λ x y. slice_cmp nat_cmp x.items y.items) (keys_of entries) → IsStrictlySortedBy term_cmp (table_of entries)
 unfolding IsStrictlySortedBy
 table_rises [] sorted = tt
 table_rises (e ∷ es) sorted = (all_before e.0 es sorted.0, table_rises es sorted.1)

@@ -1,7 +1,9 @@
 -- The table that the groups of the words make.
-use Rattle.std.proofs.Common.{◌≡◌, ℕ, zero, suc, ◌+◌, ◌-◌, ◌<◌, ◌≤◌, true, false, cond, List, [], ◌∷◌, ◌++◌, length, bytes_eq, nat_cmp, get_or, Option, Some, None, inl, inr, refl, sym, ap, ◌∙◌, subst, arith}
+use Rattle.std.proofs.Common.{◌≡◌, ℕ, ◌+◌, ◌-◌, ◌<◌, ◌≤◌, true, cond, List, [], ◌∷◌, ◌++◌, length, bytes_eq, nat_cmp, get_or, Option, Some, None, inl, inr, refl, sym, ap, ◌∙◌, subst, arith}
+use Rattle.std.specs.declared.cmp.Ordering.{Ordering}
 use Rattle.std.specs.declared.cmp.Ordering.TheVariants.{Less}
 use Rattle.std.specs.List.{AllByRecursion}
+use Rattle.std.specs.List.Sorted.{IsStrictlySortedBy}
 use Rattle.std.specs.Option.{IfSome}
 use Rattle.std.specs.Cmp.Lexicographic.{slice_cmp}
 use Rattle.std.proofs.lemmas.Bool.{true≢false, cases_Bool}
@@ -20,10 +22,9 @@ abbrev pub entry_of : List TermEntry → List ℕ → Option (List ℕ)
 entry_of [] token = None
 entry_of (e ∷ es) token = cond (bytes_eq e.term token) (Some e.addresses) (entry_of es token)
 
--- the terms come in strictly rising order
-abbrev pub TermsRise : List TermEntry → Type 0
-TermsRise [] = Unit {0}
-TermsRise (e ∷ es) = AllByRecursion (λ d. ComesBefore e.term d.term) es × TermsRise es
+-- entries are compared by their terms, in byte order
+abbrev pub term_cmp : TermEntry → TermEntry → Ordering
+term_cmp d e = slice_cmp nat_cmp d.term e.term
 
 -- an entry has the places of its token
 abbrev pub IsGroup : List Word → TermEntry → Type 0
@@ -44,7 +45,8 @@ not_met e (d ∷ ds) token all same =
     ]
 
 -- where each token's entry is its group, each entry is one
-pub all_groups : (words : List Word) (es : List TermEntry) → TermsRise es → ((token ps : List ℕ) → entry_of es token ≡ Some ps → group_of words token ≡ Some ps) → AllByRecursion (IsGroup words) es
+pub all_groups : (words : List Word) (es : List TermEntry) → IsStrictlySortedBy term_cmp es → ((token ps : List ℕ) → entry_of es token ≡ Some ps → group_of words token ≡ Some ps) → AllByRecursion (IsGroup words) es
+unfolding IsStrictlySortedBy
 all_groups words [] rise found = tt
 all_groups words (e ∷ es) rise found =
     let itself : bytes_eq e.term e.term ≡ true = (bytes_eq-Decides e.term e.term).1 refl in (
@@ -81,7 +83,8 @@ all_precede tokens first e (d ∷ ds) is all before =
       all_precede tokens first e ds is all.1 before.1,
     )
 
-pub groups_are_table : (tokens : List (List ℕ)) (range : SlotRange) (es : List TermEntry) → range.last + 1 ≡ range.first + length tokens → TermsRise es → AllByRecursion (IsGroup (words_from range.first tokens)) es → IsTable range es
+pub groups_are_table : (tokens : List (List ℕ)) (range : SlotRange) (es : List TermEntry) → range.last + 1 ≡ range.first + length tokens → IsStrictlySortedBy term_cmp es → AllByRecursion (IsGroup (words_from range.first tokens)) es → IsTable range es
+unfolding IsStrictlySortedBy
 groups_are_table tokens range [] width rise all = tt
 groups_are_table tokens range (e ∷ es) width rise all =
     (postings_in tokens range e width all.0, all_precede tokens range.first e es all.0 all.1 rise.0, groups_are_table tokens range es width rise.1 all.1)
@@ -123,7 +126,7 @@ has_some [] p has = absurd (true≢false (sym has))
 has_some (q ∷ qs) p has = refl
 
 -- the words of the table are those that were grouped
-pub groups_have_words : (tokens : List (List ℕ)) (shard : ShardContent) → shard.range.last + 1 ≡ shard.range.first + length tokens → shard.range.first ≤ shard.range.last → TermsRise shard.table →
+pub groups_have_words : (tokens : List (List ℕ)) (shard : ShardContent) → shard.range.last + 1 ≡ shard.range.first + length tokens → shard.range.first ≤ shard.range.last → IsStrictlySortedBy term_cmp shard.table →
     ((token : List ℕ) → entry_of shard.table token ≡ group_of (words_from shard.range.first tokens) token) → words_of shard ≡ words_from shard.range.first tokens
 groups_have_words tokens shard width ordered rise found =
     let first = shard.range.first in
