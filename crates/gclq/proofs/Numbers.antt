@@ -65,3 +65,14 @@ pub made_finished : (options : Option Options) (s : Status) (n : ℕ) (Calm : Ty
     IfSome options (λ (o : Options). IsSome o.made → Calm → IsFinished s) → IfSome options (λ (o : Options). IsSome o.made → Calm → IsEnd n)
 made_finished None s n Calm p h = tt
 made_finished (Some options) s n Calm p h = λ made calm. finished_number s n p (h made calm)
+
+-- the status at whose number no file failed, and no memory was wanted
+pub sure_status : (s : Status) (n : ℕ) → n ≡ number_of s → E.IsSureOfFiles n → S.IsSureOfFiles s
+sure_status Done n p is = tt
+sure_status DoneWithRefusals n p is = tt
+sure_status Usage n p is = tt
+sure_status ReadFault n p is = tt
+sure_status WriteFault n p is = tt
+sure_status FileFault n p is = absurd (is.0 p)
+sure_status NoMemory n p is = absurd (is.1 p)
+sure_status ScriptTooLong n p is = tt

@@ -15,3 +15,7 @@ IsAllAnswered status = (status ≡ 0) ⊎ (status ≡ 1)
 -- all was answered, or memory was wanted
 abbrev pub IsEnd : ℕ → Type 0
 IsEnd status = (status ≡ 0) ⊎ ((status ≡ 1) ⊎ (status ≡ 6))
+
+-- no file failed, and no memory was wanted
+abbrev pub IsSureOfFiles : ℕ → Type 0
+IsSureOfFiles status = (¬ (status ≡ 5)) × (¬ (status ≡ 6))

@@ -7,8 +7,8 @@ ghost use Rattle.query_run.specs.Words.{first_of};
 ghost use Rattle.script_lang.specs.Lines.{lines};
 ghost use Rattle.query_run.specs.States.{greatest_limits};
 ghost use Rattle.query_run.specs.Answers.{names_of, names_kept_of, output};
-ghost use Rattle.query_run.specs.Runs.{WhereTold, WhereMadeBy, GetsPart, HasStopped, IsAnswered, IsSummed, HandsOverMore, made_summary, within};
-ghost use Rattle.gclq.specs.Exits.{IsEnd, IsAllAnswered};
+ghost use Rattle.query_run.specs.Runs.{WhereTold, WhereMadeBy, GetsPart, HasStopped, IsAnswered, IsSummed, HandsOverMore, TakesWithin, made_summary, no_names, within};
+ghost use Rattle.gclq.specs.Exits.{IsEnd, IsAllAnswered, IsSureOfFiles};
 
 use crate::fault_name::FaultName;
 use crate::tell::{exit, tell};
@@ -41,13 +41,18 @@ pub fn answer<R: Threads + Wait + Sync + Eprint, F: FaultName, S: Source, K: Sin
         IsAnswered start script true (S.left source.new) (F.held files.new) (K.written sink.old) (K.written sink.new)) }
 
     // Whatever the status, some lines are completed, the sink gets the beginning of the output, and the files hold what these lines leave,
-    // but for the name that the next line saves.
+    // but for the name that the next line saves; not even for that where no file failed and no memory was wanted.
     ensures stopped { WhereTold greatest_limits (first_of words.now) (S.left source.old) (F.held files.old) (λ start script.
         HasStopped greatest_limits start (lines most_line script) names_kept_of (F.held files.new) (K.written sink.old) (K.written sink.new)) }
+    ensures exact { IsSureOfFiles (exit_status result) → WhereTold greatest_limits (first_of words.now) (S.left source.old) (F.held files.old) (λ start script.
+        HasStopped greatest_limits start (lines most_line script) no_names (F.held files.new) (K.written sink.old) (K.written sink.new)) }
     ensures part { WhereTold greatest_limits (first_of words.now) (S.left source.old) (F.held files.old) (λ start script.
         GetsPart (K.written sink.old) (K.written sink.new) (output start script)) }
     ensures part_within { exit_status result ≡ 7 → WhereTold greatest_limits (first_of words.now) (S.left source.old) (F.held files.old) (λ start script.
         GetsPart (K.written sink.old) (K.written sink.new) (output start (within most_script script))) }
+
+    // Of no script more than one byte above its limit is asked for.
+    ensures took { TakesWithin most_script (S.left source.old) (S.left source.new) }
 
     // Each other status has its cause.
     ensures read_fault { exit_status result ≡ 3 → Rose (S.faults source.old) (S.faults source.new) }

@@ -17,7 +17,7 @@ use Rattle.gcl_parser.specs.Grammar.{IsQueryWithin}
 use Rattle.gcl_parser.specs.Refusal.{refused}
 use Rattle.gcl_parser.specs.QueryForm.{query_form}
 use Rattle.gcl_parser.proofs.QueryForms.{query_forms_are_of_queries}
-use Rattle.script_lang.specs.Lines.{Line}
+use Rattle.script_lang.specs.Lines.{Line, text_of_lines}
 use Rattle.script_lang.specs.Commands.{command_of}
 use Rattle.script_lang.specs.Answers.{interval_line, is_refusal, total_line}
 use Rattle.script_lang.specs.declared.commands.Command.{Command}
@@ -25,11 +25,9 @@ use Rattle.script_lang.specs.declared.commands.Command.TheVariants.{Blank, Add, 
 use Rattle.script_lang.specs.declared.refusals.Refusal.TheVariants.{LongLine, Query}
 use Rattle.query_lanes.specs.declared.asks.Ask.{Ask}
 use Rattle.query_lanes.specs.declared.asks.Asked.{Asked}
-use Rattle.query_lanes.specs.declared.asks.Found.{Found}
-use Rattle.query_lanes.specs.Answers.{answer_in, found_in}
 use Rattle.query_lanes.specs.Merges.{IsMergedWhere}
 use Rattle.query_run.specs.States.{State, Keeps}
-use Rattle.query_run.specs.Answers.{Reply, text_of_lines, found_lines, list_lines, query_lines, lines_by, unchanged, refusal_lines, reply, answer, answers, after_reply, state_after, with_later, AllAnswered, AreRead, names_asked, names_kept, names_of, names_of_line, names_kept_of, names_kept_of_line}
+use Rattle.query_run.specs.Answers.{Reply, asked_lines, list_lines, query_lines, lines_by, unchanged, refusal_lines, reply, answer, answers, after_reply, state_after, with_later, AllAnswered, AreRead, names_asked, names_kept, names_of, names_of_line, names_kept_of, names_kept_of_line}
 use Rattle.query_run.specs.Batches.{ask_lines, asks_query, IsAskOf, IsAskedBy, AsksLine, AreAsked, Begins, BeginWithNone}
 use Rattle.query_run.specs.Progress.{Says, wish}
 use Rattle.query_run.specs.declared.limits.Limits.{Limits}
@@ -37,7 +35,7 @@ use Rattle.query_run.proofs.Replies.{list_plain, one_more}
 
 -- the lines of a query that is not refused are those of the one form that it stands for
 pub lines_of_form : (asked : Asked) (query : List ℕ) (form : Form) (text : Text) → refused query ≡ None → IsQueryWithin query form
-    → found_lines (found_in asked (concordance text form)) ≡ query_lines asked text query
+    → asked_lines asked (concordance text form) ≡ query_lines asked text query
 lines_of_form asked query form text none within =
     let found : query_form query ≡ Some form = (query_forms_are_of_queries query form).1 within in
     sym (ap (λ fault. lines_by asked text fault (query_form query)) none ∙ ap (lines_by asked text None) found)
@@ -49,22 +47,6 @@ lines_of_fault asked query wrong text is = sym (ap (λ fault. lines_by asked tex
 pub no_fault : (fault : Option QueryFault) → ((wrong : QueryFault) → fault ≡ Some wrong → ⊥) → fault ≡ None
 no_fault None none = refl
 no_fault (Some wrong) none = absurd (none wrong refl)
-
--- a query on the engine's version is one on the collection of the state
-pub asked_now : (engine : EngineContent) (state : State) (asked : Asked) (query : List ℕ) (ask : Ask) (found : Found) (old new : List ℕ) (refusal : Bool) → Keeps engine false state →
-    IsAskOf asked query ask → found ≡ answer_in (version_text engine.version) ask → Says (found_lines found) old new refusal → Says (query_lines asked (text_of state.collection) query) old new refusal
-asked_now engine state asked query ask found old new refusal keeps is_ask is said =
-    subst (λ lines. Says lines old new refusal)
-    (ap found_lines is ∙ ap (λ (text : Text). ask_lines text ask) (has_text engine.version state.collection keeps.stands) ∙ is_ask.lines_are (text_of state.collection)) said
-
--- the lines of a list that was found: one for each member, and then their number
-pub list_said : (list slice : List Extent) (total : ℕ) (old mid new : List ℕ) → slice ≡ list → total ≡ length list → mid ≡ old ++ text_of_lines (map interval_line slice)
-    → new ≡ mid ++ total_line total ++ 10 ∷ [] → Says (list_lines list) old new false
-list_said list slice total old mid new same count first last = record {
-  text = one_more (map interval_line list) (total_line (length list)) old mid new (first ∙ ap (λ l. old ++ text_of_lines (map interval_line l)) same)
-      (last ∙ ap (λ n. mid ++ total_line n ++ 10 ∷ []) count);
-  refusal_is = sym (list_plain list);
-}
 
 -- a batch of no line
 pub begins_none : (all : List Line) → Begins [] all all
@@ -87,48 +69,6 @@ begins_more asks all left rest ask line begins next is = record {
 -- no query comes first where the first line asks none
 pub begin_with_none : (all rest : List Line) (line : Line) → all ≡ line ∷ rest → asks_query line ≡ false → BeginWithNone all
 begin_with_none all rest line is none = subst BeginWithNone (sym is) none
-
--- with the lines ahead, those so far are all, and so are the refusals
-pub record SaysWith (ahead all : List (List ℕ)) (old now : List ℕ) (refusal : Bool) : Type 0 where
-  pub text : now ++ text_of_lines ahead ≡ old ++ text_of_lines all
-  pub refusal_is : (refusal || list_any is_refusal ahead) ≡ list_any is_refusal all
-
--- nothing is said yet
-pub says_none : (all : List (List ℕ)) (old : List ℕ) → SaysWith all all old old false
-says_none all old = record { text = refl; refusal_is = refl }
-
-or_assoc : (a b c : Bool) → ((a || b) || c) ≡ (a || (b || c))
-or_assoc true b c = refl
-or_assoc false b c = refl
-
-or_none : (a : Bool) → (a || false) ≡ a
-or_none true = refl
-or_none false = refl
-
--- some lines more
-pub says_more : (lines ahead all : List (List ℕ)) (old mid new : List ℕ) (a b : Bool) → SaysWith (lines ++ ahead) all old mid a → Says lines mid new b → SaysWith ahead all old new (a || b)
-says_more lines ahead all old mid new a b so_far said = record {
-  text = ap (λ l. l ++ text_of_lines ahead) said.text ∙ append_assoc mid (text_of_lines lines) (text_of_lines ahead)
-      ∙ ap (λ l. mid ++ l) (sym (flat_map-append _ lines ahead)) ∙ so_far.text;
-  refusal_is = or_assoc a b (list_any is_refusal ahead) ∙ ap (λ (r : Bool). a || (r || list_any is_refusal ahead)) said.refusal_is
-      ∙ ap (λ (r : Bool). a || r) (sym (list_any-append is_refusal lines ahead)) ∙ so_far.refusal_is;
-}
-
--- all is said
-pub says_all : (all : List (List ℕ)) (old now : List ℕ) (refusal : Bool) → SaysWith [] all old now refusal → Says all old now refusal
-says_all all old now refusal said = record {
-  text = sym (append-nil now) ∙ said.text;
-  refusal_is = sym (or_none refusal) ∙ said.refusal_is;
-}
-
-found_asks : (text : Text) (asks : List Ask) → flat_map found_lines (map (answer_in text) asks) ≡ flat_map (ask_lines text) asks
-found_asks text [] = refl
-found_asks text (ask ∷ asks) = ap (λ l. ask_lines text ask ++ l) (found_asks text asks)
-
--- the answers to some queries over a text
-pub asks_said : (text : Text) (asks : List Ask) (found : List Found) (old new : List ℕ) (refusal : Bool) → found ≡ map (answer_in text) asks → Says (flat_map found_lines found) old new refusal →
-    Says (flat_map (ask_lines text) asks) old new refusal
-asks_said text asks found old new refusal is said = subst (λ lines. Says lines old new refusal) (ap (flat_map found_lines) is ∙ found_asks text asks) said
 
 -- beside a batch the engine keeps the state, with the merge made where it was wanted
 pub merged_keeps : (wanted : Bool) (old new : EngineContent) (state : State) → IsMergedWhere wanted old new → Keeps old wanted state → Keeps new false state

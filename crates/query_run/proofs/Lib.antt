@@ -5,5 +5,10 @@ pub mod ImageLemmas
 pub mod Replies
 pub mod SaveReplies
 pub mod Scripts
+pub mod LineSteps
+pub mod PageLists
+pub mod PageSteps
+pub mod PutLemmas
+pub mod StreamLemmas
 pub mod Told
 mod Worked

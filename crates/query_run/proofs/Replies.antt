@@ -23,7 +23,8 @@ use Rattle.script_lang.specs.declared.commands.Command.TheVariants.{Add}
 use Rattle.script_lang.specs.declared.refusals.Refusal.TheVariants.{TooLong, NoAddresses, NoFile}
 use Rattle.script_lang.proofs.AnswerLemmas.{interval_line-plain, total_line-plain, record_line-plain}
 use Rattle.query_run.specs.States.{State, Keeps}
-use Rattle.query_run.specs.Answers.{Reply, text_of_lines, refusal_lines, unchanged, last_address, state_with_file, state_without_file, state_merged, content_reply, del_reply, list_lines, record_lines, files_lines, reply}
+use Rattle.query_run.specs.Answers.{Reply, refusal_lines, unchanged, last_address, state_with_file, state_without_file, state_merged, content_reply, del_reply, list_lines, record_lines, files_lines, reply}
+use Rattle.script_lang.specs.Lines.{text_of_lines}
 use Rattle.query_run.specs.Progress.{Says, Follows, Gives, StopsWithin}
 use Rattle.query_run.specs.declared.limits.Limits.{Limits}
 

@@ -17,7 +17,7 @@ use Rattle.gcl_model.specs.Tokens.{tokens_of}
 use Rattle.gcl_model.specs.Collections.{Collection, empty_from, has_file, width_of}
 use Rattle.live_version.specs.Contents.{VersionContent, ranges_of}
 use Rattle.live_version.proofs.PartLaws.{both_empty}
-use Rattle.script_lang.specs.Lines.{Line, lines}
+use Rattle.script_lang.specs.Lines.{Line, lines, text_of_lines}
 use Rattle.script_lang.specs.Answers.{file_line, gone_line, is_refusal}
 use Rattle.script_lang.specs.Commands.{command_of}
 use Rattle.script_lang.specs.declared.commands.Command.{Command}
@@ -27,7 +27,7 @@ use Rattle.live_version.specs.StandsFor.{StandsFor}
 use Rattle.collection.specs.Engines.{EngineContent}
 use Rattle.query_run.specs.States.{State, opening, Keeps, IsFresh}
 use Rattle.query_run.specs.Images.{Images}
-use Rattle.query_run.specs.Answers.{Reply, text_of_lines, answer, after_reply, state_after, with_later, answers, AllAnswered, AreRead, IsRead, names_of, names_of_line, names_kept, names_kept_of, names_kept_of_line, unchanged, refusal_lines, content_reply, add_reply, image_reply, open_reply, reading_reply, last_address, state_with_file, state_without_file, reply}
+use Rattle.query_run.specs.Answers.{Reply, answer, after_reply, state_after, with_later, answers, AllAnswered, AreRead, IsRead, names_of, names_of_line, names_kept, names_kept_of, names_kept_of_line, unchanged, refusal_lines, content_reply, add_reply, image_reply, open_reply, reading_reply, last_address, state_with_file, state_without_file, reply}
 use Rattle.query_run.specs.Progress.{lines_of, answer_text, AreAnswered, ComesOn, HasCome, HasWritten, HoldsSaved, HoldsWithin, IsAt, StopsFrom, StopsWithin}
 use Rattle.query_run.specs.Runs.{GetsPart, HasAnswered, HoldsBut, IsLeftBy, IsStopped, HandsOverMore}
 use Rattle.query_run.specs.declared.limits.Limits.{Limits}
@@ -454,7 +454,7 @@ not_more most None new few more = few
 not_more most (Some script) None few more = more.from
 not_more most (Some script) (Some left) few more =
     let len : length script ≡ length more.taken + length left = ap length more.from ∙ length-append more.taken left in
-    let over : length more.taken ≡ most + 1 = more.more in
+    let over : length more.taken ≡ most + 1 = more.count_is in
     omega arith
 
 -- what was handed over to the end is the script

@@ -4,18 +4,18 @@ use Rattle.std.specs.Io.KnownBytes.{Consumes, IsAtEnd}
 use Rattle.outside.specs.Contents.{Contents}
 use Rattle.collection.specs.Engines.{EngineContent}
 use Rattle.live_version.specs.Contents.{VersionContent}
-use Rattle.script_lang.specs.Lines.{Line, lines}
+use Rattle.script_lang.specs.Lines.{Line, lines, text_of_lines}
 use Rattle.query_run.specs.Images.{Images}
 use Rattle.query_run.specs.States.{State, opening, IsFresh}
-use Rattle.query_run.specs.Answers.{answers, text_of_lines, output_by, AreRead, names_kept_of}
-use Rattle.query_run.specs.Runs.{WhereTold, WhereMade, WhereMadeBy, GetsPart, HasAnswered, HasStopped, IsAnsweredBy, IsStopped, made_opening, made_summary}
+use Rattle.query_run.specs.Answers.{answers, output_by, AreRead, names_kept_of, state_after}
+use Rattle.query_run.specs.Runs.{WhereTold, WhereMade, WhereMadeBy, GetsPart, HasAnswered, HasStopped, HoldsExactly, IsAnsweredBy, IsStopped, made_opening, made_summary, no_names}
 use Rattle.query_run.specs.Statuses.{IsFinished, IsMadeEnd}
 use Rattle.query_run.specs.declared.status.Status.{Status}
 use Rattle.query_run.specs.declared.status.Status.TheVariants.{Done, DoneWithRefusals, Usage, ReadFault, WriteFault, FileFault, NoMemory, ScriptTooLong}
 use Rattle.query_run.specs.declared.limits.Limits.{Limits}
 use Rattle.command_words.specs.declared.options.Made.{Made}
 use Rattle.command_words.specs.declared.options.Options.{Options}
-use Rattle.query_run.proofs.Scripts.{fresh_keeps, part_of_all, all_read}
+use Rattle.query_run.proofs.Scripts.{all_held, fresh_keeps, part_of_all, all_read}
 use Rattle.std.proofs.KnownBytes.{Appends-nil}
 
 -- at a script, contents and readings that are known
@@ -134,3 +134,22 @@ made_finishes ScriptTooLong Failed is cause calm = absurd is
 pub made_at : (options : Option Options) (Calm : Type 0) (s : Status) → (Calm → IsFinished s) → IfSome options (λ (o : Options). IsSome o.made → Calm → IsFinished s)
 made_at None Calm s h = tt
 made_at (Some options) Calm s h = λ made calm. h calm
+
+-- a stop where the script is told is a part of its output
+pub told_part : (limits : Limits) (first : ℕ) (left : Option (List ℕ)) (held held' : Option Contents) (old new : Option (List ℕ)) (completed : ℕ) (engine : EngineContent) →
+    WhereTold limits (Some first) left held (λ start script. IsStopped limits start (lines limits.line script) completed engine.version held' old new) →
+    WhereTold limits (Some first) left held (λ start script. GetsPart old new (output_by limits start script))
+told_part limits first left held held' old new completed engine = told_as limits first left held
+    (λ start script. IsStopped limits start (lines limits.line script) completed engine.version held' old new) (λ start script. GetsPart old new (output_by limits start script))
+    (λ start script stop. part_stopped limits start script completed engine held' old new stop)
+
+-- a stop where it is sure what the files hold
+pub sure_stopped : (limits : Limits) (first : ℕ) (left : Option (List ℕ)) (held held' : Option Contents) (old new : Option (List ℕ)) (completed : ℕ) (version : VersionContent) →
+    WhereTold limits (Some first) left held (λ start script. IsStopped limits start (lines limits.line script) completed version held' old new) →
+    WhereTold limits (Some first) left held (λ start script. HoldsExactly limits start (lines limits.line script) completed held') →
+    WhereTold limits (Some first) left held (λ start script. HasStopped limits start (lines limits.line script) no_names held' old new)
+sure_stopped limits first None held held' old new completed version stop exact = tt
+sure_stopped limits first (Some script) None held' old new completed version stop exact = tt
+sure_stopped limits first (Some script) (Some contents) held' old new completed version stop exact = λ images read.
+    let here = stop images read in
+    record { completed = completed; within = here.within; part = here.part; files = all_held [] (state_after limits (opening first contents images) (take completed (lines limits.line script))).files held' (exact images read) }

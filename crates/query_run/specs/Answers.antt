@@ -1,5 +1,5 @@
 -- The answer to each line, and the output of a script.
-use Rattle.std.specs.Prelude.{ℕ, ◌+◌, ◌-◌, Bool, true, false, nat_lt, List, [], ◌∷◌, ◌++◌, length, map, flat_map, Option, None, Some, IsSome, IfSome, ⊤, if◌then◌else◌}
+use Rattle.std.specs.Prelude.{ℕ, ◌+◌, ◌-◌, Bool, true, false, nat_lt, List, [], ◌∷◌, ◌++◌, length, take, map, flat_map, Option, None, Some, IsSome, IfSome, ⊤, if◌then◌else◌}
 use Rattle.std.specs.Option.{option_map}
 use Rattle.std.specs.List.{list_any}
 use Rattle.outside.specs.Contents.{changed_at}
@@ -13,7 +13,7 @@ use Rattle.gcl_model.specs.Collections.{Collection, width_of, text_of, has_file,
 use Rattle.gcl_model.specs.Slots.{slot_range, slots_after_add, slots_after_merge, slots_after_open}
 use Rattle.address_space.specs.Runs.{FileEntry}
 use Rattle.live_version.specs.StandsFor.{entry_of}
-use Rattle.script_lang.specs.Lines.{Line, lines}
+use Rattle.script_lang.specs.Lines.{Line, lines, text_of_lines}
 use Rattle.script_lang.specs.Commands.{command_of}
 use Rattle.script_lang.specs.Answers.{file_line, gone_line, interval_line, total_line, merging_line, shards_line, saved_line, opened_line, record_line, refusal_line, is_refusal}
 use Rattle.script_lang.specs.declared.commands.Command.{Command}
@@ -28,18 +28,11 @@ use Rattle.query_run.specs.States.{State, greatest_limits}
 use Rattle.query_run.specs.declared.limits.Limits.{Limits}
 use Rattle.query_lanes.specs.declared.asks.Asked.{Asked}
 use Rattle.query_lanes.specs.declared.asks.Asked.TheVariants.{All, First, Number}
-use Rattle.query_lanes.specs.declared.asks.Found.{Found}
-use Rattle.query_lanes.specs.declared.asks.Found.TheVariants.{List as Members, Number as Total, Refused}
-use Rattle.query_lanes.specs.Answers.{found_in}
 
 -- the lines of an answer, and the state that it leaves
 pub record Reply : Type 0 where
   pub lines : List (List ℕ)
   pub after : State
-
--- lines written out, each with its newline
-abbrev pub text_of_lines : List (List ℕ) → List ℕ
-text_of_lines = flat_map (λ line. line ++ 10 ∷ [])
 
 -- the one line of a refusal
 abbrev pub refusal_lines : Refusal → List (List ℕ)
@@ -118,16 +111,16 @@ open_reply limits state name = if nat_lt 0 state.collection.next_id then Some (u
 abbrev pub list_lines : List Extent → List (List ℕ)
 list_lines list = map interval_line list ++ total_line (length list) ∷ []
 
--- the lines of what is found: the intervals and their number, their number alone, or the refusal
-abbrev pub found_lines : Found → List (List ℕ)
-found_lines (Members list) = list_lines list
-found_lines (Total number) = total_line number ∷ []
-found_lines (Refused fault) = refusal_lines (Query fault)
+-- the lines that answer what is asked of a list: its intervals and their number, those of its first so many, or how many it has
+abbrev pub asked_lines : Asked → List Extent → List (List ℕ)
+asked_lines All list = list_lines list
+asked_lines (First most) list = list_lines (take most list)
+asked_lines Number list = total_line (length list) ∷ []
 
 -- the first fault of a query, or what is asked of the concordance list of its form
 abbrev pub lines_by : Asked → Text → Option QueryFault → Option Form → List (List ℕ)
 lines_by asked text (Some fault) form = refusal_lines (Query fault)
-lines_by asked text None (Some form) = found_lines (found_in asked (concordance text form))
+lines_by asked text None (Some form) = asked_lines asked (concordance text form)
 lines_by asked text None None = []
 
 -- the lines that answer a query over a text: over "to be" those of `count "to"` are `= 1`; a text that is not refused has a form

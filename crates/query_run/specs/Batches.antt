@@ -1,6 +1,11 @@
 -- Batches of queries in a script, and the lines that answer them.
-use Rattle.std.specs.Prelude.{◌≡◌, ℕ, ◌<◌, ◌≤◌, Bool, true, false, List, [], ◌∷◌, ◌++◌, length, drop, ⊤, if◌then◌else◌}
+use Rattle.std.specs.Prelude.{◌≡◌, ℕ, ◌<◌, ◌≤◌, Bool, true, false, List, [], ◌∷◌, ◌++◌, length, drop, Result, Ok, Err, ⊤, if◌then◌else◌}
 use Rattle.gcl_model.specs.Texts.{Text}
+use Rattle.gcl_model.specs.FormOf.{form_of}
+use Rattle.gcl_model.specs.Meaning.{concordance}
+use Rattle.gcl_model.specs.declared.expr.Expr.{Expr}
+use Rattle.gcl_parser.specs.declared.fault.QueryFault.{QueryFault}
+use Rattle.script_lang.specs.declared.refusals.Refusal.TheVariants.{Query}
 use Rattle.script_lang.specs.Lines.{Line, lines}
 use Rattle.script_lang.specs.Commands.{command_of}
 use Rattle.script_lang.specs.declared.commands.Command.{Command}
@@ -8,13 +13,17 @@ use Rattle.script_lang.specs.declared.commands.Command.TheVariants.{Find, Count,
 use Rattle.query_lanes.specs.declared.asks.Asked.{Asked}
 use Rattle.query_lanes.specs.declared.asks.Asked.TheVariants.{All, First, Number}
 use Rattle.query_lanes.specs.declared.asks.Ask.{Ask}
-use Rattle.query_lanes.specs.Answers.{answer_in}
-use Rattle.query_run.specs.Answers.{found_lines, query_lines}
+use Rattle.query_run.specs.Answers.{asked_lines, query_lines, refusal_lines}
 use Rattle.query_run.specs.declared.batches.NextAsk.{NextAsk}
+
+-- the lines that answer what is asked over a text: those of the concordance list of an expression, or its fault
+abbrev pub expr_lines : Asked → Text → Result Expr QueryFault → List (List ℕ)
+expr_lines asked text (Ok expr) = asked_lines asked (concordance text (form_of expr))
+expr_lines asked text (Err fault) = refusal_lines (Query fault)
 
 -- the lines that answer a query of a batch over a text
 abbrev pub ask_lines : Text → Ask → List (List ℕ)
-ask_lines text ask = found_lines (answer_in text ask)
+ask_lines text ask = expr_lines ask.asked text ask.query
 
 -- a query of a batch is the one that these bytes are: over each text it has the lines that answer them
 pub record IsAskOf (asked : Asked) (query : List ℕ) (ask : Ask) : Type 0 where

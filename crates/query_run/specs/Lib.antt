@@ -2,6 +2,7 @@ pub mod Answers
 pub mod Batches
 pub mod Faults
 pub mod Images
+pub mod Pages
 pub mod Progress
 pub mod Runs
 pub mod States

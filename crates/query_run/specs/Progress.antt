@@ -1,23 +1,26 @@
 -- For proofs alone: what the functions under `serve` say of a line and of some lines. No clause of `serve` or `run` speaks of these.
 use Rattle.std.specs.Prelude.{◌≡◌, Bool, ℕ, ◌+◌, ◌-◌, ◌||◌, ◌≤◌, List, [], ◌∷◌, ◌++◌, length, take, drop, Option, None, Some, Result, Ok, Err, IsErrOf, ◌⊎◌, ⊤, if◌then◌else◌}
 use Rattle.std.specs.List.{list_any}
-use Rattle.std.specs.Io.KnownBytes.{Appends}
+use Rattle.std.specs.Io.KnownBytes.{Appends, Consumes}
 use Rattle.outside.specs.Causes.{Rose}
 use Rattle.outside.specs.Contents.{Contents}
 use Rattle.live_version.specs.StandsFor.{StandsFor}
 use Rattle.collection.specs.Engines.{EngineContent}
-use Rattle.script_lang.specs.Lines.{Line}
+use Rattle.script_lang.specs.Lines.{Line, lines, text_of_lines}
+use Rattle.script_lang.specs.Feeds.{Feed}
 use Rattle.script_lang.specs.Answers.{is_refusal}
 use Rattle.script_lang.specs.declared.commands.Command.{Command}
 use Rattle.script_lang.specs.declared.commands.Command.TheVariants.{Save}
 use Rattle.query_lanes.specs.declared.asks.Ask.{Ask}
 use Rattle.query_run.specs.States.{State, Keeps}
-use Rattle.query_run.specs.Answers.{Reply, answer, answers, reply, after_reply, state_after, AllAnswered, AreRead, text_of_lines}
+use Rattle.query_run.specs.Answers.{Reply, answer, answers, reply, after_reply, state_after, AllAnswered, AreRead}
 use Rattle.query_run.specs.Batches.{AreAsked}
-use Rattle.query_run.specs.Runs.{HoldsBut, IsStopped}
+use Rattle.query_run.specs.Runs.{HoldsBut, HoldsExactly, IsStopped}
 use Rattle.query_run.specs.declared.limits.Limits.{Limits}
 use Rattle.query_run.specs.declared.run_fault.RunFault.{RunFault}
 use Rattle.query_run.specs.declared.run_fault.RunFault.TheVariants.{Write, Files}
+use Rattle.query_run.specs.declared.stream_fault.StreamFault.{StreamFault}
+use Rattle.query_run.specs.declared.stream_fault.StreamFault.TheVariants.{Read as StreamRead, TooLong as StreamTooLong, Write as StreamWrite, Files as StreamFiles, NoMemory as StreamNoMemory}
 
 -- the lines come after what was there, and whether one of them is a refusal
 pub record Says (lines : List (List ℕ)) (old new : List ℕ) (refusal : Bool) : Type 0 where
@@ -113,9 +116,57 @@ abbrev pub StopsFrom : Limits → List Line → ℕ → ℕ → Option Contents 
 StopsFrom limits all n m held held' before after w a mid new = (start : State) (old : Option (List ℕ)) → AreRead limits start all → HasCome limits start (take n all) held before w a old mid →
     IsStopped limits start all m after.version held' old new
 
+-- where the first `n` lines of a script were answered from the start on, the files hold what the first `m` lines leave
+abbrev pub HoldsFrom : Limits → List Line → ℕ → ℕ → Option Contents → Option Contents → EngineContent → Bool → Bool → Option (List ℕ) → Type 0
+HoldsFrom limits all n m held held' before w a mid = (start : State) (old : Option (List ℕ)) → AreRead limits start all → HasCome limits start (take n all) held before w a old mid →
+    HoldsExactly limits start all m held'
+
+-- it holds of every script whose lines from the `n`-th on begin with these
+abbrev pub WhoseLines : List Line → ℕ → (List Line → Type 0) → Type 0
+WhoseLines ahead n P = (all rest : List Line) → n ≤ length all → drop n all ≡ ahead ++ rest → P all
+
+-- the first of some lines were completed, and these are left
+pub record GoesOn (ahead left : List Line) (n m : ℕ) : Type 0 where
+  pub taken : List Line
+  pub whole : ahead ≡ taken ++ left
+  pub count : m ≡ n + length taken
+
+-- a piece of so many bytes went from a source into a feed
+pub record FeedsPiece (count : ℕ) (old new : Feed) (left left' : Option (List ℕ)) : Type 0 where
+  pub piece : List ℕ
+  pub from : Consumes left left' piece
+  pub count_is : length piece ≡ count
+  pub most_is : new.most ≡ old.most
+  pub lines_are : (later : List ℕ) → lines old.most (new.held ++ later) ≡ lines old.most (old.held ++ piece ++ later)
+  pub held_few : length new.held ≤ length old.held + length piece
+
+-- so many bytes of a script were read and so many of its lines completed, and what is held stands before the rest
+pub record IsFed (most read completed : ℕ) (held script : List ℕ) : Type 0 where
+  pub within : read ≤ length script
+  pub few : completed ≤ length (lines most script)
+  pub lines_are : (later : List ℕ) → lines most (take read script ++ later) ≡ take completed (lines most script) ++ lines most (held ++ later)
+
 -- neither count has fallen, and a fault is one of the object that it names
 pub record HasCauses {T : Type 0} (sink_before sink_now files_before files_now : ℕ) (result : Result T RunFault) : Type 0 where
   pub sink_later : sink_before ≤ sink_now
   pub files_later : files_before ≤ files_now
   pub write : IsErrOf result Write → Rose sink_before sink_now
   pub files : IsErrOf result Files → Rose files_before files_now
+
+-- no count has fallen, and a fault is one of the object that it names
+pub record HasStreamCauses {T : Type 0} (source_before source_now sink_before sink_now files_before files_now : ℕ) (result : Result T StreamFault) : Type 0 where
+  pub source_later : source_before ≤ source_now
+  pub sink_later : sink_before ≤ sink_now
+  pub files_later : files_before ≤ files_now
+  pub read : IsErrOf result StreamRead → Rose source_before source_now
+  pub write : IsErrOf result StreamWrite → Rose sink_before sink_now
+  pub files : IsErrOf result StreamFiles → Rose files_before files_now
+
+-- no file failed, and no memory was wanted
+abbrev pub IsSure : {T : Type 0} → Result T StreamFault → Type 0
+IsSure (Ok _) = ⊤
+IsSure (Err StreamRead) = ⊤
+IsSure (Err StreamTooLong) = ⊤
+IsSure (Err StreamWrite) = ⊤
+IsSure (Err StreamFiles) = ⊥
+IsSure (Err StreamNoMemory) = ⊥

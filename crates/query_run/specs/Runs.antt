@@ -2,13 +2,13 @@
 use Rattle.std.specs.Prelude.{◌≡◌, Bool, false, ℕ, ◌+◌, ◌≤◌, ◌==◌, List, [], ◌∷◌, ◌++◌, length, take, drop, Contains, Option, Some, IfSome, ◌⊎◌, if◌then◌else◌}
 use Rattle.std.specs.Io.KnownBytes.{Appends, Consumes, IsAtEnd}
 use Rattle.outside.specs.Contents.{Contents}
-use Rattle.script_lang.specs.Lines.{Line, lines}
+use Rattle.script_lang.specs.Lines.{Line, lines, ended, text_of_lines}
 use Rattle.live_version.specs.Contents.{VersionContent}
 use Rattle.live_version.specs.StandsFor.{StandsFor}
 use Rattle.collection.specs.Engines.{EngineContent}
 use Rattle.query_run.specs.States.{State, opening, greatest_limits, Keeps}
 use Rattle.query_run.specs.Images.{Images}
-use Rattle.query_run.specs.Answers.{text_of_lines, answers, state_after, AllAnswered, AreRead, output_by, output, has_refusal_by, names_kept_of}
+use Rattle.query_run.specs.Answers.{answers, state_after, AllAnswered, AreRead, output_by, output, has_refusal_by, names_kept_of}
 use Rattle.query_run.specs.declared.limits.Limits.{Limits}
 use Rattle.gcl_model.specs.Limits.{most_line}
 use Rattle.made_corpus.specs.MadeFiles.{made_files}
@@ -67,6 +67,10 @@ pub record IsStopped (limits : Limits) (start : State) (script : List Line) (com
   pub part : GetsPart old new (text_of_lines (answers limits start (take (completed + 1) script)))
   pub files : HoldsBut (names_kept_of (take 1 (drop completed script))) (state_after limits start (take completed script)).files held
 
+-- the files hold exactly what the first so many lines leave
+abbrev pub HoldsExactly : Limits → State → List Line → ℕ → Option Contents → Type 0
+HoldsExactly limits start script completed held = held ≡ Some (state_after limits start (take completed script)).files
+
 -- none of the names that lines save
 abbrev pub no_names : List Line → List (List ℕ)
 no_names next = []
@@ -79,21 +83,21 @@ pub record HasStopped (limits : Limits) (start : State) (script : List Line) (un
   pub part : GetsPart old new (text_of_lines (answers limits start (take (completed + 1) script)))
   pub files : HoldsBut (unsure (take 1 (drop completed script))) (state_after limits start (take completed script)).files held
 
--- the source handed over one byte more than so many, and no byte after that
-pub record HandsOverMore (most : ℕ) (old new : Option (List ℕ)) : Type 0 where
+-- the source handed over so many bytes
+pub record HandsOver (count : ℕ) (old new : Option (List ℕ)) : Type 0 where
   pub taken : List ℕ
   pub from : Consumes old new taken
-  pub more : length taken ≡ most + 1
+  pub count_is : length taken ≡ count
 
--- the byte before others, and nothing where nothing follows
-abbrev pub before_any : ℕ → List ℕ → List ℕ
-before_any b [] = []
-before_any b (c ∷ cs) = b ∷ c ∷ cs
+-- the source handed over one byte more than so many, and no byte after that
+abbrev pub HandsOverMore : ℕ → Option (List ℕ) → Option (List ℕ) → Type 0
+HandsOverMore most old new = HandsOver (most + 1) old new
 
--- the bytes up to and with the last newline
-abbrev pub ended : List ℕ → List ℕ
-ended [] = []
-ended (b ∷ rest) = if b == 10 then 10 ∷ ended rest else before_any b (ended rest)
+-- the source handed over at most one byte more than so many
+pub record TakesWithin (most : ℕ) (old new : Option (List ℕ)) : Type 0 where
+  pub taken : List ℕ
+  pub from : Consumes old new taken
+  pub few : length taken ≤ most + 1
 
 -- of a script that is too long, the lines that end within the limit
 abbrev pub within : ℕ → List ℕ → List ℕ

@@ -1,47 +1,26 @@
 ghost use Rattle.std.specs.Prelude.{◌≡◌, ◌+◌, ◌≤◌, ◌<◌, true, false, [], ◌∷◌, IfOk, OnOk, OnErr};
-ghost use Rattle.gcl_model.specs.Collections.{text_of};
 ghost use Rattle.gcl_model.specs.Limits.{far};
 ghost use Rattle.image_file.specs.Images.{CanBeSaved};
 ghost use Rattle.collection.specs.Engines.{merge_end};
 ghost use Rattle.outside.specs.Causes.{HasFileCause};
 ghost use Rattle.script_lang.specs.Answers.{merging_line};
 ghost use Rattle.script_lang.specs.Commands.{IsNamed};
-ghost use Rattle.query_run.specs.States.{State, Keeps, AreLimits};
-ghost use Rattle.query_run.specs.Answers.{reply, answer, query_lines, IsRead, IsReadBy, names_asked, names_kept, names_kept_of_line, names_of_line};
+ghost use Rattle.query_run.specs.States.{State, AreLimits};
+ghost use Rattle.query_run.specs.Batches.{asks_query, is_query};
+ghost use Rattle.query_run.specs.Answers.{reply, answer, IsRead, IsReadBy, names_asked, names_kept, names_kept_of_line, names_of_line};
 ghost use Rattle.query_run.specs.Progress.{Says, Gives, HoldsAfter, HoldsSaved, IsAt, StopsWithin, wish};
 
 use crate::changes::{add, delete};
 use crate::limits::Limits;
 use crate::listing::{count_slots, list_files};
 use crate::merging::merge_wanted;
-use crate::queries::{ask_of, put_found};
 use crate::refusals::refuse;
 use crate::saving::{open, save};
 use collection::Engine;
-use gcl_model::Bytes;
 use outside::{FileError, Files, Gate};
-use query_lanes::{Asked, answer_alone};
 use script_lang::{Command, Refusal, command, put_merging};
 use std::alloc::{AllocError, Global};
 use std::sync::Wait;
-
-/// Answers a query on the last version that was published.
-fn answer_now(
-    alloc: Global,
-    out: &mut Vec<u8>,
-    engine: &Engine,
-    asked: Asked,
-    query: &Bytes,
-) -> Result<bool, AllocError>
-    ensures { IfOk result (λ refusal. (state : State) → Keeps engine.now false state →
-        Says (query_lines asked (text_of state.collection) query.now) out.old.items out.new.items refusal) }
-{
-    // no gate is told of it, so it has no number
-    let ask = ask_of(alloc, 0, asked, query)?;
-    let found = answer_alone(alloc, engine, &ask)?;
-    let refused = put_found(out, &found)?;
-    Ok(refused)
-}
 
 /// Appends the answer to `merge`, which makes a merge wanted.
 fn want_merge(out: &mut Vec<u8>, wanted: &mut bool) -> Result<bool, AllocError>
@@ -53,7 +32,7 @@ fn want_merge(out: &mut Vec<u8>, wanted: &mut bool) -> Result<bool, AllocError>
     Ok(false)
 }
 
-/// Answers a command, once the merge that was wanted before is made.
+/// Answers a command that asks no query, once the merge that was wanted before is made.
 fn answer_command<R: Wait, F: Files>(
     rt: &R,
     alloc: Global,
@@ -66,6 +45,7 @@ fn answer_command<R: Wait, F: Files>(
     command: Command,
 ) -> Result<bool, FileError>
     requires named { IsNamed command }
+    requires unasked { is_query command ≡ false }
     requires made { wanted.old ≡ false }
     requires limits { AreLimits limits.now }
     requires savable { CanBeSaved engine.old.version }
@@ -101,11 +81,8 @@ fn answer_command<R: Wait, F: Files>(
             Ok(refused)
         }
         Command::Del(id) => Ok(delete(rt, out, engine, lines, id)?),
-        Command::Find(query) => Ok(answer_now(alloc, out, engine, Asked::All, &query)?),
-        Command::Count(query) => Ok(answer_now(alloc, out, engine, Asked::Number, &query)?),
-        Command::Top(most, query) => {
-            Ok(answer_now(alloc, out, engine, Asked::First(most), &query)?)
-        }
+        // a query is answered in a batch
+        Command::Find(_) | Command::Count(_) | Command::Top(_, _) => unreachable!(),
         Command::Files => Ok(list_files(out, engine.version())?),
         Command::Merge => Ok(want_merge(out, wanted)?),
         Command::Shards => Ok(count_slots(out, engine.version())?),
@@ -130,7 +107,7 @@ fn answer_command<R: Wait, F: Files>(
     }
 }
 
-/// Answers a line. An empty one leaves a wanted merge for later; before every other one it is made.
+/// Answers a line that asks no query. An empty one leaves a wanted merge for later; before every other one it is made.
 fn answer_any<R: Wait, F: Files, G: Gate>(
     rt: &R,
     alloc: Global,
@@ -144,6 +121,7 @@ fn answer_any<R: Wait, F: Files, G: Gate>(
     long: bool,
     line: &[u8],
 ) -> Result<bool, FileError>
+    requires unasked { asks_query (record { long = long; bytes = line.now }) ≡ false }
     requires limits { AreLimits limits.now }
     requires savable { CanBeSaved engine.old.version }
     requires number { engine.old.version.number + wish wanted.old < merge_end }
@@ -177,7 +155,7 @@ fn answer_any<R: Wait, F: Files, G: Gate>(
     Ok(refused)
 }
 
-/// Puts the answer to a line into `out`, and says whether it is a refusal. Of a long line only that is read. The line is completed once
+/// Puts the answer to a line that asks no query into `out`, and says whether it is a refusal. Of a long line only that is read. The line is completed once
 /// its answer is made, and a line that changes the collection once that is done.
 pub fn answer_line<R: Wait, F: Files, G: Gate>(
     rt: &R,
@@ -192,6 +170,7 @@ pub fn answer_line<R: Wait, F: Files, G: Gate>(
     long: bool,
     line: &[u8],
 ) -> Result<bool, FileError>
+    requires unasked { asks_query (record { long = long; bytes = line.now }) ≡ false }
     requires limits { AreLimits limits.now }
     requires savable { CanBeSaved engine.old.version }
     requires number { engine.old.version.number + wish wanted.old < merge_end }

@@ -1,25 +1,12 @@
-ghost use Rattle.std.specs.Prelude.{◌≡◌, ℕ, ◌+◌, ◌≤◌, ◌<◌, false, [], length, drop, flat_map, IfOk, IfSome, IsNone, OnOk};
-ghost use Rattle.gcl_model.specs.Collections.{text_of};
-ghost use Rattle.image_file.specs.Images.{CanBeSaved};
-ghost use Rattle.collection.specs.Engines.{merge_end};
-ghost use Rattle.live_version.specs.StandsFor.{StandsFor};
+ghost use Rattle.std.specs.Prelude.{◌≡◌, ◌+◌, ◌≤◌, ◌<◌, false, length, drop, IfOk, IfSome, IsNone};
 ghost use Rattle.script_lang.specs.Commands.{command_of};
 ghost use Rattle.script_lang.specs.Lines.{lines};
-ghost use Rattle.query_lanes.specs.Readers.{AreOf};
-ghost use Rattle.query_run.specs.States.{State, Keeps};
-ghost use Rattle.query_run.specs.Answers.{found_lines};
-ghost use Rattle.query_run.specs.Batches.{ask_lines, is_query, IsAskedBy, Begins, BeginWithNone, IsNextAsk};
-ghost use Rattle.query_run.specs.Progress.{Says, wish};
+ghost use Rattle.query_run.specs.Batches.{is_query, IsAskedBy, Begins, BeginWithNone, IsNextAsk};
 
-use crate::queries::{ask_of, put_found};
-use collection::Engine;
-use manifest_publish::Reader;
-use outside::Gate;
-use query_lanes::{Ask, Asked, Found, Work, answer_batch};
+use crate::queries::ask_of;
+use query_lanes::{Ask, Asked};
 use script_lang::{Command, command, line_at};
 use std::alloc::{AllocError, Global};
-use std::sync::Wait;
-use std::thread::Threads;
 
 /// Queries of consecutive lines, and the place in the script behind them.
 #[derive(Drop)]
@@ -116,51 +103,4 @@ pub fn take_batch(
         number = number.saturating_add(1);
     }
     Ok(Batch { asks, after })
-}
-
-/// Appends what some queries found, and says whether a refusal is among the answers.
-fn put_all(out: &mut Vec<u8>, answers: &[Found]) -> Result<bool, AllocError>
-    ensures { IfOk result (Says (flat_map found_lines answers.now) out.old.items out.new.items) }
-{
-    let mut refused = false;
-    for found in answers {
-        refused |= put_found(out, found)?;
-    }
-    Ok(refused)
-}
-
-/// Answers a batch in lanes, beside a merge where one is wanted, and puts the answers into `out` in the order of the queries; says whether
-/// one of them is a refusal. `works` has one for each reader, and nothing in it matters. At `Err` memory was wanted, and the merge that was
-/// wanted may be made or not.
-pub fn answer_asks<R: Threads + Wait + Sync, G: Gate + Sync>(
-    rt: &R,
-    alloc: Global,
-    gate: &G,
-    out: &mut Vec<u8>,
-    engine: &mut Engine,
-    works: &mut [Work],
-    readers: &mut [Reader],
-    wanted: &mut bool,
-    asks: &[Ask],
-) -> Result<bool, AllocError>
-    requires same { length works.old ≡ length readers.old }
-    requires few { length readers.old ≤ 16 }
-    requires of { AreOf engine.old.publisher readers.old }
-    requires number { engine.old.version.number + wish wanted.old < merge_end }
-    ensures says { IfOk result (λ refusal. (state : State) → Keeps engine.old wanted.old state →
-        Says (flat_map (ask_lines (text_of state.collection)) asks.now) [] out.new.items refusal) }
-    ensures keeps { OnOk result ((state : State) → Keeps engine.old wanted.old state → Keeps engine.new false state) }
-    ensures stands { (state : State) → Keeps engine.old wanted.old state → StandsFor engine.new.version state.collection }
-    ensures made { OnOk result (wanted.new ≡ false) }
-    ensures number { OnOk result (engine.new.version.number ≤ engine.old.version.number + wish wanted.old) }
-    ensures savable { OnOk result (CanBeSaved engine.old.version → CanBeSaved engine.new.version) }
-    ensures of { AreOf engine.new.publisher readers.new }
-    ensures same { length works.new ≡ length readers.new }
-    ensures few { length readers.new ≤ 16 }
-{
-    let answers = answer_batch(rt, alloc, gate, asks, *wanted, engine, works, readers)?;
-    *wanted = false;
-    out.clear();
-    let refused = put_all(out, answers.as_slice())?;
-    Ok(refused)
 }

@@ -2,13 +2,14 @@
 ghost use Rattle.std.specs.Prelude.{◌≡◌, Some};
 ghost use Rattle.query_run.specs.States.{AreLimits};
 
+use crate::stream_tests::SlowSource;
 use crate::tests::{held, run_over};
 use crate::{Limits, Status, run, serve};
 use collection::{Engine, Opened};
 use gcl_model::Bytes;
 use outside::{
-    FileError, Files, FreeGate, Loaded, MemFiles, MemSink, MemSource, Sink, SureFiles, SureSink,
-    SureSource, WriteError,
+    FileError, Files, FreeGate, Loaded, MemFiles, MemSink, Sink, SureFiles, SureSink, SureSource,
+    WriteError,
 };
 use std::alloc::{AllocError, Global};
 use std::sync::Wait;
@@ -17,12 +18,16 @@ use std::thread::Threads;
 
 // A script with each kind of call of the outside, and its text.
 const SCRIPT: &[u8] =
-    b"add a\nadd b\nfind \"to\"\nmerge\nfind \"be\"\nsave i\ndel 0\nfind \"to\"\n";
+    b"open v\nadd a\nadd b\nfind \"to\"\nmerge\nfind \"be\"\nsave i\ndel 2\nfind \"to\"\n";
 
-const BEFORE_SAVED: &[u8] = b"file 0 0 7\nfile 1 8 9\n1 1\n5 5\n= 2\nmerging\n2 2\n6 6\n= 2\n";
+const BEFORE_SAVED: &[u8] =
+    b"opened 1\nfile 2 10 17\nfile 3 18 19\n11 11\n15 15\n= 2\nmerging\n12 12\n16 16\n= 2\n";
 
 const TEXT: &[u8] =
-    b"file 0 0 7\nfile 1 8 9\n1 1\n5 5\n= 2\nmerging\n2 2\n6 6\n= 2\nsaved 104\ngone 0\n= 0\n";
+    b"opened 1\nfile 2 10 17\nfile 3 18 19\n11 11\n15 15\n= 2\nmerging\n12 12\n16 16\n= 2\nsaved 111\ngone 2\n= 0\n";
+
+// How many bytes of the script a call of the source hands over: lines end within what a call hands over and at its end.
+const HANDED: usize = 4;
 
 // More calls than an object gets from the script.
 const MANY: u64 = 100;
@@ -59,8 +64,8 @@ fn failing<R: Threads + Wait + Sync + AllocGlobal>(
     call: u64,
 ) -> Result<Ended, AllocError> {
     let alloc = rt.alloc();
-    let script = Bytes::copy_of(alloc, SCRIPT)?;
-    let mut source = MemSource::new(alloc, script, call_of(alloc, part, Part::Source, call)?);
+    let calls = call_of(alloc, part, Part::Source, call)?;
+    let mut source = SlowSource::new(alloc, SCRIPT, HANDED, calls)?;
     let mut sink = MemSink::new(alloc, call_of(alloc, part, Part::Sink, call)?);
     let calls = call_of(alloc, part, Part::Files, call)?;
     let mut files = MemFiles::new(alloc, held(alloc)?, calls);
@@ -80,13 +85,47 @@ fn failing<R: Threads + Wait + Sync + AllocGlobal>(
     })
 }
 
+/// What is written over the whole lines that the source handed over before this call.
+fn answered_before<R: Threads + Wait + Sync + AllocGlobal>(
+    rt: &R,
+    call: u64,
+) -> Result<Vec<u8>, AllocError> {
+    let alloc = rt.alloc();
+    let count = (call as usize).saturating_sub(1).saturating_mul(HANDED);
+    let front = &SCRIPT[..count.min(SCRIPT.len())];
+    let lines = match front.iter().rposition(|byte| *byte == b'\n') {
+        Some(at) => &front[..at + 1],
+        None => b"",
+    };
+    let mut files = MemFiles::new(alloc, held(alloc)?, Vec::new(alloc));
+    let (_, written) = run_over(rt, &mut files, lines)?;
+    Ok(written)
+}
+
+#[test]
+fn whichever_call_of_the_source_fails_the_lines_before_it_are_answered(
+    rt: HostRuntime,
+) -> Result<(), Fail> {
+    let calls = (SCRIPT.len() / HANDED) as u64;
+    for call in 1..calls + 2 {
+        let ended = failing(&rt, Part::Source, call)?;
+        let want = answered_before(&rt, call)?;
+        assert_eq!(rt; ended.written.as_slice(), want.as_slice(), "{call}");
+        assert_eq!(rt; ended.status, Status::ReadFault, "{call}");
+        assert_eq!(rt; ended.kept, want.len() > BEFORE_SAVED.len(), "{call}");
+    }
+    let ended = failing(&rt, Part::Source, calls + 2)?;
+    assert_eq!(rt; ended.written.as_slice(), TEXT);
+    assert_eq!(rt; ended.status, Status::Done);
+    Ok(())
+}
+
 #[test]
 fn whichever_call_fails_a_beginning_is_written_and_the_image_is_kept_or_not(
     rt: HostRuntime,
 ) -> Result<(), Fail> {
     // after how many bytes the image is kept: where the save itself fails it is not
     let cases = [
-        (Part::Source, Status::ReadFault, BEFORE_SAVED.len()),
         (Part::Sink, Status::WriteFault, BEFORE_SAVED.len()),
         (Part::Files, Status::FileFault, TEXT.len()),
     ];

@@ -18,6 +18,7 @@ mod limits;
 mod listing;
 mod made_run;
 mod merging;
+mod pages;
 mod queries;
 mod read;
 mod refusals;
@@ -26,12 +27,14 @@ mod saving;
 mod script_run;
 mod serving;
 mod status;
+mod stream;
+mod stream_fault;
 mod top;
 mod write;
 
 pub use limits::{BATCH_MOST, IMAGE_MOST, Limits, SCRIPT_MOST};
-pub use serving::serve;
 pub use status::Status;
+pub use stream::serve;
 pub use top::run;
 
 #[cfg(test)]
@@ -40,5 +43,7 @@ mod fault_tests;
 mod made_tests;
 #[cfg(test)]
 mod plain_tests;
+#[cfg(test)]
+mod stream_tests;
 #[cfg(test)]
 mod tests;

@@ -2,7 +2,8 @@ ghost use Rattle.std.specs.Prelude.{◌≡◌, ◌++◌, [], ◌∷◌, length, 
 ghost use Rattle.address_space.specs.Runs.{FileEntry};
 ghost use Rattle.live_version.specs.Contents.{files_of};
 ghost use Rattle.script_lang.specs.Answers.{total_line, shards_line};
-ghost use Rattle.query_run.specs.Answers.{record_lines, text_of_lines};
+ghost use Rattle.query_run.specs.Answers.{record_lines};
+ghost use Rattle.script_lang.specs.Lines.{text_of_lines};
 ghost use Rattle.query_run.specs.Progress.{Says};
 
 use address_space::SharedRecord;

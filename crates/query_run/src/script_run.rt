@@ -2,14 +2,14 @@ ghost use Rattle.std.specs.Prelude.{◌≡◌, ◌≤◌, ◌<◌, true, false, 
 ghost use Rattle.outside.specs.Causes.{Rose};
 ghost use Rattle.gcl_model.specs.Limits.{address_end, most_line, most_readers, most_script};
 ghost use Rattle.script_lang.specs.Lines.{lines};
-ghost use Rattle.query_run.specs.Statuses.{IsFinished, IsCutOff, IsAllAnswered};
+ghost use Rattle.query_run.specs.Statuses.{IsSureOfFiles, IsFinished, IsCutOff, IsAllAnswered};
 ghost use Rattle.query_run.specs.States.{greatest_limits};
 ghost use Rattle.query_run.specs.Answers.{output, names_kept_of, names_of};
-ghost use Rattle.query_run.specs.Runs.{WhereTold, GetsPart, HasStopped, IsAnswered, HandsOverMore, within};
+ghost use Rattle.query_run.specs.Runs.{no_names, TakesWithin, WhereTold, GetsPart, HasStopped, IsAnswered, HandsOverMore, within};
 
 use crate::limits::Limits;
-use crate::serving::serve;
 use crate::status::Status;
+use crate::stream::serve;
 use collection::{Engine, OpenFault, Opened};
 use outside::{Files, Gate, Sink, Source};
 use std::alloc::Global;
@@ -41,10 +41,15 @@ pub fn run_script<R: Threads + Wait + Sync, F: Files, S: Source, K: Sink, G: Gat
     // Whatever the status, some lines are completed, the sink gets the beginning of the output, and the files hold what these lines leave.
     ensures stopped { WhereTold greatest_limits (Some first) (S.left source.old) (F.held files.old) (λ start script.
         HasStopped greatest_limits start (lines most_line script) names_kept_of (F.held files.new) (K.written sink.old) (K.written sink.new)) }
+    ensures exact { IsSureOfFiles result → WhereTold greatest_limits (Some first) (S.left source.old) (F.held files.old) (λ start script.
+        HasStopped greatest_limits start (lines most_line script) no_names (F.held files.new) (K.written sink.old) (K.written sink.new)) }
     ensures part { WhereTold greatest_limits (Some first) (S.left source.old) (F.held files.old) (λ start script.
         GetsPart (K.written sink.old) (K.written sink.new) (output start script)) }
     ensures part_within { result ≡ Status.ScriptTooLong → WhereTold greatest_limits (Some first) (S.left source.old) (F.held files.old) (λ start script.
         GetsPart (K.written sink.old) (K.written sink.new) (output start (within most_script script))) }
+
+    // Of no script more than one byte above its limit is asked for.
+    ensures took { TakesWithin most_script (S.left source.old) (S.left source.new) }
 
     // Each other status has its cause.
     ensures read_fault { result ≡ Status.ReadFault → Rose (S.faults source.old) (S.faults source.new) }

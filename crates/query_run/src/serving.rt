@@ -1,47 +1,60 @@
-ghost use Rattle.std.specs.Prelude.{◌≡◌, ◌+◌, ◌-◌, ◌≤◌, ◌<◌, [], ◌∷◌, Some, true, false, ℕ, drop, IfOk, OnOk, IfSome, IsSomeAnd, length};
+ghost use Rattle.std.specs.Prelude.{◌≡◌, ◌+◌, ◌-◌, ◌≤◌, ◌<◌, [], ◌∷◌, Some, false, ℕ, map, take, drop, flat_map, IfOk, OnOk, IsErrOf, length};
+ghost use Rattle.std.specs.List.{list_any};
 ghost use Rattle.gcl_model.specs.Limits.{far, most_readers, most_script};
 ghost use Rattle.image_file.specs.Images.{CanBeSaved};
+ghost use Rattle.live_version.specs.Contents.{version_text};
 ghost use Rattle.collection.specs.Engines.{merge_end};
-ghost use Rattle.outside.specs.Causes.{Rose};
-ghost use Rattle.outside.specs.Contents.{Contents};
-ghost use Rattle.script_lang.specs.Lines.{Line, lines, line_of_cut, IsCut};
+ghost use Rattle.script_lang.specs.Answers.{is_refusal};
+ghost use Rattle.script_lang.specs.Lines.{Line, lines, line_of_cut, text_of_lines, IsCut};
+ghost use Rattle.query_lanes.specs.Answers.{answer_in};
 ghost use Rattle.query_lanes.specs.Readers.{AreOf};
-ghost use Rattle.query_run.specs.States.{State, opening, AreLimits, IsFresh};
-ghost use Rattle.query_run.specs.Statuses.{IsFinished, IsCutOff, IsAllAnswered};
-ghost use Rattle.query_run.specs.Images.{Images};
-ghost use Rattle.query_run.specs.Answers.{answer, AreRead, IsRead, names_kept_of, names_kept_of_line, names_of_line, names_of, output_by};
-ghost use Rattle.query_run.specs.Progress.{AnswersBatch, ComesOn, IsAt, HasWritten, HoldsAfter, StopsBatch, StopsFrom, StopsWithin, HasCauses, answer_text, wish};
-ghost use Rattle.query_run.specs.Runs.{WhereTold, GetsPart, IsAnsweredBy, HasAnswered, IsLeftBy, IsStopped, HandsOverMore, within};
+ghost use Rattle.query_run.specs.States.{State, AreLimits};
+ghost use Rattle.query_run.specs.Answers.{after_reply, answer, IsRead, names_kept_of, names_kept_of_line, names_of_line, names_of};
+ghost use Rattle.query_run.specs.Batches.{ask_lines, asks_query};
+ghost use Rattle.query_run.specs.Pages.{Puts, PutsPart};
+ghost use Rattle.query_run.specs.Progress.{AnswersBatch, ComesOn, GoesOn, HoldsFrom, IsAt, HasWritten, HoldsAfter, StopsBatch, StopsFrom, StopsWithin, HasCauses, WhoseLines, answer_text, wish};
+ghost use Rattle.query_run.specs.Runs.{GetsPart};
 
 use crate::answers::answer_line;
-use crate::batches::{answer_asks, take_batch};
+use crate::batches::take_batch;
 use crate::limits::Limits;
-use crate::merging::merge_wanted;
-use crate::read::{ReadFault, read_script};
+use crate::pages::put_answer;
 use crate::run_fault::RunFault;
-use crate::status::Status;
 use crate::write::write_all;
-use collection::{Engine, Opened};
+use collection::Engine;
 use manifest_publish::Reader;
-use outside::{Files, Gate, Sink, Source};
-use query_lanes::{Ask, Work};
+use outside::{Files, Gate, Sink};
+use query_lanes::{Ask, Found, Work, answer_batch};
 use script_lang::{LineCut, line_at};
 use std::alloc::Global;
 use std::sync::Wait;
 use std::thread::Threads;
 
-/// How far a run over a script has come.
+/// How far a run has come.
 #[derive(Drop)]
-struct Course {
-    // where the next line begins
-    at: usize,
+pub(crate) struct Course {
+    // where the next line begins in the bytes at hand
+    pub(crate) at: usize,
     // how many queries were asked
-    asked: u64,
+    pub(crate) asked: u64,
     // whether a refusal is among the answers
-    refused: bool,
+    pub(crate) refused: bool,
 }
 
-/// Answers a line, and writes the answer.
+impl Course {
+    /// No line is answered.
+    pub(crate) fn new() -> Course
+        ensures { result ≡ record { at = 0; asked = 0; refused = false } }
+    {
+        Course {
+            at: 0,
+            asked: 0,
+            refused: false,
+        }
+    }
+}
+
+/// Answers a line that asks no query, and writes the answer.
 fn serve_line<R: Wait, F: Files, K: Sink, G: Gate>(
     rt: &R,
     alloc: Global,
@@ -56,6 +69,7 @@ fn serve_line<R: Wait, F: Files, K: Sink, G: Gate>(
     long: bool,
     line: &[u8],
 ) -> Result<bool, RunFault>
+    requires unasked { asks_query (record { long = long; bytes = line.now }) ≡ false }
     requires limits { AreLimits limits.now }
     requires savable { CanBeSaved engine.old.version }
     requires number { engine.old.version.number + wish wanted.old < merge_end }
@@ -74,6 +88,8 @@ fn serve_line<R: Wait, F: Files, K: Sink, G: Gate>(
     ensures unsaved { names_kept_of_line (record { long = long; bytes = line.now }) ≡ [] → F.held files.new ≡ F.held files.old }
     ensures files { (state : State) → IsAt (F.held files.old) engine.old wanted.old state →
         HoldsAfter state (answer limits.now state (record { long = long; bytes = line.now })) (names_kept_of_line (record { long = long; bytes = line.now })) completed.old completed.new (F.held files.new) result }
+    ensures kept { IsErrOf result RunFault.Write → (state : State) → IsAt (F.held files.old) engine.old wanted.old state →
+        (completed.new ≡ completed.old + 1) × (F.held files.new ≡ Some (after_reply state (answer limits.now state (record { long = long; bytes = line.now }))).files) }
     ensures causes { HasCauses (K.faults sink.old) (K.faults sink.new) (F.faults files.old) (F.faults files.new) result }
     ensures sink_calm { OnOk result (K.faults sink.new ≡ K.faults sink.old) }
     ensures files_calm { OnOk result (F.faults files.new ≡ F.faults files.old) }
@@ -85,7 +101,37 @@ fn serve_line<R: Wait, F: Files, K: Sink, G: Gate>(
     Ok(refused)
 }
 
-/// Answers a batch of queries, beside the merge that is wanted, if one is, and writes the answers. Its lines are completed once all answers are made.
+/// Puts the answers to a batch in the order of its queries, and says whether a refusal is among them. Each line is completed once its answer is put.
+fn put_answers<K: Sink>(
+    alloc: Global,
+    out: &mut Vec<u8>,
+    sink: &mut K,
+    engine: &Engine,
+    completed: &mut u64,
+    asks: &[Ask],
+    answers: Vec<Found>,
+) -> Result<bool, RunFault>
+    requires answers { answers.items ≡ map (answer_in (version_text engine.now.version)) asks.now }
+    requires room { completed.old + length asks.now ≤ far }
+    ensures puts { OnOk result (Puts (K.written sink.old) (K.written sink.new) out.old.items out.new.items (text_of_lines (flat_map (ask_lines (version_text engine.now.version)) asks.now))) }
+    ensures part { PutsPart (K.written sink.old) (K.written sink.new) out.old.items (text_of_lines (flat_map (ask_lines (version_text engine.now.version)) (take (completed.new - completed.old + 1) asks.now))) }
+    ensures refusal { IfOk result (λ refusal. refusal ≡ list_any is_refusal (flat_map (ask_lines (version_text engine.now.version)) asks.now)) }
+    ensures completed { OnOk result (completed.new ≡ completed.old + length asks.now) }
+    ensures counted { (completed.old ≤ completed.new) × (completed.new ≤ completed.old + length asks.now) }
+    ensures causes { (n : ℕ) → HasCauses (K.faults sink.old) (K.faults sink.new) n n result }
+    ensures calm { OnOk result (K.faults sink.new ≡ K.faults sink.old) }
+{
+    let mut refused = false;
+    let mut i = 0;
+    for found in answers {
+        refused |= put_answer(alloc, out, sink, engine, &asks[i], found)?;
+        i += 1;
+        *completed += 1;
+    }
+    Ok(refused)
+}
+
+/// Answers a batch of queries, beside the merge that is wanted, if one is, and writes the answers.
 fn serve_batch<R: Threads + Wait + Sync, K: Sink, G: Gate + Sync>(
     rt: &R,
     alloc: Global,
@@ -108,21 +154,24 @@ fn serve_batch<R: Threads + Wait + Sync, K: Sink, G: Gate + Sync>(
     ensures step { IfOk result (λ refusal. AnswersBatch asks.now engine.old engine.new wanted.old wanted.new refusal (K.written sink.old) (K.written sink.new)) }
     ensures stop { StopsBatch asks.now (completed.new - completed.old) engine.old engine.new wanted.old (K.written sink.old) (K.written sink.new) }
     ensures completed { OnOk result (completed.new ≡ completed.old + length asks.now) }
-    ensures counted { completed.old ≤ completed.new }
+    ensures counted { (completed.old ≤ completed.new) × (completed.new ≤ completed.old + length asks.now) }
     ensures number { OnOk result (engine.new.version.number + wish wanted.new ≤ engine.old.version.number + wish wanted.old) }
     ensures savable { OnOk result (CanBeSaved engine.new.version) }
     ensures of { AreOf engine.new.publisher readers.new }
+    ensures same { length works.new ≡ length readers.new }
+    ensures lanes { length readers.new ≤ most_readers }
     ensures causes { (n : ℕ) → HasCauses (K.faults sink.old) (K.faults sink.new) n n result }
     ensures sink_calm { OnOk result (K.faults sink.new ≡ K.faults sink.old) }
 {
-    let refused = answer_asks(rt, alloc, gate, out, engine, works, readers, wanted, asks)?;
-    *completed += asks.len() as u64;
+    let answers = answer_batch(rt, alloc, gate, asks, *wanted, engine, works, readers)?;
+    *wanted = false;
+    out.clear();
+    let refused = put_answers(alloc, out, sink, engine, completed, asks, answers)?;
     write_all(sink, out.as_slice())?;
     Ok(refused)
 }
 
-/// Answers the batch of queries that the line at hand begins, or else this line alone. A single query is answered here where no merge is wanted:
-/// it costs no thread.
+/// Answers the batch of queries that the line at hand begins, or else this line alone.
 fn serve_some<R: Threads + Wait + Sync, F: Files, K: Sink, G: Gate + Sync>(
     rt: &R,
     alloc: Global,
@@ -142,28 +191,30 @@ fn serve_some<R: Threads + Wait + Sync, F: Files, K: Sink, G: Gate + Sync>(
 ) -> Result<(), RunFault>
     requires cut { IsCut script.now course.old.at cut }
     requires line { lines limits.now.line (drop course.old.at script.now) ≡ line_of_cut script.now cut ∷ lines limits.now.line (drop cut.after script.now) }
-    requires ahead { drop completed.old (lines limits.now.line script.now) ≡ lines limits.now.line (drop course.old.at script.now) }
-    requires counted { (completed.old ≤ course.old.at) × (course.old.asked ≤ course.old.at) }
+    requires room { completed.old + (length script.now - course.old.at) ≤ most_script }
+    requires asked { course.old.asked ≤ completed.old }
     requires limits { AreLimits limits.now }
-    requires short { length script.now ≤ most_script }
     requires savable { CanBeSaved engine.old.version }
     requires numbers { engine.old.version.number + wish wanted.old ≤ completed.old }
     requires same { length works.old ≡ length readers.old }
     requires lanes { length readers.old ≤ most_readers }
     requires of { AreOf engine.old.publisher readers.old }
-    ensures come { OnOk result (ComesOn limits.now (lines limits.now.line script.now) completed.old completed.new (F.held files.old) (F.held files.new)
-        engine.old engine.new wanted.old wanted.new course.old.refused course.new.refused (K.written sink.old) (K.written sink.new)) }
-    ensures stopped { StopsFrom limits.now (lines limits.now.line script.now) completed.old completed.new (F.held files.old) (F.held files.new)
-        engine.old engine.new wanted.old course.old.refused (K.written sink.old) (K.written sink.new) }
+    ensures goes { OnOk result (GoesOn (lines limits.now.line (drop course.old.at script.now)) (lines limits.now.line (drop course.new.at script.now)) completed.old completed.new) }
+    ensures come { OnOk result (WhoseLines (lines limits.now.line (drop course.old.at script.now)) completed.old (λ all. ComesOn limits.now all completed.old completed.new (F.held files.old) (F.held files.new)
+        engine.old engine.new wanted.old wanted.new course.old.refused course.new.refused (K.written sink.old) (K.written sink.new))) }
+    ensures stopped { WhoseLines (lines limits.now.line (drop course.old.at script.now)) completed.old (λ all. StopsFrom limits.now all completed.old completed.new (F.held files.old) (F.held files.new)
+        engine.old engine.new wanted.old course.old.refused (K.written sink.old) (K.written sink.new)) }
+    ensures kept { IsErrOf result RunFault.Write → WhoseLines (lines limits.now.line (drop course.old.at script.now)) completed.old (λ all. HoldsFrom limits.now all completed.old completed.new (F.held files.old) (F.held files.new)
+        engine.old wanted.old course.old.refused (K.written sink.old)) }
     ensures further { OnOk result ((course.old.at < course.new.at) × (course.new.at ≤ length script.now)) }
-    ensures ahead { OnOk result (drop completed.new (lines limits.now.line script.now) ≡ lines limits.now.line (drop course.new.at script.now)) }
-    ensures few { OnOk result (completed.new ≤ length (lines limits.now.line script.now)) }
-    ensures counted { OnOk result ((completed.new ≤ course.new.at) × (course.new.asked ≤ course.new.at)) }
+    ensures counted { OnOk result ((completed.new + course.old.at ≤ completed.old + course.new.at) × (course.new.asked ≤ completed.new)) }
     ensures numbers { OnOk result (engine.new.version.number + wish wanted.new ≤ completed.new) }
     ensures savable { OnOk result (CanBeSaved engine.new.version) }
-    ensures of { OnOk result (AreOf engine.new.publisher readers.new) }
-    ensures quiet { names_of (lines limits.now.line script.now) ≡ [] → files.new ≡ files.old }
-    ensures unsaved { names_kept_of (lines limits.now.line script.now) ≡ [] → F.held files.new ≡ F.held files.old }
+    ensures of { AreOf engine.new.publisher readers.new }
+    ensures same { length works.new ≡ length readers.new }
+    ensures lanes { length readers.new ≤ most_readers }
+    ensures quiet { names_of (lines limits.now.line (drop course.old.at script.now)) ≡ [] → files.new ≡ files.old }
+    ensures unsaved { names_kept_of (lines limits.now.line (drop course.old.at script.now)) ≡ [] → F.held files.new ≡ F.held files.old }
     ensures causes { HasCauses (K.faults sink.old) (K.faults sink.new) (F.faults files.old) (F.faults files.new) result }
     ensures sink_calm { OnOk result (K.faults sink.new ≡ K.faults sink.old) }
     ensures files_calm { OnOk result (F.faults files.new ≡ F.faults files.old) }
@@ -177,11 +228,11 @@ fn serve_some<R: Threads + Wait + Sync, F: Files, K: Sink, G: Gate + Sync>(
         course.asked + 1,
     )?;
     let asks = batch.asks.as_slice();
-    course.asked += asks.len() as u64;
-    if asks.len() > 1 || *wanted && asks.len() == 1 {
+    if !asks.is_empty() {
         let refused = serve_batch(
             rt, alloc, gate, out, sink, engine, works, readers, completed, wanted, asks,
         )?;
+        course.asked += asks.len() as u64;
         course.refused |= refused;
         course.at = batch.after;
         return Ok(());
@@ -195,151 +246,56 @@ fn serve_some<R: Threads + Wait + Sync, F: Files, K: Sink, G: Gate + Sync>(
     Ok(())
 }
 
-/// Answers the lines of a script, and says whether a refusal is among the answers.
-fn serve_lines<R: Threads + Wait + Sync, F: Files, K: Sink, G: Gate + Sync>(
+/// Answers the lines of some bytes.
+pub(crate) fn serve_held<R: Threads + Wait + Sync, F: Files, K: Sink, G: Gate + Sync>(
     rt: &R,
     alloc: Global,
     gate: &G,
+    out: &mut Vec<u8>,
     files: &mut F,
     sink: &mut K,
     engine: &mut Engine,
+    works: &mut [Work],
     readers: &mut [Reader],
     completed: &mut u64,
+    wanted: &mut bool,
+    course: &mut Course,
     limits: &Limits,
     script: &[u8],
-) -> Result<bool, RunFault>
-    requires opened { IsFresh engine.old completed.old }
-    requires of { AreOf engine.old.publisher readers.old }
-    requires lanes { length readers.old ≤ most_readers }
+) -> Result<(), RunFault>
+    requires room { completed.old + length script.now ≤ most_script }
+    requires asked { course.old.asked ≤ completed.old }
     requires limits { AreLimits limits.now }
-    requires short { length script.now ≤ most_script }
-    ensures all { IfOk result (λ refusal. (contents : Contents) → (images : Images) → F.held files.old ≡ Some contents → AreRead limits.now (opening engine.old.version.first contents images) (lines limits.now.line script.now) →
-        HasAnswered limits.now (opening engine.old.version.first contents images) script.now refusal (F.held files.new) (K.written sink.old) (K.written sink.new)) }
-    ensures left { OnOk result ((contents : Contents) → (images : Images) → F.held files.old ≡ Some contents → AreRead limits.now (opening engine.old.version.first contents images) (lines limits.now.line script.now) →
-        IsLeftBy limits.now (opening engine.old.version.first contents images) script.now engine.new completed.new) }
-    ensures stopped { (contents : Contents) → (images : Images) → F.held files.old ≡ Some contents → AreRead limits.now (opening engine.old.version.first contents images) (lines limits.now.line script.now) →
-        IsStopped limits.now (opening engine.old.version.first contents images) (lines limits.now.line script.now) completed.new engine.new.version (F.held files.new) (K.written sink.old) (K.written sink.new) }
+    requires savable { CanBeSaved engine.old.version }
+    requires numbers { engine.old.version.number + wish wanted.old ≤ completed.old }
+    requires same { length works.old ≡ length readers.old }
+    requires lanes { length readers.old ≤ most_readers }
+    requires of { AreOf engine.old.publisher readers.old }
+    ensures each { OnOk result (completed.new ≡ completed.old + length (lines limits.now.line script.now)) }
+    ensures come { OnOk result (WhoseLines (lines limits.now.line script.now) completed.old (λ all. ComesOn limits.now all completed.old completed.new (F.held files.old) (F.held files.new)
+        engine.old engine.new wanted.old wanted.new course.old.refused course.new.refused (K.written sink.old) (K.written sink.new))) }
+    ensures stopped { WhoseLines (lines limits.now.line script.now) completed.old (λ all. StopsFrom limits.now all completed.old completed.new (F.held files.old) (F.held files.new)
+        engine.old engine.new wanted.old course.old.refused (K.written sink.old) (K.written sink.new)) }
+    ensures kept { IsErrOf result RunFault.Write → WhoseLines (lines limits.now.line script.now) completed.old (λ all. HoldsFrom limits.now all completed.old completed.new (F.held files.old) (F.held files.new)
+        engine.old wanted.old course.old.refused (K.written sink.old)) }
+    ensures counted { OnOk result ((completed.new ≤ completed.old + length script.now) × (course.new.asked ≤ completed.new)) }
+    ensures numbers { OnOk result (engine.new.version.number + wish wanted.new ≤ completed.new) }
+    ensures savable { OnOk result (CanBeSaved engine.new.version) }
+    ensures of { AreOf engine.new.publisher readers.new }
+    ensures same { length works.new ≡ length readers.new }
+    ensures lanes { length readers.new ≤ most_readers }
     ensures quiet { names_of (lines limits.now.line script.now) ≡ [] → files.new ≡ files.old }
     ensures unsaved { names_kept_of (lines limits.now.line script.now) ≡ [] → F.held files.new ≡ F.held files.old }
     ensures causes { HasCauses (K.faults sink.old) (K.faults sink.new) (F.faults files.old) (F.faults files.new) result }
     ensures sink_calm { OnOk result (K.faults sink.new ≡ K.faults sink.old) }
     ensures files_calm { OnOk result (F.faults files.new ≡ F.faults files.old) }
 {
-    let _version = engine.version();
-    let mut works = Work::of_lanes(alloc, readers.len())?;
-    let works = works.as_mut_slice();
-    let mut out = Vec::new(alloc);
-    let mut wanted = false;
-    let mut course = Course {
-        at: 0,
-        asked: 0,
-        refused: false,
-    };
+    course.at = 0;
     while let Some(cut) = line_at(script, course.at, limits.line as usize) {
         serve_some(
-            rt,
-            alloc,
-            gate,
-            &mut out,
-            files,
-            sink,
-            engine,
-            works,
-            readers,
-            completed,
-            &mut wanted,
-            &mut course,
-            limits,
-            script,
-            cut,
+            rt, alloc, gate, out, files, sink, engine, works, readers, completed, wanted, course,
+            limits, script, cut,
         )?;
     }
-    merge_wanted(rt, gate, engine, &mut wanted)?;
-    Ok(course.refused)
-}
-
-/// Answers the script that a source hands out, on an engine that was just opened. Queries that follow each other are answered in batches by its
-/// readers, beside a merge that is wanted. `opened.lines` counts the lines that are completed: those of a batch once its answers are made. It is not for
-/// this call to end the engine.
-pub fn serve<R: Threads + Wait + Sync, F: Files, S: Source, K: Sink, G: Gate + Sync>(
-    rt: &R,
-    alloc: Global,
-    opened: &mut Opened,
-    limits: &Limits,
-    files: &mut F,
-    source: &mut S,
-    sink: &mut K,
-    gate: &G,
-) -> Status
-    requires opened { IsFresh opened.old.engine opened.old.lines }
-    requires readers { AreOf opened.old.engine.publisher opened.old.readers.items × (length opened.old.readers.items ≤ 16) }
-    requires limits { AreLimits limits.now }
-    ensures never_usage { ¬ (result ≡ Status.Usage) }
-
-    // Where the source tells the script and the files tell what they hold, the bytes written are the output of the script, and the files
-    // hold what its lines leave.
-    ensures done { result ≡ Status.Done → WhereTold limits.now (Some opened.old.engine.version.first) (S.left source.old) (F.held files.old) (λ start script.
-        IsAnsweredBy limits.now start script false (S.left source.new) (F.held files.new) (K.written sink.old) (K.written sink.new)) }
-    ensures done_with_refusals { result ≡ Status.DoneWithRefusals → WhereTold limits.now (Some opened.old.engine.version.first) (S.left source.old) (F.held files.old) (λ start script.
-        IsAnsweredBy limits.now start script true (S.left source.new) (F.held files.new) (K.written sink.old) (K.written sink.new)) }
-    ensures left { IsAllAnswered result → WhereTold limits.now (Some opened.old.engine.version.first) (S.left source.old) (F.held files.old) (λ start script.
-        IsLeftBy limits.now start script opened.new.engine opened.new.lines) }
-
-    // Whatever the status, some lines are completed, the sink gets the beginning of the output, and the files hold what these lines leave.
-    ensures stopped { WhereTold limits.now (Some opened.old.engine.version.first) (S.left source.old) (F.held files.old) (λ start script.
-        IsStopped limits.now start (lines limits.now.line script) opened.new.lines opened.new.engine.version (F.held files.new) (K.written sink.old) (K.written sink.new)) }
-    ensures part { WhereTold limits.now (Some opened.old.engine.version.first) (S.left source.old) (F.held files.old) (λ start script.
-        GetsPart (K.written sink.old) (K.written sink.new) (output_by limits.now start script)) }
-    ensures part_within { result ≡ Status.ScriptTooLong → WhereTold limits.now (Some opened.old.engine.version.first) (S.left source.old) (F.held files.old) (λ start script.
-        GetsPart (K.written sink.old) (K.written sink.new) (output_by limits.now start (within limits.now.script script))) }
-
-    // Each other status has its cause.
-    ensures read_fault { result ≡ Status.ReadFault → Rose (S.faults source.old) (S.faults source.new) }
-    ensures write_fault { result ≡ Status.WriteFault → Rose (K.faults sink.old) (K.faults sink.new) }
-    ensures file_fault { result ≡ Status.FileFault → Rose (F.faults files.old) (F.faults files.new) }
-    ensures too_long { result ≡ Status.ScriptTooLong → HandsOverMore limits.now.script (S.left source.old) (S.left source.new) }
-
-    // Where no object failed and the script is within its limit, all is answered, or memory is wanted. Where it is longer that is said, or
-    // memory is wanted.
-    ensures complete { ¬ Rose (S.faults source.old) (S.faults source.new) → ¬ Rose (K.faults sink.old) (K.faults sink.new) →
-        ¬ Rose (F.faults files.old) (F.faults files.new) → IsSomeAnd (S.left source.old) (λ script. length script ≤ limits.now.script) →
-        IsFinished result }
-    ensures complete_long { ¬ Rose (S.faults source.old) (S.faults source.new) → ¬ Rose (K.faults sink.old) (K.faults sink.new) →
-        ¬ Rose (F.faults files.old) (F.faults files.new) → IsSomeAnd (S.left source.old) (λ script. limits.now.script < length script) →
-        IsCutOff result }
-
-    // Where all is answered no object failed.
-    ensures source_calm { IsAllAnswered result → S.faults source.new ≡ S.faults source.old }
-    ensures sink_calm { IsAllAnswered result → K.faults sink.new ≡ K.faults sink.old }
-    ensures files_calm { IsAllAnswered result → F.faults files.new ≡ F.faults files.old }
-
-    // No file is asked for that no line names, and where no line saves none changes.
-    ensures unasked { IfSome (S.left source.old) (λ script. names_of (lines limits.now.line script) ≡ [] → files.new ≡ files.old) }
-    ensures unsaved { IfSome (S.left source.old) (λ script. names_kept_of (lines limits.now.line script) ≡ [] → F.held files.new ≡ F.held files.old) }
-{
-    let script = match read_script(alloc, source, limits.script) {
-        Ok(script) => script,
-        Err(ReadFault::Failed) => return Status::ReadFault,
-        Err(ReadFault::NoMemory) => return Status::NoMemory,
-        Err(ReadFault::TooLong) => return Status::ScriptTooLong,
-    };
-    let answered = serve_lines(
-        rt,
-        alloc,
-        gate,
-        files,
-        sink,
-        &mut opened.engine,
-        opened.readers.as_mut_slice(),
-        &mut opened.lines,
-        limits,
-        script.as_slice(),
-    );
-    match answered {
-        Ok(false) => Status::Done,
-        Ok(true) => Status::DoneWithRefusals,
-        Err(RunFault::Write) => Status::WriteFault,
-        Err(RunFault::Files) => Status::FileFault,
-        Err(RunFault::NoMemory) => Status::NoMemory,
-    }
+    Ok(())
 }

@@ -7,7 +7,8 @@ use crate::{Limits, Status, run, serve};
 use collection::{Engine, Opened};
 use gcl_model::Bytes;
 use outside::{
-    FreeGate, MemFiles, MemSink, MemSource, Sink, SureFiles, SureSink, SureSource, TurnGate,
+    Files, FreeGate, MemFiles, MemSink, MemSource, Sink, Source, SureFiles, SureSink, SureSource,
+    TurnGate,
 };
 use script_lang::{put_file, put_gone};
 use std::alloc::{AllocError, Global};
@@ -86,6 +87,39 @@ fn opened<R: Wait>(rt: &R, alloc: Global, readers: usize) -> Result<Opened, Allo
 }
 
 /// The status of `serve` with so many readers and by these limits, and the number of lines that it completed.
+pub(crate) fn served_from<R: Threads + Wait + Sync + AllocGlobal, F: Files, S: Source, K: Sink>(
+    rt: &R,
+    readers: usize,
+    limits: &Limits,
+    files: &mut F,
+    source: &mut S,
+    sink: &mut K,
+) -> Result<(Status, u64), AllocError>
+    requires readers { readers ≤ most_readers }
+    requires limits { AreLimits limits.now }
+{
+    let alloc = rt.alloc();
+    let mut opened = opened(rt, alloc, readers)?;
+    let status = serve(
+        rt,
+        alloc,
+        &mut opened,
+        limits,
+        files,
+        source,
+        sink,
+        &FreeGate,
+    );
+    let Opened {
+        engine,
+        readers: _readers,
+        lines,
+    } = opened;
+    engine.end(rt);
+    Ok((status, lines))
+}
+
+/// The same of a script that is handed over at once.
 fn served_into<R: Threads + Wait + Sync + AllocGlobal, K: Sink>(
     rt: &R,
     readers: usize,
@@ -99,24 +133,7 @@ fn served_into<R: Threads + Wait + Sync + AllocGlobal, K: Sink>(
     let alloc = rt.alloc();
     let mut files = SureFiles::new(alloc, held(alloc)?);
     let mut source = SureSource::new(alloc, Bytes::copy_of(alloc, script)?);
-    let mut opened = opened(rt, alloc, readers)?;
-    let status = serve(
-        rt,
-        alloc,
-        &mut opened,
-        limits,
-        &mut files,
-        &mut source,
-        sink,
-        &FreeGate,
-    );
-    let Opened {
-        engine,
-        readers: _readers,
-        lines,
-    } = opened;
-    engine.end(rt);
-    Ok((status, lines))
+    served_from(rt, readers, limits, &mut files, &mut source, sink)
 }
 
 /// The same over a sink that never fails, and what was written.
@@ -188,7 +205,7 @@ fn failing<R: Threads + Wait + Sync + AllocGlobal>(
 }
 
 // Scripts over the files above, each with its output.
-const SCRIPTS: [(&str, &[u8], &[u8]); 10] = [
+pub(crate) const SCRIPTS: [(&str, &[u8], &[u8]); 10] = [
     (
         "a word is found",
         b"add a\nfind \"to\"\n",
@@ -545,7 +562,11 @@ fn a_run_ends_at_the_first_fault_of_each_object(rt: HostRuntime) -> Result<(), F
     let script = b"add a\nfind \"to\"\n".as_slice();
     let cases: [(Plan<'_>, Status, &[u8]); 5] = [
         (failing_at(&[1], &[], &[]), Status::ReadFault, b""),
-        (failing_at(&[2], &[], &[]), Status::ReadFault, b""),
+        (
+            failing_at(&[2], &[], &[]),
+            Status::ReadFault,
+            b"file 0 0 7\n1 1\n5 5\n= 2\n",
+        ),
         (failing_at(&[], &[1], &[]), Status::WriteFault, b""),
         (
             failing_at(&[], &[2], &[]),

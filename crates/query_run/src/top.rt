@@ -4,10 +4,10 @@ ghost use Rattle.gcl_model.specs.Limits.{most_line, most_script};
 ghost use Rattle.script_lang.specs.Lines.{lines};
 ghost use Rattle.command_words.specs.Grammar.{options_of};
 ghost use Rattle.query_run.specs.Words.{first_of};
-ghost use Rattle.query_run.specs.Statuses.{IsFinished, IsCutOff, IsAllAnswered};
+ghost use Rattle.query_run.specs.Statuses.{IsSureOfFiles, IsFinished, IsCutOff, IsAllAnswered};
 ghost use Rattle.query_run.specs.States.{greatest_limits};
 ghost use Rattle.query_run.specs.Answers.{output, names_kept_of, names_of};
-ghost use Rattle.query_run.specs.Runs.{WhereTold, WhereMadeBy, GetsPart, HasStopped, IsAnswered, IsSummed, HandsOverMore, made_summary, within};
+ghost use Rattle.query_run.specs.Runs.{no_names, TakesWithin, WhereTold, WhereMadeBy, GetsPart, HasStopped, IsAnswered, IsSummed, HandsOverMore, made_summary, within};
 
 use crate::made_run::run_made;
 use crate::script_run::run_script;
@@ -44,13 +44,18 @@ pub fn run<R: Threads + Wait + Sync, F: Files, S: Source, K: Sink, G: Gate + Syn
         IsAnswered start script true (S.left source.new) (F.held files.new) (K.written sink.old) (K.written sink.new)) }
 
     // Whatever the status, some lines are completed, the sink gets the beginning of the output, and the files hold what these lines leave,
-    // but for the name that the next line saves.
+    // but for the name that the next line saves; not even for that where no file failed and no memory was wanted.
     ensures stopped { WhereTold greatest_limits (first_of words.now) (S.left source.old) (F.held files.old) (λ start script.
         HasStopped greatest_limits start (lines most_line script) names_kept_of (F.held files.new) (K.written sink.old) (K.written sink.new)) }
+    ensures exact { IsSureOfFiles result → WhereTold greatest_limits (first_of words.now) (S.left source.old) (F.held files.old) (λ start script.
+        HasStopped greatest_limits start (lines most_line script) no_names (F.held files.new) (K.written sink.old) (K.written sink.new)) }
     ensures part { WhereTold greatest_limits (first_of words.now) (S.left source.old) (F.held files.old) (λ start script.
         GetsPart (K.written sink.old) (K.written sink.new) (output start script)) }
     ensures part_within { result ≡ Status.ScriptTooLong → WhereTold greatest_limits (first_of words.now) (S.left source.old) (F.held files.old) (λ start script.
         GetsPart (K.written sink.old) (K.written sink.new) (output start (within most_script script))) }
+
+    // Of no script more than one byte above its limit is asked for.
+    ensures took { TakesWithin most_script (S.left source.old) (S.left source.new) }
 
     // Each other status has its cause.
     ensures read_fault { result ≡ Status.ReadFault → Rose (S.faults source.old) (S.faults source.new) }

@@ -2,7 +2,7 @@ use Rattle.std.proofs.Common.{◌≡◌, ◌∙◌, ap, rules}
 use Rattle.command_words.specs.Grammar.{options_of}
 use Rattle.query_run.specs.Statuses.{number_of}
 use Rattle.query_run.specs.declared.status.Status.TheVariants.{Done, DoneWithRefusals, Usage, ReadFault, WriteFault, FileFault, ScriptTooLong}
-use Rattle.gclq.proofs.Numbers.{same_status, finished_number, cut_off_number, made_finished, answered_status, usage_number}
+use Rattle.gclq.proofs.Numbers.{same_status, finished_number, cut_off_number, made_finished, answered_status, sure_status, usage_number}
 use Rattle.gclq.proofs.session.answer.Goals as goal
 
 pub returns-clause-usage_only : goal.returns-clause-usage_only
@@ -58,3 +58,6 @@ returns-clause-complete_long g c some source sink files longer = cut_off_number 
 
 pub returns-clause-complete_made : goal.returns-clause-complete_made
 returns-clause-complete_made g c = made_finished (options_of c.args.words.now) c.run-status.result _ _ c.exit.ensures c.run-status.ensures.complete_made
+
+pub returns-clause-exact : goal.returns-clause-exact
+returns-clause-exact g c is = c.run-status.ensures.exact (sure_status c.run-status.result _ c.exit.ensures is)

@@ -1,5 +1,6 @@
 use Rattle.std.proofs.Common.{◌≡◌, ◌++◌, drop}
-use Rattle.query_run.specs.Answers.{text_of_lines, record_lines}
+use Rattle.query_run.specs.Answers.{record_lines}
+use Rattle.script_lang.specs.Lines.{text_of_lines}
 use Rattle.query_run.proofs.listing.put_files.Given as goal
 
 -- with those of the files that are left, the lines so far are all

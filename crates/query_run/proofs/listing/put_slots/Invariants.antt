@@ -1,6 +1,7 @@
 use Rattle.std.proofs.Common.{◌≡◌, ◌++◌, drop}
 use Rattle.live_version.specs.Contents.{files_of}
-use Rattle.query_run.specs.Answers.{text_of_lines, record_lines}
+use Rattle.query_run.specs.Answers.{record_lines}
+use Rattle.script_lang.specs.Lines.{text_of_lines}
 use Rattle.query_run.proofs.listing.put_slots.Given as goal
 
 -- with those of the slots that are left, the lines so far are all

@@ -2,8 +2,7 @@ use Rattle.std.proofs.Common.{◌≡◌, List, ℕ, refl, subst}
 use Rattle.gcl_model.specs.FormOf.{form_of}
 use Rattle.gcl_model.specs.Meaning.{concordance}
 use Rattle.script_lang.specs.declared.refusals.Refusal.TheVariants.{Query}
-use Rattle.query_lanes.specs.Answers.{found_in}
-use Rattle.query_run.specs.Answers.{found_lines, query_lines, refusal_lines}
+use Rattle.query_run.specs.Answers.{asked_lines, query_lines, refusal_lines}
 use Rattle.query_run.proofs.BatchLemmas.{lines_of_form, lines_of_fault, no_fault}
 use Rattle.query_run.proofs.queries.ask_of.Goals as goal
 
@@ -11,7 +10,7 @@ pub returns-in-Ok : goal.returns-in-Ok
 returns-in-Ok c = record {
   asked_is = refl;
   lines_are = λ text.
-      subst (λ (query : List ℕ). found_lines (found_in c.args.asked (concordance text (form_of c.in-Ok.expr))) ≡ query_lines c.args.asked text query) c.as_slice.ensures
+      subst (λ (query : List ℕ). asked_lines c.args.asked (concordance text (form_of c.in-Ok.expr)) ≡ query_lines c.args.asked text query) c.as_slice.ensures
       (lines_of_form c.args.asked c.as_slice.result.now (form_of c.in-Ok.expr) text (no_fault _ (λ wrong is. let bad = (c.in-Ok.ensures.query wrong).1 is in absurd cc)) c.in-Ok.ensures.ok);
 }
 

@@ -1,6 +1,6 @@
+use Rattle.script_lang.specs.Lines.{text_of_lines}
 use Rattle.std.proofs.Common.{◌≡◌, ◌++◌, map, drop}
 use Rattle.script_lang.specs.Answers.{interval_line}
-use Rattle.query_run.specs.Answers.{text_of_lines}
 use Rattle.query_run.proofs.queries.put_intervals.Given as goal
 
 -- with those of the intervals that are left, the lines so far are all

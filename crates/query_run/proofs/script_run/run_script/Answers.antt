@@ -1,11 +1,13 @@
-use Rattle.std.proofs.Common.{◌≡◌, ◌<◌, ◌≤◌, Some, refl, ap, ◌∙◌, arith}
-use Rattle.gcl_model.specs.Limits.{address_end}
+use Rattle.std.proofs.Common.{◌≡◌, subst, ◌<◌, ◌≤◌, Some, refl, ap, ◌∙◌, arith}
+use Rattle.gcl_model.specs.Limits.{address_end, most_script}
 use Rattle.collection.specs.Engines.{EngineContent}
 use Rattle.script_lang.specs.Lines.{lines}
 use Rattle.query_run.specs.States.{greatest_limits}
 use Rattle.query_run.specs.Answers.{names_kept_of, output_by}
-use Rattle.query_run.specs.Runs.{GetsPart, HasStopped, within}
-use Rattle.query_run.proofs.Told.{by_words, none_stopped, some_stopped}
+use Rattle.query_run.specs.Runs.{GetsPart, HasStopped, TakesWithin, no_names, within}
+use Rattle.query_run.proofs.Told.{by_words, none_stopped, some_stopped, sure_stopped}
+use Rattle.query_run.proofs.StreamLemmas.{takes_none}
+use Rattle.query_run.specs.declared.limits.Limits.{Limits}
 use Rattle.query_run.proofs.script_run.run_script.Goals as goal
 
 pub unreachable-requires : goal.unreachable-requires
@@ -35,3 +37,22 @@ returns-clause-stopped g c =
     by_words (Some c.args.first) c.greatest-limits.result greatest_limits c.in-Ok.opened.engine.version.first left held
     (λ limits start script. HasStopped limits start (lines limits.line script) names_kept_of held' old new) first c.greatest-limits.ensures
     (some_stopped c.greatest-limits.result c.in-Ok.opened.engine.version.first left held held' old new c.serve-status.new.opened.lines c.serve-status.new.opened.engine.version c.serve-status.ensures.stopped)
+
+pub returns-clause-exact : goal.returns-clause-exact
+returns-clause-exact g c = λ sure.
+    let first : Some c.in-Ok.opened.engine.version.first ≡ Some c.args.first = ap (λ (e : EngineContent). Some e.version.first) c.in-Ok.ensures.history in
+    let left = g.S.Source.left c.args.source.now in
+    let held = g.F.Files.held c.args.files.now in
+    let held' = g.F.Files.held c.serve-status.new.files in
+    let old = g.K.Sink.written c.args.sink.now in
+    let new = g.K.Sink.written c.serve-status.new.sink in
+    by_words (Some c.args.first) c.greatest-limits.result greatest_limits c.in-Ok.opened.engine.version.first left held
+    (λ limits start script. HasStopped limits start (lines limits.line script) no_names held' old new) first c.greatest-limits.ensures
+    (sure_stopped c.greatest-limits.result c.in-Ok.opened.engine.version.first left held held' old new c.serve-status.new.opened.lines c.serve-status.new.opened.engine.version c.serve-status.ensures.stopped (c.serve-status.ensures.exact sure))
+
+pub returns-in-Err-NoMemory-clause-took : goal.returns-in-Err-NoMemory-clause-took
+returns-in-Err-NoMemory-clause-took g c = takes_none most_script (g.S.Source.left c.args.source.now)
+
+pub returns-clause-took : goal.returns-clause-took
+returns-clause-took g c =
+    subst (λ (l : Limits). TakesWithin l.script (g.S.Source.left c.args.source.now) (g.S.Source.left c.serve-status.new.source)) c.greatest-limits.ensures c.serve-status.ensures.took

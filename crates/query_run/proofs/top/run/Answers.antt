@@ -1,5 +1,5 @@
 use Rattle.std.proofs.Common.{◌≡◌, []}
-use Rattle.gcl_model.specs.Limits.{most_line}
+use Rattle.gcl_model.specs.Limits.{most_line, most_script}
 use Rattle.script_lang.specs.Lines.{lines}
 use Rattle.command_words.specs.Grammar.{options_of}
 use Rattle.query_run.specs.States.{greatest_limits}
@@ -8,6 +8,8 @@ use Rattle.query_run.specs.declared.status.Status.TheVariants.{NoMemory}
 use Rattle.query_run.specs.Words.{first_of}
 use Rattle.query_run.specs.Answers.{output, names_of, names_kept_of}
 use Rattle.query_run.proofs.Told.{nothing_of, nothing_of_made, none_stopped, kept_at, made_at, made_finishes}
+use Rattle.query_run.specs.Runs.{no_names}
+use Rattle.query_run.proofs.StreamLemmas.{takes_none}
 use Rattle.query_run.proofs.top.run.Goals as goal
 
 pub returns-in-Err-clause-part : goal.returns-in-Err-clause-part
@@ -33,3 +35,9 @@ pub returns-in-Some-clause-complete_made : goal.returns-in-Some-clause-complete_
 returns-in-Some-clause-complete_made g c =
     let failed = Rose (g.K.Sink.faults c.args.sink.now) (g.K.Sink.faults c.run_made.new.sink) in
     made_at (options_of c.args.words.now) (failed → ⊥) c.run_made.result (made_finishes c.run_made.result failed c.run_made.ensures.ends c.run_made.ensures.write_fault)
+
+pub returns-in-Err-clause-took : goal.returns-in-Err-clause-took
+returns-in-Err-clause-took g c = takes_none most_script (g.S.Source.left c.args.source.now)
+
+pub returns-in-Some-clause-took : goal.returns-in-Some-clause-took
+returns-in-Some-clause-took g c = takes_none most_script (g.S.Source.left c.args.source.now)

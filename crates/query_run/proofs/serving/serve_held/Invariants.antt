@@ -1,0 +1,33 @@
+use Rattle.std.proofs.Common.{◌≡◌, ◌+◌, ◌-◌, ◌≤◌, [], length, drop}
+use Rattle.image_file.specs.Images.{CanBeSaved}
+use Rattle.gcl_model.specs.Limits.{most_readers}
+use Rattle.script_lang.specs.Lines.{lines}
+use Rattle.query_lanes.specs.Readers.{AreOf}
+use Rattle.query_run.specs.Answers.{names_kept_of, names_of}
+use Rattle.query_run.specs.Progress.{ComesOn, GoesOn, WhoseLines, wish}
+use Rattle.query_run.proofs.serving.serve_held.Given as goal
+
+-- so many lines are completed, and what is left of the bytes has the others
+abbrev pub invariant-loop-cut : goal.invariant-loop-cut
+invariant-loop-cut g l = record {
+  within : l.course.at ≤ length l.script;
+  room : l.completed + (length l.script - l.course.at) ≤ l.initial.completed + length l.script;
+  asked : l.course.asked ≤ l.completed;
+  numbers : l.engine.version.number + wish l.wanted ≤ l.completed;
+  savable : CanBeSaved l.engine.version;
+  same : length l.works ≡ length l.readers;
+  lanes : length l.readers ≤ most_readers;
+  of : AreOf l.engine.publisher l.readers;
+  unsaved : names_kept_of (lines l.limits.line l.script) ≡ [] → g.F.Files.held l.files ≡ g.F.Files.held l.initial.files;
+  quiet : names_of (lines l.limits.line l.script) ≡ [] → l.files ≡ l.initial.files;
+  sink_later : g.K.Sink.faults l.initial.sink ≤ g.K.Sink.faults l.sink;
+  files_later : g.F.Files.faults l.initial.files ≤ g.F.Files.faults l.files;
+  sink_calm : g.K.Sink.faults l.sink ≡ g.K.Sink.faults l.initial.sink;
+  files_calm : g.F.Files.faults l.files ≡ g.F.Files.faults l.initial.files;
+  goes : GoesOn (lines l.limits.line l.script) (lines l.limits.line (drop l.course.at l.script)) l.initial.completed l.completed;
+  come : WhoseLines (lines l.limits.line l.script) l.initial.completed (λ all. ComesOn l.limits all l.initial.completed l.completed (g.F.Files.held l.initial.files) (g.F.Files.held l.files)
+      l.initial.engine l.engine l.initial.wanted l.wanted l.initial.course.refused l.course.refused (g.K.Sink.written l.initial.sink) (g.K.Sink.written l.sink));
+}
+
+abbrev pub decreases-loop-cut : goal.decreases-loop-cut
+decreases-loop-cut g l = length l.script - l.course.at
