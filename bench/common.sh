@@ -29,8 +29,7 @@ for _ in range(3):
         sys.exit(f"status {run.returncode}: {sys.argv[2:]}")
 print(best, resource.getrusage(resource.RUSAGE_CHILDREN).ru_maxrss)' "$@"; }
 
-# Prints the kilobytes of one run of a command.
-memory() { python3 -c '
-import resource, subprocess, sys
-subprocess.run(sys.argv[1:], check=True, stdout=subprocess.DEVNULL)
-print(resource.getrusage(resource.RUSAGE_CHILDREN).ru_maxrss)' "$@"; }
+# Prints the kilobytes of one run of a command. What a process takes is counted from its parent's on, so a small shell waits for it, and becomes
+# what prints the number.
+memory() { sh -c '"$@" > /dev/null || [ $? -eq 1 ] || exit 1
+exec python3 -c "import resource; print(resource.getrusage(resource.RUSAGE_CHILDREN).ru_maxrss)"' sh "$@"; }

@@ -6,17 +6,11 @@
 #                 printed
 #   ```picture    a query and a text of six words, and below a line for each interval of the query over demo/hamlet, which ends in `P Q`
 # Pages may be named; without names these are all that have examples.
-set -eu
-top=$(cd "$(dirname "$0")/.." && pwd)
-"$top/gclq" < /dev/null
-work=$(mktemp -d)
-trap 'rm -rf "$work"' EXIT
-cp -r "$top/demo" "$work/demo"
-printf '#!/bin/sh\nexec "%s/gclq" "$@"\n' "$top" > "$work/gclq"
-chmod +x "$work/gclq"
-cd "$work"
+. "$(dirname "$0")/common.sh"
+cp -r "$here/demo" demo
+ln -s "$gclq" gclq
 [ $# -gt 0 ] || set -- README.md docs/SCRIPT.md docs/QUERY.md docs/GALLERY.md
-python3 - "$top" "$@" <<'P'
+python3 - "$here" "$@" <<'P'
 import difflib, re, subprocess, sys
 
 def blocks(page):

@@ -1,15 +1,10 @@
 #!/usr/bin/env bash
 # Each case lets something outside the program fail. Compared are the exit status, what was written, the one line on standard error, and what
 # the files hold afterwards. A case that this machine does not allow is skipped, and a line says so.
-set -eu
-here=$(cd "$(dirname "$0")/.." && pwd)
-"$here/gclq" < /dev/null
-work=$(mktemp -d)
-trap 'rm -rf "$work"' EXIT
-chmod 755 "$work"
-cp "$here/crates/gclq/out/gclq" "$work/gclq"
-chmod 755 "$work/gclq"
-cd "$work"
+. "$(dirname "$0")/common.sh"
+# a user who is not root is to run it too
+cp "$gclq" gclq
+chmod 755 . gclq
 gclq=$work/gclq
 usage='usage: gclq [--first ADDRESS] [--readers NUMBER] [--made NUMBER --count NUMBER] < SCRIPT; see docs/SCRIPT.md'
 cases=0
@@ -74,6 +69,8 @@ got=0; "$gclq" < . > written 2> told || got=$?
 compares 'a folder as the script' 3 "$got" '' "$input"
 got=0; "$gclq" <&- > written 2> told || got=$?
 compares 'no script' 3 "$got" '' "$input"
+got=0; "$gclq" --made 0 --count 1 <&- > written 2> told || got=$?
+compares 'no script where none is wanted' 0 "$got" $'made 0 1\nlines 4\nrefused 0\nbytes 24\nsum 1177' "$none"
 
 # the answers
 says 'add a' 'find "to"'
@@ -81,6 +78,8 @@ if [ -c /dev/full ]; then
   : > written
   got=0; "$gclq" < script > /dev/full 2> told || got=$?
   compares 'a full device' 4 "$got" '' "$output"
+  got=0; "$gclq" < /dev/null > /dev/full 2> told || got=$?
+  compares 'a full device, and nothing to say' 0 "$got" '' "$none"
 else
   skips 'a full device: there is no /dev/full'
 fi
@@ -99,6 +98,16 @@ rm -f gone ended
   until [ -e ended ]; do sleep 0.05; done
 }
 compares 'a closed pipe' 4 "$(cat ended)" '' "$output"
+# the reader is gone after the first line of many
+yes to | head -c 300000 > long
+says 'add long' 'find "to"'
+"$gclq" < script > whole
+{ got=0; "$gclq" < script 2> told || got=$?; echo "$got" > ended; } | head -1 > written
+compares 'a reader that ends' 4 "$(cat ended)" 'file 0 0 100001' "$output"
+got=0; (trap '' XFSZ; ulimit -f 8; exec "$gclq") < script > written 2> told || got=$?
+head -c 8192 whole | cmp - written
+: > written
+compares 'answers that fill a disk' 4 "$got" '' "$output"
 
 # names
 says 'add a' 'add missing' 'add a'
@@ -108,12 +117,24 @@ says 'add a' 'add folder'
 expects 'a folder' 5 "$added" "$(cannot_read folder)" "$gclq"
 says 'open folder'
 expects 'a folder as an image' 5 '' "$(cannot_read folder)" "$gclq"
+says 'open missing'
+expects 'an image that is not there' 5 '' "$(cannot_read missing)" "$gclq"
+says 'add a' 'add /proc/self/mem'
+expects 'a file of which a read fails' 5 "$added" "$(cannot_read /proc/self/mem)" "$gclq"
+ln -s loop loop
+says 'add a' 'add loop'
+expects 'a link to itself' 5 "$added" "$(cannot_read loop)" "$gclq"
+: > told
+got=0; "$gclq" < script > written 2>&- || got=$?
+compares 'no standard error' 5 "$got" "$added" "$none"
 says 'add  to_caf'$'\xc3\xa9'' and "more" '
 expects 'a name with blanks and quotes' 5 '' "$(cannot_read 'to_caf'$'\xc3\xa9'' and "more"')" "$gclq"
 # the longest name that has a line, and a longer one
 long=$(head -c 65532 /dev/zero | tr '\0' n)
 says "add $long"
 expects 'a name as long as a line' 5 '' "$(cannot_read "$long")" "$gclq"
+says "save ${long%n}"
+expects 'a name as long as a line to save as' 5 '' "$(cannot_save "${long%n}")" "$gclq"
 says "add ${long}nnnn"
 expects 'a name of 65,536 bytes' 1 '! long line' "$none" "$gclq"
 says 'add /dev/zero'
@@ -131,6 +152,8 @@ if as_nobody "$gclq" < /dev/null > /dev/null 2>&1; then
   chmod 555 shut
   says 'add a' 'add hidden'
   expects 'a file that may not be read' 5 "$added" "$(cannot_read hidden)" as_nobody "$gclq"
+  says 'open hidden'
+  expects 'an image that may not be read' 5 '' "$(cannot_read hidden)" as_nobody "$gclq"
   says 'add a' 'save shut/i'
   expects 'a folder that may not be written' 5 "$added" "$(cannot_save shut/i)" as_nobody "$gclq"
   [ "$(cat shut/i)" = old ]
@@ -188,5 +211,7 @@ fi
 small() { (ulimit -v 40000; exec "$gclq"); }
 says 'add a' 'add /dev/zero'
 expects 'memory that does not suffice' 6 "$added" "$memory" small
+says 'open /dev/zero'
+expects 'memory that does not suffice for an image' 6 '' "$memory" small
 
 echo "$cases faults end as they should"

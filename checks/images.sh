@@ -1,12 +1,7 @@
 #!/usr/bin/env bash
 # Ten thousand files are added, some deleted, and the rest saved: a later run that opens the image answers each query of a table as the first
 # run does, and saves the same bytes.
-set -eu
-here=$(cd "$(dirname "$0")/.." && pwd)
-"$here/gclq" < /dev/null
-work=$(mktemp -d)
-trap 'rm -rf "$work"' EXIT
-cd "$work"
+. "$(dirname "$0")/common.sh"
 words=(to be or not that is the question whether tis nobler)
 for ((i = 0; i < 10000; i++)); do
   printf '<l>%s %s %s</l>\n<l>w%d the %s</l>\n' "${words[i % 11]}" "${words[i % 7]}" "${words[i % 5]}" $((i % 4999)) "${words[i % 3]}" > "f$i"
@@ -36,8 +31,8 @@ T
   cat table
   echo 'save again'
 } > opening
-"$here/gclq" < adding > added
-"$here/gclq" < opening > opened
+"$gclq" < adding > added
+"$gclq" < opening > opened
 sed '1,/^saved /d' added > first
 sed '1d;$d' opened > later
 cmp first later

@@ -1,12 +1,7 @@
 #!/usr/bin/env bash
 # No byte depends on the number of readers: a script of 500 lines in which merges are wanted all along gives the same bytes with 1, 2, 4 and 16
 # readers, twenty times, and a made corpus the same five lines.
-set -eu
-here=$(cd "$(dirname "$0")/.." && pwd)
-"$here/gclq" < /dev/null
-work=$(mktemp -d)
-trap 'rm -rf "$work"' EXIT
-cd "$work"
+. "$(dirname "$0")/common.sh"
 for ((i = 0; i < 5; i++)); do
   printf '<l>to be or not to be</l>\n<l>that is w%d</l>\n' $i > "f$i"
 done
@@ -16,7 +11,7 @@ for ((i = 0; i < 50; i++)); do
 done > script
 [ "$(wc -l < script)" -eq 500 ]
 # answers READERS: a refusal is a status of 1
-answers() { "$here/gclq" --readers "$1" < script || [ $? -eq 1 ]; }
+answers() { "$gclq" --readers "$1" < script || [ $? -eq 1 ]; }
 answers 1 > first
 for ((round = 0; round < 20; round++)); do
   for readers in 1 2 4 16; do
@@ -24,7 +19,7 @@ for ((round = 0; round < 20; round++)); do
     cmp first again
   done
 done
-made() { "$here/gclq" --made 7 --count 500 --readers "$1" < /dev/null || [ $? -eq 1 ]; }
+made() { "$gclq" --made 7 --count 500 --readers "$1" < /dev/null || [ $? -eq 1 ]; }
 made 1 > five
 [ "$(wc -l < five)" -eq 5 ]
 for readers in 4 16; do
