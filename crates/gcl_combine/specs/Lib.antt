@@ -1,3 +1,4 @@
 pub mod Better
 pub mod Farthest
+pub mod Directions
 pub mod Laws

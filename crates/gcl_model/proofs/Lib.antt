@@ -6,6 +6,7 @@ pub mod Minimal
 pub mod Meanings
 pub mod Reach
 pub mod Places
+pub mod Pairs
 pub mod WordLists
 pub mod Parts
 pub mod Grouping

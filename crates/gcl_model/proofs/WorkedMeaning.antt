@@ -1,8 +1,8 @@
 -- Worked examples of what expressions denote, of accesses and of costs, computed.
-use Rattle.std.specs.Prelude.{◌≡◌, ℕ, List, [], ◌∷◌, Some, None, refl, codes}
+use Rattle.std.specs.Prelude.{◌≡◌, ℕ, true, false, List, [], ◌∷◌, Some, None, refl, codes}
 use Rattle.gcl_model.specs.Extents.{extent}
 use Rattle.gcl_model.specs.Access.{first_start, first_end, last_end, last_start}
-use Rattle.gcl_model.specs.Texts.{Text, Word, next_place, previous_place}
+use Rattle.gcl_model.specs.Texts.{Text, Word, next_place, previous_place, any_pair}
 use Rattle.gcl_model.specs.Forms.{Form, Forms, term, phrase, width, both, one, seq, containing, contained_in, not_containing, not_contained_in, no_forms, more_forms}
 use Rattle.gcl_model.specs.Meaning.{concordance}
 use Rattle.gcl_model.specs.Cost.{cost}
@@ -42,6 +42,17 @@ the_next_place = refl
 
 pub no_previous_place : previous_place hamlet.words (codes "to") 0 ≡ None
 no_previous_place = refl
+
+-- "to be" begins at 1 and at 5
+pub no_pair_between : any_pair hamlet.words (codes "to") (codes "be") 2 5 ≡ false
+no_pair_between = refl
+
+pub a_pair_at_the_last_address : any_pair hamlet.words (codes "to") (codes "be") 2 6 ≡ true
+a_pair_at_the_last_address = refl
+
+-- "to" at 5 has "be" right behind it, and "be" no "to"
+pub no_pair_the_other_way : any_pair hamlet.words (codes "be") (codes "to") 0 8 ≡ false
+no_pair_the_other_way = refl
 
 -- (1, 6) begins with the one and ends with the other too, but others are nested in it
 pub followed_by_is_nearest : concordance hamlet (seq (two t b)) ≡ extent 1 2 ∷ extent 5 6 ∷ []

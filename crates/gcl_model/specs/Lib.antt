@@ -1,6 +1,7 @@
 pub mod Limits
 pub mod Extents
 pub mod Access
+pub mod Directions
 pub mod Texts
 pub mod Forms
 pub mod FormOf

@@ -1,5 +1,5 @@
-ghost use Rattle.std.specs.Prelude.{◌≡◌, ◌+◌, ◌≤◌};
-ghost use Rattle.gcl_model.specs.Texts.{next_place, previous_place};
+ghost use Rattle.std.specs.Prelude.{◌≡◌, ◌+◌, ◌≤◌, false};
+ghost use Rattle.gcl_model.specs.Texts.{next_place, previous_place, any_pair};
 
 use crate::leaves::Leaves;
 use crate::span::Span;
@@ -37,6 +37,11 @@ pub trait CountedLeaves {
         ensures sound { IsText (text self.now) }
         ensures counted { count counter.old ≤ count counter.new }
         ensures cost { count counter.new ≤ count counter.old + most self.now };
+
+    /// An address from `k` on before which `second` nowhere stands right behind `first`, as far as it is known without a look-up.
+    fn earliest_pair(&self, first: &[u8], second: &[u8], k: u64) -> u64
+        ensures from { k ≤ result }
+        ensures none { any_pair (text self.now).words first.now second.now k result ≡ false };
 
     /// The addresses, and what holds of the words.
     fn span(&self) -> Span
@@ -79,6 +84,10 @@ impl<L: Leaves, S: Ledger> CountedLeaves for LentLeaves<'_, L, S> {
 
     fn prev(&self, term: &[u8], k: u64, steps: &mut Steps<S>) -> Option<u64> {
         self.leaves.prev(term, k, steps)
+    }
+
+    fn earliest_pair(&self, first: &[u8], second: &[u8], k: u64) -> u64 {
+        self.leaves.earliest_pair(first, second, k)
     }
 
     fn span(&self) -> Span {

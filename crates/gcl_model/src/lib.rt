@@ -11,6 +11,8 @@
 //! `Question`.
 #![tactic(auto)]
 
+mod blanks;
+mod boundaries;
 mod bytes;
 mod containment;
 mod counted_leaves;
@@ -25,6 +27,8 @@ mod span;
 mod steps;
 mod token_list;
 
+pub use blanks::is_blank;
+pub use boundaries::{file_end, file_start};
 pub use bytes::Bytes;
 pub use containment::Containment;
 pub use counted_leaves::{CountedLeaves, LentLeaves};

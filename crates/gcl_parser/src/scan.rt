@@ -7,7 +7,7 @@ ghost use Rattle.gcl_parser.specs.Scanned.{shown, HasRange, IsPiece, IsNext, tok
 use crate::fault::QueryKind;
 use crate::token::{Joint, PlacedToken, Token};
 use crate::width::{digit_count, width_of};
-use gcl_model::Containment;
+use gcl_model::{Containment, file_end, file_start, is_blank};
 use memchr::memchr;
 use word_tokens::token_count;
 
@@ -37,12 +37,6 @@ fn after_blanks(text: &[u8], from: usize) -> usize
         at += 1;
     }
     at
-}
-
-fn is_blank(byte: u8) -> bool
-    ensures { result ≡ is_blank_byte byte }
-{
-    byte == b' ' || byte == b'\t'
 }
 
 /// The query token at a place that holds no blank.
@@ -94,7 +88,7 @@ fn has_terms(bytes: &[u8]) -> bool
 pub fn is_boundary(bytes: &[u8]) -> bool
     ensures { result ≡ is_boundary_token bytes.now }
 {
-    bytes == b"<file!>".as_slice() || bytes == b"</file!>".as_slice()
+    bytes == file_start() || bytes == file_end()
 }
 
 /// The width whose `[` stands at the place.

@@ -3,12 +3,7 @@ ghost use Rattle.std.specs.List.{prefix_len, suffix_len, position_or_len, before
 ghost use Rattle.gcl_model.specs.Tokens.{is_blank};
 ghost use Rattle.script_lang.specs.Blanks.{behind_word};
 
-/// A space or a tab.
-pub fn is_blank(b: u8) -> bool
-    ensures { result ≡ is_blank b }
-{
-    b == b' ' || b == b'\t'
-}
+use gcl_model::is_blank;
 
 /// How many blanks are at the front.
 pub fn front_blanks(bytes: &[u8]) -> usize
