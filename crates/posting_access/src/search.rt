@@ -6,12 +6,12 @@ ghost use Rattle.posting_access.specs.Search.{least_from, greatest_to, count_bel
 
 use crate::halving::{Test, border};
 use gcl_model::{Ledger, Steps};
-use posting_code::{BLOCK, PostingList};
+use posting_code::{BLOCK, Postings};
 
 /// The blocks of a list that begin at `k` or before.
 #[derive(Drop)]
 pub struct BlocksUpTo<'a> {
-    pub list: &'a PostingList,
+    pub list: &'a Postings<'a>,
     pub k: u64,
 }
 
@@ -29,7 +29,7 @@ impl<'a> Test for BlocksUpTo<'a> {
 }
 
 /// The least address at or after `k`.
-pub fn at_or_after<L: Ledger>(list: &PostingList, k: u64, probes: &mut Steps<L>) -> Option<u64>
+pub fn at_or_after<L: Ledger>(list: &Postings<'_>, k: u64, probes: &mut Steps<L>) -> Option<u64>
     ensures answer { result ≡ least_from list.now k }
     ensures probes { RisesByDigits (length list.now) probes.old probes.new }
 {
@@ -44,7 +44,7 @@ pub fn at_or_after<L: Ledger>(list: &PostingList, k: u64, probes: &mut Steps<L>)
 }
 
 /// The greatest address at or before `k`.
-pub fn at_or_before<L: Ledger>(list: &PostingList, k: u64, probes: &mut Steps<L>) -> Option<u64>
+pub fn at_or_before<L: Ledger>(list: &Postings<'_>, k: u64, probes: &mut Steps<L>) -> Option<u64>
     ensures answer { result ≡ greatest_to list.now k }
     ensures probes { RisesByDigits (length list.now) probes.old probes.new }
 {
@@ -54,7 +54,7 @@ pub fn at_or_before<L: Ledger>(list: &PostingList, k: u64, probes: &mut Steps<L>
 }
 
 /// How many addresses are below `k`. Of `2, 5, 9` below 6 they are 2.
-pub fn rank<L: Ledger>(list: &PostingList, k: u64, probes: &mut Steps<L>) -> usize
+pub fn rank<L: Ledger>(list: &Postings<'_>, k: u64, probes: &mut Steps<L>) -> usize
     ensures value { result ≡ count_below list.now k }
     ensures probes { RisesByDigits (length list.now) probes.old probes.new }
 {
@@ -67,7 +67,7 @@ pub fn rank<L: Ledger>(list: &PostingList, k: u64, probes: &mut Steps<L>) -> usi
 }
 
 /// How many blocks begin at or before `k`: they are the first ones.
-fn blocks_up_to<L: Ledger>(list: &PostingList, k: u64, probes: &mut Steps<L>) -> usize
+fn blocks_up_to<L: Ledger>(list: &Postings<'_>, k: u64, probes: &mut Steps<L>) -> usize
     ensures within { result ≤ blocks_of list.now }
     ensures before { 0 < result → slice_index list.now (64 * (result - 1)) ≤ k }
     ensures after { result < blocks_of list.now → k < slice_index list.now (64 * result) }
@@ -78,7 +78,7 @@ fn blocks_up_to<L: Ledger>(list: &PostingList, k: u64, probes: &mut Steps<L>) ->
 }
 
 /// The least address of a block from `k` on.
-fn least_in_block(list: &PostingList, block: usize, k: u64) -> Option<u64>
+fn least_in_block(list: &Postings<'_>, block: usize, k: u64) -> Option<u64>
     requires { block < blocks_of list.now }
     ensures { result ≡ least_from (block_of list.now block) k }
 {
@@ -86,7 +86,11 @@ fn least_in_block(list: &PostingList, block: usize, k: u64) -> Option<u64>
 }
 
 /// The first address of a block, if there is such a block.
-fn first_of_block<L: Ledger>(list: &PostingList, block: usize, probes: &mut Steps<L>) -> Option<u64>
+fn first_of_block<L: Ledger>(
+    list: &Postings<'_>,
+    block: usize,
+    probes: &mut Steps<L>,
+) -> Option<u64>
     requires { block ≤ blocks_of list.now }
     ensures answer { result ≡ slice_get list.now (64 * block) }
     ensures probe { probes.new ≡ probes.old + length (option_to_list result) }
@@ -99,7 +103,7 @@ fn first_of_block<L: Ledger>(list: &PostingList, block: usize, probes: &mut Step
 }
 
 /// How many addresses of a block are below `k`.
-fn rank_in_block(list: &PostingList, block: usize, k: u64) -> usize
+fn rank_in_block(list: &Postings<'_>, block: usize, k: u64) -> usize
     requires { block < blocks_of list.now }
     ensures { result ≡ count_below (block_of list.now block) k }
 {

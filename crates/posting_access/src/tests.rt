@@ -3,7 +3,7 @@ ghost use Rattle.posting_code.specs.Postings.{ArePostings};
 
 use crate::search::{at_or_after, at_or_before, rank};
 use gcl_model::{Ledger, Question, Steps, counted};
-use posting_code::{ADDRESS_END, PostingList, encode};
+use posting_code::{ADDRESS_END, Postings, encode};
 use std::alloc::{AllocError, Global};
 
 /// One of the two look-ups.
@@ -16,7 +16,7 @@ enum Side {
 /// The address that is nearest to `k` on one side.
 #[derive(Drop)]
 struct Nearest<'a> {
-    list: &'a PostingList,
+    list: &'a Postings<'a>,
     k: u64,
     side: Side,
 }
@@ -43,7 +43,7 @@ impl Question for Nearest<'_> {
 /// How many addresses are below `k`.
 #[derive(Drop)]
 struct Rank<'a> {
-    list: &'a PostingList,
+    list: &'a Postings<'a>,
     k: u64,
 }
 
@@ -81,7 +81,7 @@ fn addresses(alloc: Global, count: u16, gap: u64) -> Result<Vec<u64>, AllocError
 }
 
 /// Both look-ups at `k`, and how many probes each took.
-fn look_up(list: &PostingList, k: u64) -> ((Option<u64>, Option<u64>), (u64, u64)) {
+fn look_up(list: &Postings<'_>, k: u64) -> ((Option<u64>, Option<u64>), (u64, u64)) {
     let (least, forward) = counted(&Nearest {
         list,
         k,
@@ -114,6 +114,7 @@ fn look_ups_are_those_of_a_look_at_each_address_within_the_digits_of_the_length(
         for gap in [1, 127, 128, 1 << 14, 1 << 46, 1 << 55] {
             let addresses = addresses(rt.alloc(), count, gap)?;
             let list = encode(rt.alloc(), &addresses)?;
+            let list = list.as_postings();
             for member in &addresses {
                 for k in [member.wrapping_sub(1), *member, member.wrapping_add(1)] {
                     let (found, probes) = look_up(&list, k);
@@ -148,6 +149,7 @@ fn a_rank_is_the_number_of_addresses_below_within_the_digits_of_the_length(
         for gap in [1, 1 << 14, 1 << 46] {
             let addresses = addresses(rt.alloc(), count, gap)?;
             let list = encode(rt.alloc(), &addresses)?;
+            let list = list.as_postings();
             for member in &addresses {
                 for k in [member.wrapping_sub(1), *member, member.wrapping_add(1)] {
                     let (below, probes) = counted(&Rank { list: &list, k });
@@ -168,6 +170,7 @@ fn a_rank_is_the_number_of_addresses_below_within_the_digits_of_the_length(
 #[test]
 fn two_addresses_far_apart_are_found(rt: HostRuntime) -> Result<(), AllocError> {
     let list = encode(rt.alloc(), &[1 << 55, ADDRESS_END - 1])?;
+    let list = list.as_postings();
     let cases = [
         (0, Some(1 << 55), None),
         ((1 << 55) + 1, Some(ADDRESS_END - 1), Some(1 << 55)),
@@ -183,14 +186,17 @@ fn two_addresses_far_apart_are_found(rt: HostRuntime) -> Result<(), AllocError> 
 #[test]
 fn each_reading_of_a_first_address_is_a_probe(rt: HostRuntime) -> Result<(), AllocError> {
     let few = encode(rt.alloc(), &[2, 5, 9])?;
+    let few = few.as_postings();
     for k in [0, 3, 9, 10] {
         assert_eq!(rt; look_up(&few, k).1, (1, 1), "at {k}");
     }
     let none = encode(rt.alloc(), &[])?;
+    let none = none.as_postings();
     assert_eq!(rt; look_up(&none, 3).1, (0, 0));
     // two blocks: behind the first one and before the second, the first address of the second is read once more
     let two = addresses(rt.alloc(), 65, 10)?;
     let two = encode(rt.alloc(), &two)?;
+    let two = two.as_postings();
     assert_eq!(rt; look_up(&two, 640), ((Some(643), Some(633)), (3, 2)));
     Ok(())
 }

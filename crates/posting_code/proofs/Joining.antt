@@ -225,18 +225,16 @@ number_within bytes at value after n within =
     let ends = n.behind in
     omega (arith, long, parts, ends, within)
 
-pub last_at : (ys : List ℕ) (place : ℕ) → 0 < length ys → place ≡ length ys - 1 → get_or ys place 0 ≡ last_of ys
-last_at [] place some is = absurd (omega (arith, some))
-last_at (y ∷ []) place some is = let e : place ≡ 0 = omega (arith, is) in ap (λ n. get_or (y ∷ []) n 0) e
-last_at (y ∷ z ∷ ys) zero some is = absurd (omega (arith, is))
-last_at (y ∷ z ∷ ys) (suc place) some is = last_at (z ∷ ys) place (omega arith) (omega (arith, is))
-
 -- the last of two lists is that of the later one
 pub last_of-append : (xs ys : List ℕ) → 0 < length ys → last_of (xs ++ ys) ≡ last_of ys
 last_of-append [] ys some = refl
 last_of-append (x ∷ xs) [] some = absurd (omega (arith, some))
 last_of-append (x ∷ []) (y ∷ ys) some = refl
 last_of-append (x ∷ z ∷ xs) (y ∷ ys) some = last_of-append (z ∷ xs) (y ∷ ys) some
+
+-- and so it is of what was made of them
+pub last_joined : (xs ys made : List ℕ) (last : ℕ) → made ≡ xs ++ ys → 0 < length ys → last ≡ last_of ys → last ≡ last_of made
+last_joined xs ys made last is some end = end ∙ sym (last_of-append xs ys some) ∙ ap last_of (sym is)
 
 -- the blocks of both lists, by the numbers that were read of each
 pub of_both : (blocks : Blocks) (front behind first count count' first' : ℕ) (heads : List Head) → front ≡ count → behind ≡ count' → first ≡ first' → AreBlocks blocks (front + behind) first heads → AreBlocks blocks (count + count') first' heads

@@ -3,6 +3,8 @@ pub mod Spellings
 pub mod Rising
 pub mod Packed
 pub mod Joining
+pub mod Shorts
+pub mod Steps
 pub mod Around
 pub mod Unpacking
 mod Worked

@@ -6,11 +6,12 @@ use Rattle.std.proofs.Math.ListN.{drop_of_length-le}
 use Rattle.std.proofs.lemmas.List.{get_or_append_left, get_or-append-add, drop-append-le, append-nil}
 use Rattle.posting_code.specs.Numbers.{spelling_within, spelling, IsNumberAt, HasNoNumberAt}
 use Rattle.posting_code.specs.Postings.{RiseWithin, ArePostings}
-use Rattle.posting_code.specs.Packed.{unpacked, members_behind, kept, packed_from, packed_of, CanUnpack, IsHead, IsKept, heads_behind, last_of}
+use Rattle.posting_code.specs.Packed.{unpacked, members_behind, kept, packed_from, packed_of, CanUnpack, IsHead, IsKept, IsKeptTo, heads_behind, last_of}
 use Rattle.posting_code.specs.Blocks.{count_in, first_in, heads_in, AreBlocks}
 use Rattle.posting_code.specs.declared.head.Head.{Head}
 use Rattle.posting_code.specs.declared.blocks.Blocks.{Blocks}
 use Rattle.posting_code.proofs.Numbers.{within-small, within-more, prefix_free}
+use Rattle.posting_code.proofs.Rising.{last_of-push}
 
 -- a packed number is read in one go
 unpacked-within : (k n before value scale : ℕ) (rest : List ℕ) → n < 128 ^ suc k →
@@ -91,7 +92,7 @@ pub next_is : (packed : List ℕ) (before at value after : ℕ) → CanUnpack pa
 next_is packed before at value after can some n = next_in packed (members_behind packed before at) before at value after refl can.rising can.spelled some n
 
 -- one member more
-packed_from-push : (before : ℕ) (ps : List ℕ) (y : ℕ) → packed_from before (ps ++ y ∷ []) ≡ packed_from before ps ++ spelling (y - last_of (before ∷ ps))
+pub packed_from-push : (before : ℕ) (ps : List ℕ) (y : ℕ) → packed_from before (ps ++ y ∷ []) ≡ packed_from before ps ++ spelling (y - last_of (before ∷ ps))
 packed_from-push before [] y = append-nil (spelling (y - before))
 packed_from-push before (p ∷ ps) y = ap (λ bs. spelling (p - before) ++ bs) (packed_from-push p ps y) ∙ sym (append_assoc (spelling (p - before)) (packed_from p ps) (spelling (y - last_of (p ∷ ps))))
 
@@ -113,18 +114,21 @@ grown_list (suc n) first packed heads last y next more k g is =
     (ap (λ m. kept m first more) suc_is ∙ ap (λ bs. first ∷ unpacked first 0 1 bs) spelled ∙ ap (λ qs. first ∷ qs) (unpacked-packed first (ps ++ y ∷ []) g.rising.2), spelled)
 
 -- the first of a list is kept apart
-pub first_kept : (first y : ℕ) (packed : List ℕ) (heads : List Head) → IsKept 0 first packed heads → ArePostings (y ∷ []) → (kept 1 y packed ≡ y ∷ []) × IsKept 1 y packed heads
+pub first_kept : (first y : ℕ) (packed : List ℕ) (heads : List Head) → IsKept 0 first packed heads → ArePostings (y ∷ []) → (kept 1 y packed ≡ y ∷ []) × IsKeptTo y 1 y packed heads
 first_kept first y packed heads k rising =
     let none : packed ≡ [] = k.differences in
     let is : kept 1 y packed ≡ y ∷ [] = ap (λ bs. y ∷ unpacked y 0 1 bs) none in
     let marked : length heads ≡ 0 = k.marked in (
       is,
       record {
-        rising = subst ArePostings (sym is) rising;
-        counted = ap length (sym is);
-        differences = none ∙ ap packed_of (sym is);
-        marked = marked;
-        blocks = λ b d lt. absurd (omega (arith, marked, lt));
+        parts = record {
+          rising = subst ArePostings (sym is) rising;
+          counted = ap length (sym is);
+          differences = none ∙ ap packed_of (sym is);
+          marked = marked;
+          blocks = λ b d lt. absurd (omega (arith, marked, lt));
+        };
+        end = ap last_of (sym is);
       },
     )
 
@@ -211,13 +215,21 @@ kept_block count first packed heads last y next more head longer k g is on head_
     }
 
 -- a member behind the others, whether it begins a block or not
-pub kept_next : (count first : ℕ) (packed : List ℕ) (heads : List Head) (last y next : ℕ) (more : List ℕ) (head : Head) (longer : List Head) → IsKept count first packed heads → IsGrown count first packed last y more →
+kept_next : (count first : ℕ) (packed : List ℕ) (heads : List Head) (last y next : ℕ) (more : List ℕ) (head : Head) (longer : List Head) → IsKept count first packed heads → IsGrown count first packed last y more →
     next ≡ count + 1 → head.first ≡ y → head.at ≡ length more → longer ≡ heads_behind count heads head → IsKept next first more longer
 kept_next count first packed heads last y next more head longer k g is head_first head_at longer_is =
     elim (cases_Bool (eqb (count % 64) 0)) [
       | inl on ↦ kept_block count first packed heads last y next more head longer k g is (eqb-true (count % 64) 0 on) head_first head_at (longer_is ∙ rw on refl)
       | inr off ↦ subst (IsKept next first more) (sym (longer_is ∙ rw off refl)) (kept_more count first packed heads last y next more k g is (λ e. let h = rw e at off in absurd cc))
     ]
+
+-- the same, with the member as the last one
+pub next_kept : (count first : ℕ) (packed : List ℕ) (heads : List Head) (last y next : ℕ) (more : List ℕ) (head : Head) (longer : List Head) → IsKept count first packed heads → IsGrown count first packed last y more →
+    next ≡ count + 1 → head.first ≡ y → head.at ≡ length more → longer ≡ heads_behind count heads head → IsKeptTo y next first more longer
+next_kept count first packed heads last y next more head longer k g is head_first head_at longer_is = record {
+  parts = kept_next count first packed heads last y next more head longer k g is head_first head_at longer_is;
+  end = sym (ap last_of (grown_list count first packed heads last y next more k g is).0 ∙ last_of-push (kept count first packed) y);
+}
 
 pub is_grown : (list : List ℕ) (count first : ℕ) (packed : List ℕ) (last y : ℕ) (more : List ℕ) → 0 < count → kept count first packed ≡ list → last ≡ last_of list → ArePostings (list ++ y ∷ []) →
     more ≡ packed ++ spelling (y - last) → IsGrown count first packed last y more
@@ -228,11 +240,20 @@ is_grown list count first packed last y more some is last_is rising more_is =
 pub blocks_list : (blocks : Blocks) (count first : ℕ) (packed : List ℕ) (heads : List Head) → AreBlocks blocks count first heads → kept (count_in blocks) (first_in blocks) packed ≡ kept count first packed
 blocks_list blocks count first packed heads are = ap (λ n. kept n (first_in blocks) packed) are.counted ∙ ap (λ f. kept count f packed) are.begun
 
-pub blocks_kept : (blocks : Blocks) (count first : ℕ) (packed : List ℕ) (heads : List Head) → AreBlocks blocks count first heads → IsKept count first packed heads → IsKept (count_in blocks) (first_in blocks) packed (heads_in blocks)
+blocks_kept : (blocks : Blocks) (count first : ℕ) (packed : List ℕ) (heads : List Head) → AreBlocks blocks count first heads → IsKept count first packed heads → IsKept (count_in blocks) (first_in blocks) packed (heads_in blocks)
 blocks_kept blocks count first packed heads are k =
     subst (λ n. IsKept n (first_in blocks) packed (heads_in blocks)) (sym are.counted)
     (subst (λ f. IsKept count f packed (heads_in blocks)) (sym are.begun) (subst (IsKept count first packed) (sym are.marked) k))
 
+pub blocks_kept_to : (blocks : Blocks) (last count first : ℕ) (packed : List ℕ) (heads : List Head) → AreBlocks blocks count first heads → IsKeptTo last count first packed heads → IsKeptTo last (count_in blocks) (first_in blocks) packed (heads_in blocks)
+blocks_kept_to blocks last count first packed heads are k = record {
+  parts = blocks_kept blocks count first packed heads are k.parts;
+  end = k.end ∙ ap last_of (sym (blocks_list blocks count first packed heads are));
+}
+
 -- no members
-pub none_kept : (first : ℕ) → IsKept 0 first [] []
-none_kept first = record { rising = tt; counted = refl; differences = refl; marked = refl; blocks = λ b d lt. absurd (omega (arith, lt)) }
+pub none_kept : (first : ℕ) → IsKeptTo 0 0 first [] []
+none_kept first = record {
+  parts = record { rising = tt; counted = refl; differences = refl; marked = refl; blocks = λ b d lt. absurd (omega (arith, lt)) };
+  end = refl;
+}

@@ -23,6 +23,11 @@ rise_drop low end (x ∷ xs) zero r = r
 rise_drop low end (x ∷ xs) (suc n) r =
     let p = r.0 in rise_wider (x + 1) low end end (drop n xs) (rise_drop (x + 1) end xs n r.2) (omega arith) (omega arith)
 
+-- so does a front
+pub rise_front : (low end : ℕ) (xs ys : List ℕ) → RiseWithin low end (xs ++ ys) → RiseWithin low end xs
+rise_front low end [] ys r = tt
+rise_front low end (x ∷ xs) ys r = (r.0, r.1, rise_front (x + 1) end xs ys r.2)
+
 -- each member lies within the bounds
 pub rise_index : (low end : ℕ) (xs : List ℕ) (i : ℕ) → RiseWithin low end xs → i < length xs → (low ≤ get_or xs i 0) × (get_or xs i 0 < end)
 rise_index low end [] i r lt = absurd (omega arith)

@@ -3,4 +3,5 @@ pub mod Laws
 pub mod Reader
 pub mod Postings
 pub mod Packed
+pub mod Joined
 pub mod Blocks

@@ -55,6 +55,11 @@ last_of [] = 0
 last_of (p ∷ []) = p
 last_of (p ∷ q ∷ qs) = last_of (q ∷ qs)
 
+-- the same, and the last member stands beside them
+pub record IsKeptTo (last count first : ℕ) (packed : List ℕ) (heads : List Head) : Type 0 where
+  pub parts : IsKept count first packed heads
+  pub end : last ≡ last_of (kept count first packed)
+
 -- where a block stands: the first from the beginning on, and each later one by its head
 abbrev pub head_at : ℕ → List Head → ℕ → Head
 head_at first heads zero = record { first = first; at = 0 }

@@ -1,9 +1,9 @@
 ghost use Rattle.std.specs.Prelude.{◌≡◌, ◌+◌, ◌-◌, ◌/◌, ◌^◌, ◌<◌, ◌≤◌, ◌∷◌, [], length, IfOk, OnOk, OnErr};
-ghost use Rattle.posting_code.specs.Packed.{head_at, heads_behind};
+ghost use Rattle.posting_code.specs.Packed.{heads_behind};
 ghost use Rattle.posting_code.specs.Blocks.{count_in, first_in, heads_in, AreBlocks};
 
-use crate::head::{Head, head_of, push_head};
-use crate::list::BLOCK;
+use crate::head::{Head, push_head};
+use crate::posting_list::BLOCK;
 use std::alloc::{AllocError, Global};
 
 /// The number of members, the first of them, and where the blocks stand.
@@ -90,15 +90,6 @@ impl Blocks {
         }
     }
 
-    /// Where a block stands.
-    #[inline(always)]
-    pub(crate) fn head(&self, block: usize) -> Head
-        requires { block ≤ length (heads_in self.now) }
-        ensures { result ≡ head_at (first_in self.now) (heads_in self.now) block }
-    {
-        head_of(self.first(), self.heads(), block)
-    }
-
     /// Counts one member more, which has this head where it begins a block.
     pub(crate) fn push(&mut self, alloc: Global, head: Head) -> Result<(), AllocError>
         requires some { 0 < count_in self.old }
@@ -140,19 +131,28 @@ impl Blocks {
         Blocks::of(alloc, self.count(), self.first(), heads)
     }
 
-    /// Blocks equal to the others, in the memory of these.
-    pub(crate) fn filled(self, alloc: Global, blocks: &Blocks) -> Result<Blocks, AllocError>
-        requires { length (heads_in blocks.now) ≡ (count_in blocks.now + 63) / 64 - 1 }
-        ensures { IfOk result (λ filled. AreBlocks filled (count_in blocks.now) (first_in blocks.now) (heads_in blocks.now)) }
+    /// The blocks of so many members, in the memory of these.
+    pub(crate) fn filled(
+        self,
+        alloc: Global,
+        count: usize,
+        first: u64,
+        heads: &[Head],
+    ) -> Result<Blocks, AllocError>
+        requires { length heads.now ≡ (count + 63) / 64 - 1 }
+        ensures { IfOk result (λ blocks. AreBlocks blocks count first heads.now) }
     {
         match self {
-            Blocks::One { .. } => blocks.copy(alloc),
+            Blocks::One { .. } => {
+                let heads = Vec::from_slice(alloc, heads)?;
+                Blocks::of(alloc, count, first, heads)
+            }
             Blocks::Many(many) => {
                 let mut many = many;
                 many.heads.clear();
-                many.heads.extend_from_slice(blocks.heads())?;
-                many.count = blocks.count();
-                many.first = blocks.first();
+                many.heads.extend_from_slice(heads)?;
+                many.count = count;
+                many.first = first;
                 Ok(Blocks::Many(many))
             }
         }

@@ -1,6 +1,6 @@
 //! Posting lists: the addresses at which one term stands; and packed numbers, in which they are kept.
 //!
-//! Contracts see a `PostingList` as a list of addresses that rises strictly and stays below 2^56. It is read in
+//! Contracts see a `PostingList` as a list of addresses that rises strictly and stays below 2^56. It is lent as `Postings`, and read in
 //! blocks of 64: block `b` has the members from place `64 b` on. That only a block's first address is a fixed number,
 //! and each other member the packed difference from the one before, is seen by no contract.
 //!
@@ -16,15 +16,17 @@
 mod blocks;
 mod head;
 mod laws;
-mod list;
 mod maker;
 mod number;
+mod posting_list;
+mod row;
 mod unpack;
 
 pub use laws::{each_number_has_one_spelling, no_spelling_begins_another};
-pub use list::{ADDRESS_END, BLOCK, PostingList};
 pub use maker::{PostingMaker, encode};
 pub use number::{NUMBER_END, Number, get_number, put_number};
+pub use posting_list::{ADDRESS_END, BLOCK, PostingList, Postings};
+pub use row::put_joined;
 
 #[cfg(test)]
 mod tests;

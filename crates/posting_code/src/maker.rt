@@ -1,8 +1,7 @@
-ghost use Rattle.std.specs.Prelude.{◌≡◌, ◌<◌, ◌++◌, ◌∷◌, [], length, OnOk, OnErr, IfOk, IfSome};
-ghost use Rattle.posting_code.specs.Packed.{last_of};
+ghost use Rattle.std.specs.Prelude.{◌≡◌, ◌<◌, ◌++◌, ◌∷◌, [], length, OnOk, OnErr, IfOk};
 ghost use Rattle.posting_code.specs.Postings.{ArePostings};
 
-use crate::list::PostingList;
+use crate::posting_list::{BLOCK, PostingList, Postings};
 use std::alloc::{AllocError, Global};
 use std::marker::Model;
 use std::mem;
@@ -11,19 +10,14 @@ use std::mem;
 #[derive(Drop)]
 pub struct PostingMaker {
     list: PostingList,
-    // where it is known: to find the last address of a list that was appended is to go through its last block
-    last: Option<u64>,
 }
 
 impl Model for PostingMaker {
-    ghost use Rattle.std.specs.Prelude.{◌≡◌, List, ℕ, IfSome};
-    ghost use Rattle.posting_code.specs.Packed.{last_of};
+    ghost use Rattle.std.specs.Prelude.{List, ℕ};
 
     ghost Value = { List ℕ };
 
     ghost view = { λ m. m.list };
-
-    ghost invariant = { λ m. IfSome m.last (λ last. last ≡ last_of m.list) };
 }
 
 impl PostingMaker {
@@ -33,7 +27,6 @@ impl PostingMaker {
     {
         PostingMaker {
             list: PostingList::new(alloc),
-            last: None,
         }
     }
 
@@ -43,14 +36,11 @@ impl PostingMaker {
         ensures ok { OnOk result (self.new ≡ self.old ++ address ∷ []) }
         ensures err { OnErr result (self.new ≡ self.old) }
     {
-        let last = last_from(self.last, &self.list);
-        self.list.push_behind(last, address)?;
-        self.last = Some(address);
-        Ok(())
+        self.list.push_behind(address)
     }
 
     /// Puts the addresses of a list behind the others. They are not unpacked. After an Err none are left.
-    pub fn append(&mut self, list: &PostingList) -> Result<(), AllocError>
+    pub fn append(&mut self, list: &Postings<'_>) -> Result<(), AllocError>
         requires { ArePostings (self.old ++ list.now) }
         ensures { OnOk result (self.new ≡ self.old ++ list.now) }
     {
@@ -58,17 +48,29 @@ impl PostingMaker {
             return Ok(());
         }
         let alloc = self.list.alloc();
-        let last = mem::replace(&mut self.last, None);
         let front = mem::replace(&mut self.list, PostingList::new(alloc));
-        self.list = both(front, last, list)?;
+        self.list = both(front, list)?;
         Ok(())
+    }
+
+    /// The number of addresses so far.
+    pub fn len(&self) -> usize
+        ensures { result ≡ length self.now }
+    {
+        self.list.len()
+    }
+
+    /// The list of the addresses so far, lent to be read.
+    pub fn as_postings(&self) -> Postings<'_>
+        ensures { result ≡ self.now }
+    {
+        self.list.as_postings()
     }
 
     /// Takes all addresses away. Much of the memory is kept for those to come.
     pub fn clear(&mut self)
         ensures { self.new ≡ [] }
     {
-        self.last = None;
         self.list.clear();
     }
 
@@ -77,6 +79,23 @@ impl PostingMaker {
         ensures { IfOk result (λ list. list ≡ self.now) }
     {
         self.list.copy()
+    }
+
+    /// The list of the addresses so far, of which none are left here, even after an Err.
+    // A short list is copied, so that its memory is there for those to come. A longer one is handed over.
+    pub fn take(&mut self) -> Result<PostingList, AllocError>
+        ensures value { IfOk result (λ list. list ≡ self.old) }
+        ensures empty { self.new ≡ [] }
+    {
+        if self.list.len() <= BLOCK {
+            let copy = self.list.copy();
+            self.clear();
+            return copy;
+        }
+        let alloc = self.list.alloc();
+        let mut list = mem::replace(&mut self.list, PostingList::new(alloc));
+        list.fit();
+        Ok(list)
     }
 
     /// The same of a maker that is done with.
@@ -90,12 +109,7 @@ impl PostingMaker {
 }
 
 /// The members of a list, and those of another one behind them.
-fn both(
-    front: PostingList,
-    last: Option<u64>,
-    list: &PostingList,
-) -> Result<PostingList, AllocError>
-    requires last { IfSome last (λ last. last ≡ last_of front) }
+fn both(front: PostingList, list: &Postings<'_>) -> Result<PostingList, AllocError>
     requires some { 0 < length list.now }
     requires rising { ArePostings (front ++ list.now) }
     ensures { IfOk result (λ all. all ≡ front ++ list.now) }
@@ -103,19 +117,7 @@ fn both(
     if front.len() == 0 {
         return front.filled(list);
     }
-    let last = last_from(last, &front);
-    front.joined(last, list)
-}
-
-/// The last member of a list: it is looked for where it is not known.
-fn last_from(last: Option<u64>, list: &PostingList) -> u64
-    requires { IfSome last (λ last. last ≡ last_of list.now) }
-    ensures { result ≡ last_of list.now }
-{
-    match last {
-        Some(last) => last,
-        None => list.last(),
-    }
+    front.joined(list)
 }
 
 /// The list of exactly these addresses.

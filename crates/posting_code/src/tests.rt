@@ -1,9 +1,10 @@
-ghost use Rattle.std.specs.Prelude.{IfOk};
+ghost use Rattle.std.specs.Prelude.{◌++◌, IfOk};
 ghost use Rattle.posting_code.specs.Postings.{ArePostings};
 
-use crate::list::{ADDRESS_END, BLOCK};
-use crate::maker::encode;
+use crate::maker::{PostingMaker, encode};
 use crate::number::{Number, get_number, put_number};
+use crate::posting_list::{ADDRESS_END, BLOCK, PostingList};
+use crate::row::put_joined;
 use std::alloc::{AllocError, Global};
 
 /// Some addresses from `first` on, each `gap` above the one before, and no more than fit.
@@ -31,12 +32,49 @@ fn plain_around(members: &[u64], k: u64) -> (Option<u64>, Option<u64>) {
     )
 }
 
+/// Puts the packed differences of three lists behind other bytes.
+fn put_three<'a>(
+    packed: &mut Vec<u8>,
+    front: &'a PostingList,
+    middle: &'a PostingList,
+    behind: &'a PostingList,
+) -> Result<(), AllocError>
+    requires { ArePostings (front.now ++ middle.now ++ behind.now) }
+{
+    let lists = [
+        front.as_postings(),
+        middle.as_postings(),
+        behind.as_postings(),
+    ];
+    put_joined(packed, &lists)
+}
+
+/// The packed differences of a list behind a byte, put as those of three: of the first members, of so many behind them, and of the rest.
+fn put_in_three(
+    alloc: Global,
+    members: &[u64],
+    first: usize,
+    second: usize,
+) -> Result<Vec<u8>, AllocError>
+    requires { ArePostings members.now }
+{
+    let (front, rest) = members.split_at(first.min(members.len()));
+    let (middle, behind) = rest.split_at(second.min(rest.len()));
+    let front = encode(alloc, front)?;
+    let middle = encode(alloc, middle)?;
+    let behind = encode(alloc, behind)?;
+    let mut packed = vec![in alloc; 7u8]?;
+    put_three(&mut packed, &front, &middle, &behind)?;
+    Ok(packed)
+}
+
 #[test]
 fn the_blocks_of_a_list_are_the_chunks_of_its_slice(rt: HostRuntime) -> Result<(), AllocError> {
     for count in [0, 1, 63, 64, 65, 128, 129, 1000] {
         for gap in [1, 127, 128, 1 << 14, 1 << 47, 1 << 55] {
             let addresses = addresses(rt.alloc(), 3, count, gap)?;
             let list = encode(rt.alloc(), &addresses)?;
+            let list = list.as_postings();
             let blocks = addresses.chunks(BLOCK).count();
             assert_eq!(rt;
                 (list.len(), list.block_count()),
@@ -68,6 +106,7 @@ fn a_walk_in_a_block_stops_at_the_answer_on_either_side(rt: HostRuntime) -> Resu
     for gap in [1, 2, 127, 128, 1 << 14] {
         let addresses = addresses(rt.alloc(), 3, 65, gap)?;
         let list = encode(rt.alloc(), &addresses)?;
+        let list = list.as_postings();
         for (block, chunk) in addresses.chunks(BLOCK).enumerate() {
             for member in chunk {
                 for k in [member.wrapping_sub(1), *member, member.wrapping_add(1)] {
@@ -88,6 +127,7 @@ fn a_walk_in_a_block_stops_at_the_answer_on_either_side(rt: HostRuntime) -> Resu
 #[test]
 fn the_least_and_the_greatest_address_are_kept(rt: HostRuntime) -> Result<(), AllocError> {
     let list = encode(rt.alloc(), &[0, 5, ADDRESS_END - 1])?;
+    let list = list.as_postings();
     let mut members = [0; 64];
     assert_eq!(rt; list.block_count(), 1);
     assert_eq!(rt; list.read_block(0, &mut members), 3);
@@ -95,6 +135,56 @@ fn the_least_and_the_greatest_address_are_kept(rt: HostRuntime) -> Result<(), Al
         (members[0], members[1], members[2]),
         (0, 5, ADDRESS_END - 1)
     );
+    Ok(())
+}
+
+#[test]
+fn what_is_put_behind_a_joined_list_comes_behind_its_last_member(
+    rt: HostRuntime,
+) -> Result<(), AllocError> {
+    let behind = encode(rt.alloc(), &[5, 9])?;
+    let mut maker = PostingMaker::new(rt.alloc());
+    maker.push(3)?;
+    maker.append(&behind.as_postings())?;
+    maker.push(12)?;
+    let list = maker.finish();
+    let list = list.as_postings();
+    let mut members = [0; 64];
+    assert_eq!(rt; list.block_count(), 1);
+    assert_eq!(rt; list.read_block(0, &mut members), 4);
+    assert!(rt; members.starts_with(&[3, 5, 9, 12]));
+    Ok(())
+}
+
+#[test]
+fn lists_that_are_put_behind_each_other_have_the_bytes_of_one(
+    rt: HostRuntime,
+) -> Result<(), AllocError> {
+    let cases = [
+        ("three", 5, 2, 2),
+        ("none in front", 5, 0, 3),
+        ("none between", 5, 2, 0),
+        ("none behind", 5, 2, 3),
+        ("the last alone", 5, 0, 0),
+        ("the first alone", 5, 5, 0),
+        ("one member each", 3, 1, 1),
+        ("no members", 0, 0, 0),
+        ("of more than one block", 200, 65, 70),
+    ];
+    for (name, count, first, second) in cases {
+        for gap in [1, 200, 1 << 40] {
+            let members = addresses(rt.alloc(), 3, count, gap)?;
+            let one = encode(rt.alloc(), &members)?;
+            let bytes = one.as_postings().packed();
+            let joined = put_in_three(rt.alloc(), &members, first, second)?;
+            assert!(rt;
+                joined.starts_with(&[7])
+                    && joined.as_slice().ends_with(bytes)
+                    && joined.len() == bytes.len().wrapping_add(1),
+                "{name} by {gap}"
+            );
+        }
+    }
     Ok(())
 }
 
@@ -156,4 +246,17 @@ fn bytes_that_spell_no_number_are_refused(rt: HostRuntime) {
     for (name, bytes, at) in cases {
         assert_eq!(rt; get_number(bytes, at), None, "{name}");
     }
+}
+
+#[test]
+fn a_maker_hands_out_its_list_and_goes_on(rt: HostRuntime) -> Result<(), AllocError> {
+    let mut maker = PostingMaker::new(rt.alloc());
+    maker.push(3)?;
+    maker.push(9)?;
+    assert_eq!(rt; maker.len(), 2);
+    assert_eq!(rt; maker.take()?.len(), 2);
+    assert_eq!(rt; maker.len(), 0);
+    maker.push(4)?;
+    assert_eq!(rt; maker.take()?.len(), 1);
+    Ok(())
 }

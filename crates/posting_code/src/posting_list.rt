@@ -1,9 +1,9 @@
-ghost use Rattle.std.specs.Prelude.{◌≡◌, ◌+◌, ◌*◌, ◌<◌, ◌≤◌, ◌++◌, ◌∷◌, [], length, slice_index, take, reverse, find, nat_lt, nat_le, IfOk, OnOk, OnErr};
+ghost use Rattle.std.specs.Prelude.{◌≡◌, ◌+◌, ◌*◌, ◌<◌, ◌≤◌, ◌++◌, ◌∷◌, [], length, get_or, slice_index, take, reverse, find, nat_lt, nat_le, IfOk, OnOk, OnErr};
 ghost use Rattle.posting_code.specs.Postings.{ArePostings, blocks_of, block_of};
-ghost use Rattle.posting_code.specs.Packed.{IsHead, last_of, packed_of};
+ghost use Rattle.posting_code.specs.Packed.{IsHead, IsKeptTo, kept, last_of, packed_of};
 
 use crate::blocks::Blocks;
-use crate::head::Head;
+use crate::head::{Head, head_of};
 use crate::number::{NUMBER_END, put_number};
 use crate::unpack::{around_in, unpack, walk};
 use std::alloc::{AllocError, Global};
@@ -17,23 +17,26 @@ pub const BLOCK: usize = 64;
 
 /// The addresses of one term.
 // The first address of the whole list stands apart, so that a list of one needs no memory beside itself. The differences
-// of all members stand in one row, so that a list grows behind, and a block is read from its head on.
+// of all members stand in one row, so that a list grows behind, and a block is read from its head on. The last member
+// is kept too: what is put behind needs its difference from it.
 #[derive(Drop)]
 pub struct PostingList {
     packed: Vec<u8>,
+    // 0 where there is no member
+    last: u64,
     blocks: Blocks,
 }
 
 impl Model for PostingList {
     ghost use Rattle.std.specs.Prelude.{List, ℕ};
-    ghost use Rattle.posting_code.specs.Packed.{kept, IsKept};
+    ghost use Rattle.posting_code.specs.Packed.{kept, IsKeptTo};
     ghost use Rattle.posting_code.specs.Blocks.{count_in, first_in, heads_in};
 
     ghost Value = { List ℕ };
 
     ghost view = { λ l. kept (count_in l.blocks) (first_in l.blocks) l.packed.items };
 
-    ghost invariant = { λ l. IsKept (count_in l.blocks) (first_in l.blocks) l.packed.items (heads_in l.blocks) };
+    ghost invariant = { λ l. IsKeptTo l.last (count_in l.blocks) (first_in l.blocks) l.packed.items (heads_in l.blocks) };
 }
 
 impl PostingList {
@@ -43,14 +46,14 @@ impl PostingList {
     {
         PostingList {
             packed: Vec::new(alloc),
+            last: 0,
             blocks: Blocks::One { count: 0, first: 0 },
         }
     }
 
     /// Puts an address behind the last one.
-    pub(crate) fn push_behind(&mut self, last: u64, address: u64) -> Result<(), AllocError>
-        requires last { last ≡ last_of self.old }
-        requires rising { ArePostings (self.old ++ address ∷ []) }
+    pub(crate) fn push_behind(&mut self, address: u64) -> Result<(), AllocError>
+        requires { ArePostings (self.old ++ address ∷ []) }
         ensures ok { OnOk result (self.new ≡ self.old ++ address ∷ []) }
         ensures err { OnErr result (self.new ≡ self.old) }
     {
@@ -59,15 +62,19 @@ impl PostingList {
                 count: 1,
                 first: address,
             };
+            self.last = address;
             return Ok(());
         }
         let alloc = self.alloc();
         let before = self.packed.len();
-        put_number(&mut self.packed, address - last)?;
+        put_number(&mut self.packed, address - self.last)?;
         let at = self.packed.len();
         let head = Head { first: address, at };
         match self.blocks.push(alloc, head) {
-            Ok(()) => Ok(()),
+            Ok(()) => {
+                self.last = address;
+                Ok(())
+            }
             Err(fault) => {
                 self.packed.truncate(before);
                 Err(fault)
@@ -87,21 +94,25 @@ impl PostingList {
         let alloc = self.alloc();
         Ok(PostingList {
             packed: Vec::from_slice(alloc, &self.packed)?,
+            last: self.last,
             blocks: self.blocks.copy(alloc)?,
         })
     }
 
     /// An equal list, in the memory of this one.
-    pub(crate) fn filled(self, list: &PostingList) -> Result<PostingList, AllocError>
+    pub(crate) fn filled(self, list: &Postings<'_>) -> Result<PostingList, AllocError>
         ensures { IfOk result (λ filled. filled ≡ list.now) }
     {
         let alloc = self.alloc();
         let mut packed = self.packed;
         packed.clear();
-        packed.extend_from_slice(&list.packed)?;
+        packed.extend_from_slice(list.packed)?;
         Ok(PostingList {
             packed,
-            blocks: self.blocks.filled(alloc, &list.blocks)?,
+            last: list.last,
+            blocks: self
+                .blocks
+                .filled(alloc, list.count, list.first, list.heads)?,
         })
     }
 
@@ -110,35 +121,25 @@ impl PostingList {
         ensures { self.new ≡ [] }
     {
         self.packed.clear();
+        self.last = 0;
         self.blocks.clear();
     }
 
-    /// The last member, and 0 of none.
-    pub(crate) fn last(&self) -> u64
-        ensures { result ≡ last_of self.now }
-    {
-        let count = self.len();
-        if count == 0 {
-            return 0;
-        }
-        self.head(count - 1).first
-    }
-
     /// The members of both lists. The differences of the later one are copied as they are packed.
-    pub(crate) fn joined(self, last: u64, list: &PostingList) -> Result<PostingList, AllocError>
-        requires last { last ≡ last_of self }
+    pub(crate) fn joined(self, list: &Postings<'_>) -> Result<PostingList, AllocError>
         requires some { (0 < length self) × (0 < length list.now) }
         requires rising { ArePostings (self ++ list.now) }
         ensures { IfOk result (λ joined. joined ≡ self ++ list.now) }
     {
         let alloc = self.alloc();
         let front = self.blocks.count();
-        let behind = list.blocks.count();
+        let behind = list.count;
         let first = self.blocks.first();
+        let last = list.last;
         let mut packed = self.packed;
-        put_number(&mut packed, list.blocks.first() - last)?;
+        put_number(&mut packed, list.first - self.last)?;
         let shift = packed.len();
-        packed.extend_from_slice(&list.packed)?;
+        packed.extend_from_slice(list.packed)?;
         let mut heads = self.blocks.into_heads(alloc);
         let mut place = (BLOCK - front % BLOCK) % BLOCK;
         while place < behind {
@@ -150,7 +151,11 @@ impl PostingList {
             place += BLOCK;
         }
         let blocks = Blocks::of(alloc, front + behind, first, heads)?;
-        Ok(PostingList { packed, blocks })
+        Ok(PostingList {
+            packed,
+            last,
+            blocks,
+        })
     }
 
     /// Gives back the memory that growing took and no address needs.
@@ -161,15 +166,6 @@ impl PostingList {
         self.blocks.fit();
     }
 
-    /// Where a member stands.
-    pub(crate) fn head(&self, place: usize) -> Head
-        requires { place < length self.now }
-        ensures { IsHead self.now (packed_of self.now) place result }
-    {
-        let head = self.blocks.head(place / BLOCK);
-        walk(&self.packed, head, place % BLOCK)
-    }
-
     /// The number of addresses.
     pub fn len(&self) -> usize
         ensures value { result ≡ length self.now }
@@ -178,12 +174,104 @@ impl PostingList {
         self.blocks.count()
     }
 
+    /// The same list, lent to be read.
+    #[inline(always)]
+    pub fn as_postings(&self) -> Postings<'_>
+        ensures { result ≡ self.now }
+    {
+        Postings {
+            packed: &self.packed,
+            heads: self.blocks.heads(),
+            first: self.blocks.first(),
+            last: self.last,
+            count: self.blocks.count(),
+        }
+    }
+}
+
+/// The addresses of one term, lent to be read.
+// Readers see where the parts stand, and not who owns them.
+#[derive(Drop)]
+pub struct Postings<'a> {
+    packed: &'a [u8],
+    // of the blocks from the second on
+    heads: &'a [Head],
+    first: u64,
+    // 0 where there is no member
+    last: u64,
+    count: usize,
+}
+
+impl<'a> Model for Postings<'a> {
+    ghost use Rattle.std.specs.Prelude.{List, ℕ};
+    ghost use Rattle.posting_code.specs.Packed.{kept, IsKeptTo};
+
+    ghost Value = { List ℕ };
+
+    ghost view = { λ p. kept p.count p.first p.packed.now };
+
+    ghost invariant = { λ p. IsKeptTo p.last p.count p.first p.packed.now p.heads.now };
+}
+
+impl<'a> Postings<'a> {
+    /// A list of one block, by its packed differences, its ends and its length.
+    pub fn of_block(packed: &'a [u8], first: u64, last: u64, count: usize) -> Self
+        requires { IsKeptTo last count first packed.now [] }
+        ensures { result ≡ kept count first packed.now }
+    {
+        Postings {
+            packed,
+            heads: &[],
+            first,
+            last,
+            count,
+        }
+    }
+
+    /// The packed differences behind the first member.
+    pub(crate) fn packed(&self) -> &'a [u8]
+        ensures { result.now ≡ packed_of self.now }
+    {
+        self.packed
+    }
+
+    /// The first member, and anything where there is none.
+    pub fn first(&self) -> u64
+        ensures { 0 < length self.now → result ≡ get_or self.now 0 0 }
+    {
+        self.first
+    }
+
+    /// The last member, and 0 where there is none.
+    pub fn last(&self) -> u64
+        ensures { result ≡ last_of self.now }
+    {
+        self.last
+    }
+
+    /// Where a member stands.
+    fn head(&self, place: usize) -> Head
+        requires { place < length self.now }
+        ensures { IsHead self.now (packed_of self.now) place result }
+    {
+        let head = head_of(self.first, self.heads, place / BLOCK);
+        walk(self.packed, head, place % BLOCK)
+    }
+
+    /// The number of addresses.
+    pub fn len(&self) -> usize
+        ensures value { result ≡ length self.now }
+        ensures rising { ArePostings self.now }
+    {
+        self.count
+    }
+
     /// The number of blocks. None of them is empty, so an empty list has none.
     pub fn block_count(&self) -> usize
         ensures value { result ≡ blocks_of self.now }
         ensures rising { ArePostings self.now }
     {
-        self.blocks.count().div_ceil(BLOCK)
+        self.count.div_ceil(BLOCK)
     }
 
     /// The first address of a block.
@@ -192,7 +280,7 @@ impl PostingList {
         ensures value { result ≡ slice_index self.now (64 * block) }
         ensures rising { ArePostings self.now }
     {
-        self.blocks.head(block).first
+        head_of(self.first, self.heads, block).first
     }
 
     /// Puts the members of a block at the front of `into`, and gives their number. It says nothing of the rest of `into`.
@@ -200,11 +288,12 @@ impl PostingList {
         requires { block < blocks_of self.now }
         ensures count { result ≡ length (block_of self.now block) }
         ensures members { take result into.new ≡ block_of self.now block }
+        ensures long { length into.new ≡ 64 }
         ensures rising { ArePostings self.now }
     {
-        let count = BLOCK.min(self.blocks.count() - BLOCK * block);
-        let head = self.blocks.head(block);
-        unpack(&self.packed, head.first, head.at, &mut into[..count]);
+        let count = BLOCK.min(self.count - BLOCK * block);
+        let head = head_of(self.first, self.heads, block);
+        unpack(self.packed, head.first, head.at, &mut into[..count]);
         count
     }
 
@@ -215,8 +304,8 @@ impl PostingList {
         ensures from { result.1 ≡ find (λ p. nat_le k p) (block_of self.now block) }
         ensures rising { ArePostings self.now }
     {
-        let behind = BLOCK.min(self.blocks.count() - BLOCK * block) - 1;
-        let head = self.blocks.head(block);
-        around_in(&self.packed, head.first, head.at, behind, k)
+        let behind = BLOCK.min(self.count - BLOCK * block) - 1;
+        let head = head_of(self.first, self.heads, block);
+        around_in(self.packed, head.first, head.at, behind, k)
     }
 }

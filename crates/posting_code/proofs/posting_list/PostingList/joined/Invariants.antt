@@ -1,6 +1,6 @@
 use Rattle.std.proofs.Common.{◌≡◌, ◌+◌, ◌-◌, ◌*◌, ◌<◌, ◌++◌, length}
 use Rattle.posting_code.proofs.Joining.{AreHeads}
-use Rattle.posting_code.proofs.list.PostingList.joined.Given as goal
+use Rattle.posting_code.proofs.posting_list.PostingList.joined.Given as goal
 
 -- there is a head for each block that begins before the place
 abbrev pub invariant-loop-place : goal.invariant-loop-place
