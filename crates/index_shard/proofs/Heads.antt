@@ -7,11 +7,7 @@ use Rattle.std.specs.Cmp.Lexicographic.{slice_cmp}
 use Rattle.std.proofs.lemmas.Cmp.{nat_list_cmp_total}
 use Rattle.std.proofs.lemmas.Bool.{cases_lt}
 use Rattle.std.proofs.lemmas.List.{take_min, drop_min}
-use Rattle.index_shard.specs.Kept.{leading, part_of}
-
--- each is a byte
-abbrev pub AreBytes : List ℕ → Type 0
-AreBytes bytes = (k : ℕ) → get_or bytes k 0 < 256
+use Rattle.index_shard.specs.Kept.{leading, part_of, AreBytes}
 
 later : (x : ℕ) (xs : List ℕ) → AreBytes (x ∷ xs) → AreBytes xs
 later x xs bytes = λ k. bytes (suc k)

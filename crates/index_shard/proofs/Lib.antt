@@ -3,4 +3,5 @@ pub mod ShardWords
 pub mod Walks
 pub mod Heads
 pub mod KeptTables
+pub mod PartEnds
 mod Worked

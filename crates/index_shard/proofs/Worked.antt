@@ -3,7 +3,8 @@ use Rattle.std.proofs.Common.{◌≡◌, ◌+◌, ◌*◌, true, false, List, []
 use Rattle.gcl_model.specs.Slots.{slot_range}
 use Rattle.gcl_model.specs.Texts.{places}
 use Rattle.index_shard.specs.Tables.{TermEntry, ShardContent, postings_of, addresses_at, place_of, term_at, words_of, least_term, ComesBefore}
-use Rattle.index_shard.specs.Kept.{leading, part_of}
+use Rattle.index_shard.specs.Kept.{leading, part_of, list_in}
+use Rattle.index_shard.specs.declared.entry.Kept.TheVariants.{Short, Long}
 use Rattle.index_shard.proofs.TableLaws.{term_entry as entry}
 
 abbrev hamlet : List TermEntry
@@ -67,3 +68,10 @@ leading-one = refl
 
 part_of-middle : part_of (codes "benotor") 2 3 ≡ codes "not"
 part_of-middle = refl
+
+-- three addresses by two differences between others, and a list of its own
+list_in-short : list_in (9 ∷ 2 ∷ 3 ∷ 7 ∷ []) [] (Short 3 8 1 2 3) ≡ 3 ∷ 5 ∷ 8 ∷ []
+list_in-short = refl
+
+list_in-long : list_in [] ((1 ∷ []) ∷ (4 ∷ 6 ∷ []) ∷ []) (Long 1) ≡ 4 ∷ 6 ∷ []
+list_in-long = refl

@@ -1,17 +1,32 @@
 ghost use Rattle.std.specs.Prelude.{◌≡◌, get_or};
-ghost use Rattle.index_shard.specs.Kept.{leading, part_of, order_in};
+ghost use Rattle.index_shard.specs.Kept.{AreBytes, IsListIn, leading, list_in, part_of, order_in};
 
-use posting_code::PostingList;
+use posting_code::{PostingList, Postings};
 use std::cmp::Ordering;
 
-/// The postings of a term, and where the term stands among the bytes of all terms.
+/// Where a term stands among the bytes of all terms, and where its postings are kept.
 // The first eight bytes stand here once more as one number: most comparisons end with it, and touch no other memory.
-#[derive(Drop)]
+#[derive(Clone, Copy)]
 pub(crate) struct Entry {
     pub(crate) head: u64,
     pub(crate) start: usize,
     pub(crate) size: usize,
-    pub(crate) postings: PostingList,
+    pub(crate) list: Kept,
+}
+
+/// Where the postings of a term are kept: up to 64 of them by their packed differences, which stand among those of all terms, and
+/// more as a list of its own, by its place among these.
+// Most terms have few postings. So a table of thousands of them takes four pieces of memory.
+#[derive(Clone, Copy)]
+pub(crate) enum Kept {
+    Short {
+        first: u64,
+        last: u64,
+        at: usize,
+        size: u16,
+        count: u8,
+    },
+    Long(usize),
 }
 
 impl Entry {
@@ -20,6 +35,16 @@ impl Entry {
         ensures { result.now ≡ part_of bytes.now self.now.start self.now.size }
     {
         part(bytes, self.start, self.size)
+    }
+
+    /// The first eight bytes of the term as a number.
+    pub(crate) fn head_in(&self, bytes: &[u8]) -> u64
+        ensures value { result ≡ self.now.head }
+        ensures bytes { AreBytes (part_of bytes.now self.now.start self.now.size) }
+    {
+        // what a slice has are bytes
+        let _count = bytes.len();
+        self.head
     }
 
     /// The order of the entry's term to another one with this head.
@@ -34,6 +59,23 @@ impl Entry {
     }
 }
 
+/// The postings that are kept at a place of the packed differences or of the lists.
+pub(crate) fn lent<'a>(packed: &'a [u8], long: &'a [PostingList], list: Kept) -> Postings<'a>
+    requires { IsListIn packed.now long.now list }
+    ensures { result ≡ list_in packed.now long.now list }
+{
+    match list {
+        Kept::Short {
+            first,
+            last,
+            at,
+            size,
+            count,
+        } => Postings::of_block(part(packed, at, size as usize), first, last, count as usize),
+        Kept::Long(place) => long[place].as_postings(),
+    }
+}
+
 /// So many bytes from a place on, as far as there are any.
 fn part(bytes: &[u8], start: usize, size: usize) -> &[u8]
     ensures { result.now ≡ part_of bytes.now start size }
@@ -44,7 +86,7 @@ fn part(bytes: &[u8], start: usize, size: usize) -> &[u8]
 }
 
 /// The first eight bytes of a term as a number. Terms are in the order of their numbers as far as these differ.
-pub(crate) fn head_of(term: &[u8]) -> u64
+pub fn head_of(term: &[u8]) -> u64
     ensures { result ≡ leading 8 0 term.now }
 {
     let mut head = 0;

@@ -1,16 +1,16 @@
-ghost use Rattle.std.specs.Prelude.{◌≡◌, ◌+◌, ◌^◌, ◌<◌, map, slice_get, if◌then◌else◌};
+ghost use Rattle.std.specs.Prelude.{◌≡◌, ◌+◌, ◌^◌, ◌<◌, List, ℕ, map, slice_get, if◌then◌else◌};
 ghost use Rattle.std.specs.List.{AllByRecursion};
 ghost use Rattle.gcl_model.specs.Slots.{SlotRange};
 ghost use Rattle.index_shard.specs.Tables.{IsTable, place_of, least_term, TermEntry};
-ghost use Rattle.index_shard.specs.Kept.{IsKeptIn, table_in};
+ghost use Rattle.index_shard.specs.Kept.{IsTermIn, table_in};
 
 use crate::entry::{Entry, head_of};
 
-/// The place of a term, found by halving.
+/// The place of a term, found by halving, whatever the postings of the terms are.
 pub(crate) fn find_place(bytes: &[u8], entries: &[Entry], term: &[u8]) -> Option<usize>
-    requires kept { AllByRecursion (IsKeptIn bytes.now) entries.now }
-    requires table { (range : SlotRange) × IsTable range (table_in bytes.now entries.now) }
-    ensures { result ≡ place_of (table_in bytes.now entries.now) term.now }
+    requires { AllByRecursion (IsTermIn bytes.now) entries.now }
+    ensures { (packed : List ℕ) (long : List (List ℕ)) (range : SlotRange) → IsTable range (table_in bytes.now packed long entries.now)
+        → result ≡ place_of (table_in bytes.now packed long entries.now) term.now }
 {
     let head = head_of(term);
     match entries.binary_search_by(|entry| entry.compare(bytes, head, term)) {
@@ -21,9 +21,10 @@ pub(crate) fn find_place(bytes: &[u8], entries: &[Entry], term: &[u8]) -> Option
 
 /// The place of the least term that is at least `low`, or above it with `strict`: the end where there is none.
 pub(crate) fn place_from(bytes: &[u8], entries: &[Entry], low: &[u8], strict: bool) -> usize
-    requires kept { AllByRecursion (IsKeptIn bytes.now) entries.now }
-    requires table { (range : SlotRange) × IsTable range (table_in bytes.now entries.now) }
-    ensures { slice_get (map (λ (entry : TermEntry). entry.term) (table_in bytes.now entries.now)) result ≡ least_term (table_in bytes.now entries.now) low.now strict }
+    requires { AllByRecursion (IsTermIn bytes.now) entries.now }
+    ensures { (packed : List ℕ) (long : List (List ℕ)) (range : SlotRange) → IsTable range (table_in bytes.now packed long entries.now)
+        → slice_get (map (λ (entry : TermEntry). entry.term) (table_in bytes.now packed long entries.now)) result
+        ≡ least_term (table_in bytes.now packed long entries.now) low.now strict }
 {
     let head = head_of(low);
     match entries.binary_search_by(|entry| entry.compare(bytes, head, low)) {

@@ -12,13 +12,17 @@ mod entry;
 mod find;
 mod laws;
 mod maker;
+mod parts;
+mod room;
 mod shard;
 mod table;
 mod walk;
 
+pub use entry::head_of;
 pub use gcl_model::Direction;
 pub use laws::{postings_are_places, words_rise};
 pub use maker::ShardMaker;
+pub use room::Room;
 pub use shard::Shard;
 pub use walk::Walk;
 

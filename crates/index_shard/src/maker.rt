@@ -1,11 +1,13 @@
 ghost use Rattle.std.specs.Prelude.{◌≡◌, [], ◌∷◌, ◌++◌, OnOk, OnErr, IfSome};
-ghost use Rattle.std.specs.List.{AllByRecursion};
+ghost use Rattle.std.specs.List.{AllByRecursion, concat};
+ghost use Rattle.index_shard.specs.Kept.{leading};
 ghost use Rattle.index_shard.specs.Tables.{ArePostingsIn, AreApart, ComesBefore, IsShard, last_entry};
 
+use crate::room::Room;
 use crate::shard::Shard;
 use crate::table::TermTable;
 use address_space::Range;
-use posting_code::{PostingList, encode};
+use posting_code::{PostingList, Postings, encode};
 use std::alloc::{AllocError, Global};
 use std::marker::Model;
 
@@ -39,6 +41,13 @@ impl ShardMaker {
         }
     }
 
+    /// Makes room for so much more, so that the rows need not be moved while they grow. What is not used is given back in the end.
+    pub fn reserve(&mut self, room: Room) -> Result<(), AllocError>
+        ensures { self.new ≡ self.old }
+    {
+        self.table.reserve(room)
+    }
+
     /// Puts a term with its postings behind the others.
     pub fn push_term(&mut self, term: &[u8], addresses: &[u64]) -> Result<(), AllocError>
         requires rising { IfSome (last_entry self.old.table) (λ last. ComesBefore last.term term.now) }
@@ -60,6 +69,25 @@ impl ShardMaker {
         ensures err { OnErr result (self.new ≡ self.old) }
     {
         self.table.push(term, postings)?;
+        Ok(())
+    }
+
+    /// The same with the postings of several lists, each behind those before, and the first bytes of the term as a number, as `head_of` gives
+    /// it. None of the lists is unpacked.
+    pub fn push_parts(
+        &mut self,
+        head: u64,
+        term: &[u8],
+        parts: &[Postings<'_>],
+    ) -> Result<(), AllocError>
+        requires head { head ≡ leading 8 0 term.now }
+        requires rising { IfSome (last_entry self.old.table) (λ last. ComesBefore last.term term.now) }
+        requires postings { ArePostingsIn self.old.range (concat parts.now) }
+        requires apart { AllByRecursion (λ entry. AreApart entry.addresses (concat parts.now)) self.old.table }
+        ensures ok { OnOk result (self.new ≡ record self.old { table = self.old.table ++ record { term = term.now; addresses = concat parts.now } ∷ [] }) }
+        ensures err { OnErr result (self.new ≡ self.old) }
+    {
+        self.table.push_parts(head, term, parts)?;
         Ok(())
     }
 

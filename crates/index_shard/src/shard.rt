@@ -1,14 +1,16 @@
-ghost use Rattle.std.specs.Prelude.{◌≡◌, ◌+◌, ◌<◌, length, map, MatchOption, None, Some, slice_get};
+ghost use Rattle.std.specs.Prelude.{◌≡◌, ◌+◌, ◌<◌, length, map, option_map, MatchOption, None, Some, IfSome, slice_get};
+ghost use Rattle.index_shard.specs.Kept.{AreBytes, leading};
 ghost use Rattle.index_shard.specs.Tables.{IsShard, TermEntry, postings_of, addresses_at, place_of, least_term};
 ghost use Rattle.index_shard.specs.Searched.{look_up};
 ghost use Rattle.posting_access.specs.Search.{RisesByDigits};
 
+use crate::room::Room;
 use crate::table::TermTable;
 use crate::walk::Walk;
 use address_space::Range;
 use gcl_model::{Direction, Ledger, NoLedger, Steps};
 use posting_access::{at_or_after, at_or_before};
-use posting_code::PostingList;
+use posting_code::Postings;
 use std::marker::{Brand, Model};
 use std::sync::ledger;
 use std::sync::ledger::Blank;
@@ -71,8 +73,8 @@ impl Shard {
         steps.tick();
         let list = self.table.find_postings(term)?;
         match direction {
-            Direction::Forward => at_or_after(list, k, probes),
-            Direction::Backward => at_or_before(list, k, probes),
+            Direction::Forward => at_or_after(&list, k, probes),
+            Direction::Backward => at_or_before(&list, k, probes),
         }
     }
 
@@ -85,9 +87,9 @@ impl Shard {
     }
 
     /// The postings of the term at a place.
-    pub fn postings(&self, place: usize) -> &PostingList
+    pub fn postings(&self, place: usize) -> Postings<'_>
         requires { place < length self.now.table }
-        ensures value { result.now ≡ addresses_at self.now.table place }
+        ensures value { result ≡ addresses_at self.now.table place }
         ensures shard { IsShard self.now }
     {
         self.table.postings_at(place)
@@ -101,6 +103,14 @@ impl Shard {
         self.table.len()
     }
 
+    /// What its table takes, so that room for as much can be made.
+    pub fn room(&self) -> Room
+        ensures terms { result.terms ≡ length self.now.table }
+        ensures shard { IsShard self.now }
+    {
+        self.table.room()
+    }
+
     /// The term at place `i`, counted from 0 in rising byte order.
     pub fn term(&self, i: usize) -> &[u8]
         requires { i < length self.now.table }
@@ -108,6 +118,17 @@ impl Shard {
         ensures shard { IsShard self.now }
     {
         self.table.term(i)
+    }
+
+    /// The first eight bytes of the term at place `i` as a number, with a 0 for each that is not there. Terms are in the order of their
+    /// numbers as far as these differ.
+    pub fn head(&self, i: usize) -> u64
+        requires { i < length self.now.table }
+        ensures value { option_map (leading 8 0) (slice_get (map (λ (entry : TermEntry). entry.term) self.now.table) i) ≡ Some result }
+        ensures bytes { IfSome (slice_get (map (λ (entry : TermEntry). entry.term) self.now.table) i) AreBytes }
+        ensures shard { IsShard self.now }
+    {
+        self.table.head(i)
     }
 
     /// The least term that is at least `low`, or above it with `strict`.

@@ -1,31 +1,38 @@
-ghost use Rattle.std.specs.Prelude.{◌≡◌, ◌<◌, ◌++◌, ◌∷◌, [], length, map, slice_get, MatchOption, None, Some, OnOk, OnErr};
+ghost use Rattle.std.specs.Prelude.{◌≡◌, ◌<◌, ◌++◌, ◌∷◌, [], length, map, option_map, slice_get, MatchOption, None, Some, IfSome, OnOk, OnErr};
+ghost use Rattle.std.specs.List.{concat};
 ghost use Rattle.gcl_model.specs.Slots.{SlotRange};
+ghost use Rattle.posting_code.specs.Postings.{ArePostings};
+ghost use Rattle.index_shard.specs.Kept.{AreBytes, leading};
 ghost use Rattle.index_shard.specs.Tables.{IsTable, TermEntry, postings_of, addresses_at, place_of, least_term};
 
-use crate::entry::{Entry, head_of};
+use crate::entry::{Entry, Kept, head_of, lent};
 use crate::find::{find_place, place_from};
-use posting_code::PostingList;
+use crate::parts::{ends_of, one_list, put_entry, put_short};
+use crate::room::Room;
+use posting_code::{BLOCK, PostingList, Postings};
 use std::alloc::{AllocError, Global};
 use std::marker::Model;
 
-/// Terms with their postings. The bytes of all terms stand in one block.
+/// Terms with their postings. The bytes of all terms stand in one row, and so do the packed differences of all lists of up to 64.
 #[derive(Drop)]
 pub(crate) struct TermTable {
     bytes: Vec<u8>,
+    packed: Vec<u8>,
     entries: Vec<Entry>,
+    // the lists of more than 64
+    long: Vec<PostingList>,
 }
 
 impl Model for TermTable {
     ghost use Rattle.std.specs.Prelude.{List};
-    ghost use Rattle.std.specs.List.{AllByRecursion};
     ghost use Rattle.index_shard.specs.Tables.{TermEntry};
-    ghost use Rattle.index_shard.specs.Kept.{table_in, IsKeptIn};
+    ghost use Rattle.index_shard.specs.Kept.{table_in, AreKeptIn};
 
     ghost Value = { List TermEntry };
 
-    ghost view = { λ t. table_in t.bytes.items t.entries.items };
+    ghost view = { λ t. table_in t.bytes.items t.packed.items t.long.items t.entries.items };
 
-    ghost invariant = { λ t. AllByRecursion (IsKeptIn t.bytes.items) t.entries.items };
+    ghost invariant = { λ t. AreKeptIn t.bytes.items t.packed.items t.long.items t.entries.items };
 }
 
 impl TermTable {
@@ -35,7 +42,9 @@ impl TermTable {
     {
         TermTable {
             bytes: Vec::new(alloc),
+            packed: Vec::new(alloc),
             entries: Vec::new(alloc),
+            long: Vec::new(alloc),
         }
     }
 
@@ -44,20 +53,77 @@ impl TermTable {
         *self.entries.allocator()
     }
 
-    /// Puts a term with its postings behind the others.
+    /// Puts a term with its postings behind the others. A long list is moved, and a short one copied.
     pub(crate) fn push(&mut self, term: &[u8], postings: PostingList) -> Result<(), AllocError>
         ensures ok { OnOk result (self.new ≡ self.old ++ record { term = term.now; addresses = postings } ∷ []) }
         ensures err { OnErr result (self.new ≡ self.old) }
     {
-        let entry = Entry {
-            head: head_of(term),
-            start: self.bytes.len(),
-            size: term.len(),
-            postings,
-        };
-        self.entries.reserve(1)?;
-        self.bytes.extend_from_slice(term)?;
-        self.entries.push(entry)?;
+        if postings.len() > BLOCK {
+            return self.push_long(term, postings);
+        }
+        let lent = postings.as_postings();
+        self.push_parts(head_of(term), term, &[lent])?;
+        Ok(())
+    }
+
+    /// The same with the postings of several lists, each behind those before, and the first bytes of the term as a number. None is unpacked.
+    pub(crate) fn push_parts(
+        &mut self,
+        head: u64,
+        term: &[u8],
+        parts: &[Postings<'_>],
+    ) -> Result<(), AllocError>
+        requires head { head ≡ leading 8 0 term.now }
+        requires postings { ArePostings (concat parts.now) }
+        ensures ok { OnOk result (self.new ≡ self.old ++ record { term = term.now; addresses = concat parts.now } ∷ []) }
+        ensures err { OnErr result (self.new ≡ self.old) }
+    {
+        let ends = ends_of(parts);
+        if ends.count > BLOCK {
+            let joined = one_list(self.alloc(), parts)?;
+            return self.push_long(term, joined);
+        }
+        let kept = put_short(&mut self.packed, ends, parts)?;
+        put_entry(&mut self.bytes, &mut self.entries, head, term, kept)?;
+        Ok(())
+    }
+
+    /// The same with a list that keeps its own memory.
+    fn push_long(&mut self, term: &[u8], postings: PostingList) -> Result<(), AllocError>
+        ensures ok { OnOk result (self.new ≡ self.old ++ record { term = term.now; addresses = postings } ∷ []) }
+        ensures err { OnErr result (self.new ≡ self.old) }
+    {
+        let place = self.long.len();
+        self.long.push(postings)?;
+        let kept = Kept::Long(place);
+        put_entry(
+            &mut self.bytes,
+            &mut self.entries,
+            head_of(term),
+            term,
+            kept,
+        )?;
+        Ok(())
+    }
+
+    /// What it takes.
+    pub(crate) fn room(&self) -> Room
+        ensures { result.terms ≡ length self.now }
+    {
+        Room {
+            terms: self.entries.len(),
+            bytes: self.bytes.len(),
+            packed: self.packed.len(),
+        }
+    }
+
+    /// Makes room for so much more.
+    pub(crate) fn reserve(&mut self, room: Room) -> Result<(), AllocError>
+        ensures { self.new ≡ self.old }
+    {
+        self.entries.reserve(room.terms)?;
+        self.bytes.reserve(room.bytes)?;
+        self.packed.reserve(room.packed)?;
         Ok(())
     }
 
@@ -66,7 +132,9 @@ impl TermTable {
         ensures { self.new ≡ self.old }
     {
         self.bytes.shrink_to_fit();
+        self.packed.shrink_to_fit();
         self.entries.shrink_to_fit();
+        self.long.shrink_to_fit();
     }
 
     /// The number of terms.
@@ -85,14 +153,24 @@ impl TermTable {
         entry.term(&self.bytes)
     }
 
-    /// The postings at a place.
-    pub(crate) fn postings_at(&self, place: usize) -> &PostingList
+    /// The first eight bytes of the term at a place, as a number.
+    pub(crate) fn head(&self, place: usize) -> u64
         requires { place < length self.now }
-        ensures at { result.now ≡ addresses_at self.now place }
-        ensures entry { slice_get (map (λ (entry : TermEntry). entry.addresses) self.now) place ≡ Some result.now }
+        ensures value { option_map (leading 8 0) (slice_get (map (λ (entry : TermEntry). entry.term) self.now) place) ≡ Some result }
+        ensures bytes { IfSome (slice_get (map (λ (entry : TermEntry). entry.term) self.now) place) AreBytes }
     {
         let entry = &self.entries[place];
-        &entry.postings
+        entry.head_in(&self.bytes)
+    }
+
+    /// The postings at a place.
+    pub(crate) fn postings_at(&self, place: usize) -> Postings<'_>
+        requires { place < length self.now }
+        ensures at { result ≡ addresses_at self.now place }
+        ensures entry { slice_get (map (λ (entry : TermEntry). entry.addresses) self.now) place ≡ Some result }
+    {
+        let entry = &self.entries[place];
+        lent(&self.packed, &self.long, entry.list)
     }
 
     /// The place of a term.
@@ -104,12 +182,20 @@ impl TermTable {
     }
 
     /// The postings of a term.
-    pub(crate) fn find_postings(&self, term: &[u8]) -> Option<&PostingList>
+    pub(crate) fn find_postings(&self, term: &[u8]) -> Option<Postings<'_>>
         requires { (range : SlotRange) × IsTable range self.now }
-        ensures { MatchOption result (postings_of self.now term.now ≡ []) (λ list. postings_of self.now term.now ≡ list.now) }
+        ensures { MatchOption result (postings_of self.now term.now ≡ []) (λ list. postings_of self.now term.now ≡ list) }
     {
         let place = self.place(term)?;
         Some(self.postings_at(place))
+    }
+
+    /// The place of the least term that is at least `low`, or above it with `strict`: the end where there is none.
+    fn least_place(&self, low: &[u8], strict: bool) -> usize
+        requires { (range : SlotRange) × IsTable range self.now }
+        ensures { slice_get (map (λ (entry : TermEntry). entry.term) self.now) result ≡ least_term self.now low.now strict }
+    {
+        place_from(&self.bytes, &self.entries, low, strict)
     }
 
     /// The least term that is at least `low`, or above it with `strict`.
@@ -117,7 +203,7 @@ impl TermTable {
         requires { (range : SlotRange) × IsTable range self.now }
         ensures { MatchOption result (least_term self.now low.now strict ≡ None) (λ term. least_term self.now low.now strict ≡ Some term.now) }
     {
-        let place = place_from(&self.bytes, &self.entries, low, strict);
+        let place = self.least_place(low, strict);
         if place < self.entries.len() {
             Some(self.term(place))
         } else {

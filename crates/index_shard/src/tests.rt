@@ -1,10 +1,14 @@
-ghost use Rattle.std.specs.Prelude.{◌<◌};
+ghost use Rattle.std.specs.Prelude.{◌≡◌, ◌<◌, ◌∷◌, []};
+ghost use Rattle.std.specs.List.{concat};
+ghost use Rattle.posting_code.specs.Postings.{ArePostings};
+ghost use Rattle.index_shard.specs.Tables.{ArePostingsIn};
 
+use crate::entry::head_of;
 use crate::maker::ShardMaker;
 use crate::shard::Shard;
 use address_space::Range;
 use gcl_model::{Direction, Ledger, Question, Steps, counted};
-use posting_code::encode;
+use posting_code::{PostingList, Postings, encode};
 use std::alloc::{AllocError, Global};
 
 /// The posting of a term that is nearest to an address on one side.
@@ -78,6 +82,42 @@ fn chapters(alloc: Global) -> Result<Shard, AllocError> {
     maker.push_term(b"chapter1", &[4])?;
     maker.push_term(b"chapter10", &[3])?;
     maker.push_term(b"chapter2", &[2])?;
+    Ok(maker.finish())
+}
+
+/// Three lists, lent.
+fn lent<'a>(
+    front: &'a PostingList,
+    middle: &'a PostingList,
+    behind: &'a PostingList,
+) -> [Postings<'a>; 3]
+    ensures { result ≡ front.now ∷ middle.now ∷ behind.now ∷ [] }
+{
+    [
+        front.as_postings(),
+        middle.as_postings(),
+        behind.as_postings(),
+    ]
+}
+
+/// One term, whose postings are put as three lists.
+fn of_three(
+    alloc: Global,
+    front: &[u64],
+    middle: &[u64],
+    behind: &[u64],
+) -> Result<Shard, AllocError>
+    requires front { ArePostings front.now }
+    requires middle { ArePostings middle.now }
+    requires behind { ArePostings behind.now }
+    requires all { ArePostingsIn (record { first = 1; last = 6 }) (concat (front.now ∷ middle.now ∷ behind.now ∷ [])) }
+{
+    let front = encode(alloc, front)?;
+    let middle = encode(alloc, middle)?;
+    let behind = encode(alloc, behind)?;
+    let parts = lent(&front, &middle, &behind);
+    let mut maker = ShardMaker::new(alloc, Range { first: 1, last: 6 });
+    maker.push_parts(head_of(b"be"), b"be", &parts)?;
     Ok(maker.finish())
 }
 
@@ -169,6 +209,49 @@ fn the_least_term_from_a_bound_is_the_next_in_byte_order(
     for (shard, low, strict, want) in cases {
         let found = shard.term_from(low.as_bytes(), strict);
         assert_eq!(rt; found, want.map(|term| term.as_bytes()), "from {low}");
+    }
+    Ok(())
+}
+
+#[test]
+fn a_list_without_members_among_others_changes_nothing(rt: HostRuntime) -> Result<(), AllocError> {
+    let front = &of_three(rt.alloc(), &[], &[1, 3], &[6])?;
+    let between = &of_three(rt.alloc(), &[1], &[], &[3, 6])?;
+    let behind = &of_three(rt.alloc(), &[1, 3, 6], &[], &[])?;
+    let cases = [
+        ("in front", front),
+        ("between", between),
+        ("behind", behind),
+    ];
+    for (name, shard) in cases {
+        assert_eq!(rt; shard.term_count(), 1, "{name}");
+        if 0 < shard.term_count() {
+            let walked = counted(&FirstThree { shard, place: 0 });
+            assert_eq!(rt; walked, ([Some(1), Some(3), Some(6)], 3), "{name}");
+        }
+    }
+    Ok(())
+}
+
+#[test]
+fn the_head_of_a_term_is_its_first_eight_bytes(rt: HostRuntime) -> Result<(), AllocError> {
+    let hamlet = &hamlet(rt.alloc())?;
+    let chapters = &chapters(rt.alloc())?;
+    let cases = [
+        (hamlet, 0, 0x6265_0000_0000_0000),
+        (hamlet, 1, 0x6e6f_7400_0000_0000),
+        (chapters, 0, 0x6368_6170_7465_7200),
+        (chapters, 1, 0x6368_6170_7465_7200),
+        (chapters, 2, 0x6368_6170_7465_7231),
+        (chapters, 3, 0x6368_6170_7465_7231),
+        (chapters, 4, 0x6368_6170_7465_7232),
+    ];
+    for (shard, place, want) in cases {
+        let mut found = None;
+        if place < shard.term_count() {
+            found = Some(shard.head(place));
+        }
+        assert_eq!(rt; found, Some(want), "at {place}");
     }
     Ok(())
 }

@@ -2,13 +2,13 @@ ghost use Rattle.std.specs.Prelude.{◌≡◌, ◌+◌, [], ◌++◌, ◌↔◌,
 ghost use Rattle.std.specs.Option.{option_to_list};
 
 use gcl_model::{Ledger, Steps};
-use posting_code::PostingList;
+use posting_code::Postings;
 use std::marker::Model;
 
 /// The postings of one term that are still to come. Blocks are read one at a time, each once.
 #[derive(Drop)]
 pub struct Walk<'a> {
-    list: &'a PostingList,
+    list: Postings<'a>,
     next_block: usize,
     members: [u64; 64],
     at: usize,
@@ -21,14 +21,14 @@ impl<'a> Model for Walk<'a> {
 
     ghost Value = { List ℕ };
 
-    ghost view = { λ w. drop w.at (take w.count w.members) ++ drop (64 * w.next_block) w.list.now };
+    ghost view = { λ w. drop w.at (take w.count w.members) ++ drop (64 * w.next_block) w.list };
 
-    ghost invariant = { λ w. (w.at ≤ w.count) × (w.count ≤ 64) × (w.next_block ≤ blocks_of w.list.now) × (length w.members ≡ 64) };
+    ghost invariant = { λ w. (w.at ≤ w.count) × (w.count ≤ 64) × (w.next_block ≤ blocks_of w.list) × (length w.members ≡ 64) };
 }
 
 impl<'a> Walk<'a> {
-    pub(crate) fn new(list: &'a PostingList) -> Self
-        ensures { result ≡ list.now }
+    pub(crate) fn new(list: Postings<'a>) -> Self
+        ensures { result ≡ list.entry }
     {
         Walk {
             list,

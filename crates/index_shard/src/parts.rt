@@ -1,0 +1,118 @@
+ghost use Rattle.std.specs.Prelude.{◌≡◌, ◌≤◌, ◌++◌, ◌∷◌, [], List, ℕ, length, take, IfOk, OnOk, OnErr};
+ghost use Rattle.std.specs.List.{concat};
+ghost use Rattle.posting_code.specs.Postings.{ArePostings};
+ghost use Rattle.index_shard.specs.Kept.{AreEndsOf, IsPutShort, entry_of, leading};
+
+use crate::entry::{Entry, Kept};
+use posting_code::{PostingList, PostingMaker, Postings, put_joined};
+use std::alloc::{AllocError, Global};
+
+/// The first and the last member of some lists behind each other, and how many they have.
+#[derive(Clone, Copy)]
+pub(crate) struct Ends {
+    pub(crate) first: u64,
+    pub(crate) last: u64,
+    pub(crate) count: usize,
+}
+
+/// The ends of the lists.
+pub(crate) fn ends_of(lists: &[Postings<'_>]) -> Ends
+    requires { ArePostings (concat lists.now) }
+    ensures { AreEndsOf result (concat lists.now) }
+{
+    let mut ends = Ends {
+        first: 0,
+        last: 0,
+        count: 0,
+    };
+    if let [list] = lists {
+        return ends_behind(ends, list);
+    }
+    for list in lists {
+        ends = ends_behind(ends, list);
+    }
+    ends
+}
+
+/// The ends of some addresses and of those behind them.
+fn ends_behind(ends: Ends, list: &Postings<'_>) -> Ends
+    requires { (front : List ℕ) × AreEndsOf ends front × ArePostings (front ++ list.now) }
+    ensures { (front : List ℕ) → AreEndsOf ends front → ArePostings (front ++ list.now) → AreEndsOf result (front ++ list.now) }
+{
+    let count = list.len();
+    if count == 0 {
+        return ends;
+    }
+    let last = list.last();
+    if ends.count == 0 {
+        let first = list.first();
+        return Ends { first, last, count };
+    }
+    Ends {
+        first: ends.first,
+        last,
+        count: ends.count + count,
+    }
+}
+
+/// Puts the packed differences of up to 64 addresses behind those of others, and gives where they stand.
+pub(crate) fn put_short(
+    packed: &mut Vec<u8>,
+    ends: Ends,
+    lists: &[Postings<'_>],
+) -> Result<Kept, AllocError>
+    requires ends { AreEndsOf ends (concat lists.now) }
+    requires rising { ArePostings (concat lists.now) }
+    requires few { length (concat lists.now) ≤ 64 }
+    ensures kept { IfOk result (IsPutShort packed.new.items (concat lists.now)) }
+    ensures before { take (length packed.old.items) packed.new.items ≡ packed.old.items }
+{
+    let at = packed.len();
+    put_joined(packed, lists)?;
+    let end = packed.len();
+    Ok(Kept::Short {
+        first: ends.first,
+        last: ends.last,
+        at,
+        size: (end - at) as u16,
+        count: ends.count as u8,
+    })
+}
+
+/// The list of all addresses, in memory of its own.
+pub(crate) fn one_list(alloc: Global, lists: &[Postings<'_>]) -> Result<PostingList, AllocError>
+    requires { ArePostings (concat lists.now) }
+    ensures { IfOk result (λ list. list ≡ concat lists.now) }
+{
+    let mut maker = PostingMaker::new(alloc);
+    for list in lists {
+        maker.append(list)?;
+    }
+    Ok(maker.finish())
+}
+
+/// Puts an entry behind the others, and its term behind the bytes of theirs.
+pub(crate) fn put_entry(
+    bytes: &mut Vec<u8>,
+    entries: &mut Vec<Entry>,
+    head: u64,
+    term: &[u8],
+    list: Kept,
+) -> Result<(), AllocError>
+    requires head { head ≡ leading 8 0 term.now }
+    ensures bytes { OnOk result (bytes.new.items ≡ bytes.old.items ++ term.now) }
+    ensures entry { OnOk result (entries.new.items ≡ entries.old.items ++ entry_of bytes.old.items term.now list ∷ []) }
+    ensures err { OnErr result (entries.new.items ≡ entries.old.items) }
+    ensures same_bytes { OnErr result (take (length bytes.old.items) bytes.new.items ≡ bytes.old.items) }
+{
+    let entry = Entry {
+        head,
+        start: bytes.len(),
+        size: term.len(),
+        list,
+    };
+    entries.reserve(1)?;
+    bytes.extend_from_slice(term)?;
+    entries.push(entry)?;
+    Ok(())
+}
