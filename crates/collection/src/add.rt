@@ -14,7 +14,7 @@ use crate::faults::AddFault;
 use address_space::{AddressesSpent, FileId, FileRecord, Range, place};
 use gcl_model::{ADDRESS_END, Bytes};
 use live_version::Version;
-use shard_build::build_text;
+use shard_build::{Names, build_text};
 use shard_merge::merge;
 use std::alloc::{AllocError, Global};
 use std::sync::Wait;
@@ -33,7 +33,11 @@ impl Engine {
         let last = self.version();
         let id = FileId(last.next_id());
         let range = place_file(last.next(), need)?;
-        let version = with_file(self.allocator(), last, name, bytes, need)?;
+        let mut names = self.lend_names();
+        let last = self.version();
+        let made = with_file(self.allocator(), &mut names, last, name, bytes, need);
+        self.keep_names(names);
+        let version = made?;
         let receipt = self.publish(rt, version)?;
         Ok(Added {
             id,
@@ -76,6 +80,7 @@ fn place_file(next: u64, need: u64) -> Result<Range, AddressesSpent>
 /// The version with a file of these bytes more, which needs so many addresses, and whose last slots are made one as far as the rule of adding goes.
 fn with_file(
     alloc: Global,
+    names: &mut Names,
     last: &Version,
     name: &[u8],
     bytes: &[u8],
@@ -95,7 +100,7 @@ fn with_file(
         len: need,
         name: Bytes::copy_of(alloc, name)?,
     };
-    let shard = build_text(alloc, last.next(), bytes)?;
+    let shard = build_text(alloc, names, last.next(), bytes)?;
     let grown = last.with_file(file, shard)?;
     let version = settled(alloc, last, grown)?;
     Ok(version)

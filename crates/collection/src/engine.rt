@@ -11,14 +11,18 @@ use address_space::FileId;
 use gcl_model::ADDRESS_END;
 use live_version::Version;
 use manifest_publish::{Pass, Publisher, Reader, Receipt};
+use shard_build::Names;
 use std::alloc::{AllocError, Global};
 use std::marker::Model;
+use std::mem;
 use std::sync::{Arc, Wait};
 
 /// A collection of files under adds, deletions and merges, each of which is published. It cannot be dropped: `end` ends it.
 pub struct Engine {
     alloc: Global,
     publisher: Publisher,
+    // lent to each add: nothing in them matters
+    names: Names,
 }
 
 impl Model for Engine {
@@ -78,7 +82,11 @@ impl Engine {
         let opening = shared(alloc, Version::empty(alloc, first))?;
         let (publisher, readers) = Publisher::new(rt, alloc, opening, readers)?;
         Ok(Opened {
-            engine: Engine { alloc, publisher },
+            engine: Engine {
+                alloc,
+                publisher,
+                names: Names::new(alloc),
+            },
             readers,
             lines: 0,
         })
@@ -113,12 +121,27 @@ impl Engine {
         let Engine {
             alloc: _alloc,
             publisher,
+            names: _names,
         } = self;
         publisher.end(rt);
     }
 
     pub(crate) fn allocator(&self) -> Global {
         self.alloc
+    }
+
+    /// Hands out the names that are kept from add to add. None are left.
+    pub(crate) fn lend_names(&mut self) -> Names
+        ensures { self.new ≡ self.old }
+    {
+        mem::replace(&mut self.names, Names::new(self.alloc))
+    }
+
+    /// Takes the names back.
+    pub(crate) fn keep_names(&mut self, names: Names)
+        ensures { self.new ≡ self.old }
+    {
+        self.names = names;
     }
 
     /// Publishes one version more.

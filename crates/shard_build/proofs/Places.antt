@@ -26,7 +26,7 @@ places-push (w ∷ ws) p t token =
       | inr h ↦ rw h (places-push ws p t token)
     ]
 
-unless_empty-push : (ps : List ℕ) (p : ℕ) → unless_empty (ps ++ p ∷ []) ≡ Some (unwrap_or (unless_empty ps) [] ++ p ∷ [])
+pub unless_empty-push : (ps : List ℕ) (p : ℕ) → unless_empty (ps ++ p ∷ []) ≡ Some (unwrap_or (unless_empty ps) [] ++ p ∷ [])
 unless_empty-push [] p = refl
 unless_empty-push (q ∷ qs) p = refl
 

@@ -4,7 +4,6 @@ use Rattle.std.specs.declared.cmp.Ordering.{Ordering}
 use Rattle.std.specs.declared.cmp.Ordering.TheVariants.{Less}
 use Rattle.std.specs.List.{AllByRecursion}
 use Rattle.std.specs.List.Sorted.{IsStrictlySortedBy}
-use Rattle.std.specs.Option.{IfSome}
 use Rattle.std.specs.Cmp.Lexicographic.{slice_cmp}
 use Rattle.std.proofs.lemmas.Bool.{true≢false, cases_Bool}
 use Rattle.std.proofs.lemmas.Cmp.{nat_list_cmp_total, tied_itself}
@@ -12,9 +11,10 @@ use Rattle.std.proofs.lemmas.Slice.Eq.{bytes_eq-Decides}
 use Rattle.gcl_model.specs.Texts.{Word, places}
 use Rattle.gcl_model.specs.Slots.{SlotRange}
 use Rattle.gcl_model.specs.Collections.{words_from}
-use Rattle.index_shard.specs.Tables.{RiseWithin, TermEntry, ShardContent, ComesBefore, AreApart, ArePostingsIn, Precedes, IsTable, last_entry, has_address, term_at, words_of}
+use Rattle.index_shard.specs.Tables.{RiseWithin, TermEntry, ShardContent, ComesBefore, AreApart, ArePostingsIn, Precedes, IsTable, has_address, term_at, words_of}
 use Rattle.index_shard.proofs.ShardWords.{rise_wider, words_in_turn}
 use Rattle.shard_build.specs.Groups.{unless_empty, group_of}
+use Rattle.shard_build.specs.Handed.{ComesNext}
 use Rattle.shard_build.proofs.Places.{places_rise, place_tells, places_apart}
 
 -- the postings of a token, if the table has it
@@ -88,12 +88,6 @@ unfolding IsStrictlySortedBy
 groups_are_table tokens range [] width rise all = tt
 groups_are_table tokens range (e ∷ es) width rise all =
     (postings_in tokens range e width all.0, all_precede tokens range.first e es all.0 all.1 rise.0, groups_are_table tokens range es width rise.1 all.1)
-
--- what an entry of a table is to those before it
-pub record ComesNext (range : SlotRange) (done : List TermEntry) (e : TermEntry) : Type 0 where
-  pub before : IfSome (last_entry done) (λ last. ComesBefore last.term e.term)
-  pub postings : ArePostingsIn range e.addresses
-  pub apart : AllByRecursion (λ d. AreApart d.addresses e.addresses) done
 
 all_middle : {X : Type 0} (P : X → Type 0) (xs ys : List X) (y : X) → AllByRecursion P (xs ++ y ∷ ys) → P y
 all_middle P [] ys y all = all.0

@@ -1,6 +1,5 @@
 -- Words grouped by their tokens.
 use Rattle.std.specs.Prelude.{ℕ, List, [], ◌∷◌, map, Option, None, Some}
-use Rattle.std.specs.Global.{Vec}
 use Rattle.gcl_model.specs.Texts.{Word, places}
 use Rattle.index_shard.specs.Tables.{TermEntry}
 
@@ -14,9 +13,9 @@ abbrev pub group_of : List Word → List ℕ → Option (List ℕ)
 group_of words token = unless_empty (places words token)
 
 -- an entry of a map from tokens to lists of addresses
-abbrev pub table_entry : Vec ℕ × List ℕ → TermEntry
-table_entry entry = record { term = entry.0.items; addresses = entry.1 }
+abbrev pub table_entry : List ℕ × List ℕ → TermEntry
+table_entry entry = record { term = entry.0; addresses = entry.1 }
 
 -- the map as the table of a shard
-abbrev pub table_of : List (Vec ℕ × List ℕ) → List TermEntry
+abbrev pub table_of : List (List ℕ × List ℕ) → List TermEntry
 table_of entries = map table_entry entries

@@ -1,1 +1,3 @@
 pub mod Groups
+pub mod Met
+pub mod Handed

@@ -5,16 +5,22 @@
 //!
 //! The layer above gives the next free address and a file's tokens. From address 0 on, the shard of `to be or not to be`
 //! has `to` at 1 and 5, and `</file!>` at 7. Any `Tokens` will do: a list of tokens, or a text that was cut. Of a text as
-//! it stands, `build_text` takes one token after the other, so that nothing is kept but the index.
+//! it stands, `build_text` takes one token after the other, so that nothing is kept but the index and `Names`. What these
+//! have is seen by no contract, and changes no shard: whoever builds many lends the same ones to each call.
 #![tactic(auto)]
 
-mod boundaries;
+mod building;
 mod group;
-mod making;
+mod hint;
+mod lists;
+mod name;
+mod names;
+mod order;
+mod seen;
 mod source;
 
-pub use boundaries::{file_end, file_start};
-pub use making::{build, build_from, build_text};
+pub use building::{build, build_from, build_text};
+pub use names::Names;
 pub use source::Tokens;
 
 #[cfg(test)]

@@ -1,6 +1,7 @@
 ghost use Rattle.std.specs.Prelude.{◌<◌};
 
-use crate::making::{build, build_from, build_text};
+use crate::building::{build, build_from, build_text};
+use crate::names::Names;
 use gcl_model::{Bytes, Ledger, Question, Steps, TokenList, counted};
 use index_shard::{Direction, Shard};
 use std::alloc::{AllocError, Global};
@@ -104,7 +105,90 @@ fn a_text_is_indexed_as_its_tokens_whether_it_was_cut_or_not(rt: HostRuntime) ->
     assert_eq!(rt; text.len(), 6);
     is_hamlet(&rt, &build_from(rt.alloc(), 0, &text)?);
     assert_eq!(rt; token_count(bytes), 6);
-    is_hamlet(&rt, &build_text(rt.alloc(), 0, bytes)?);
+    is_hamlet(
+        &rt,
+        &build_text(rt.alloc(), &mut Names::new(rt.alloc()), 0, bytes)?,
+    );
+    Ok(())
+}
+
+#[test]
+fn names_that_were_met_before_change_no_shard(rt: HostRuntime) -> Result<(), Fail> {
+    let names = &mut Names::new(rt.alloc());
+    let many =
+        "to to to to to to to to to to to to to to to to to to to to to to to to to to to to to to to to to to to to to to to to to to \
+        be to to to to to to to to to to to to to to to to to to to to to to to to to to to to to to to to to to to to to to to to";
+    for before in ["be that or this", many, "to be not to be", ""] {
+        let _ = build_text(rt.alloc(), names, 7, before.as_bytes());
+        is_hamlet(
+            &rt,
+            &build_text(rt.alloc(), names, 0, b"To be, or NOT to be?")?,
+        );
+    }
+    Ok(())
+}
+
+/// A text of so many words out of 256. Each second has its first eight bytes in common with the others, and each fourth is new in each round.
+fn mixed_words(
+    alloc: Global,
+    round: u8,
+    first: u64,
+    step: u64,
+    words: usize,
+) -> Result<Vec<u8>, AllocError> {
+    let mut text = Vec::new(alloc);
+    let mut n = first;
+    for _ in 0..words {
+        text.extend_from_slice(if n % 2 == 0 { b"longprefix" } else { b"w" })?;
+        text.push(b'a'.wrapping_add((n % 16) as u8))?;
+        text.push(b'a'.wrapping_add((n / 16 % 16) as u8))?;
+        if n % 8 < 2 {
+            text.push(b'a'.wrapping_add(round % 16))?;
+        }
+        text.push(b' ')?;
+        n = n.wrapping_mul(5).wrapping_add(step) % 256;
+    }
+    Ok(text)
+}
+
+/// The two shards have the same terms with the same postings.
+fn is_same<R: Abort>(rt: &R, one: &Shard, other: &Shard) {
+    assert_eq!(rt; one.term_count(), other.term_count());
+    for place in 0..one.term_count() {
+        if place < one.term_count() && place < other.term_count() {
+            assert_eq!(rt; one.term(place), other.term(place), "at {place}");
+            let first = counted(&FirstThree { shard: one, place });
+            let second = counted(&FirstThree {
+                shard: other,
+                place,
+            });
+            assert_eq!(rt; first, second, "of the term at {place}");
+        }
+    }
+}
+
+#[test]
+fn names_that_are_put_in_order_change_no_shard(rt: HostRuntime) -> Result<(), Fail> {
+    let names = &mut Names::new(rt.alloc());
+    for round in 0..8u8 {
+        for (first, step, words) in [
+            (3, 7, 90),
+            (200, 7, 120),
+            (9, 11, 3),
+            (9, 11, 200),
+            (17, 129, 300),
+            (90, 7, 100),
+            (0, 1, 70),
+            (255, 3, 256),
+            (4, 31, 2),
+            (5, 77, 256),
+        ] {
+            let text = &mixed_words(rt.alloc(), round, first, step, words)?;
+            assert!(rt; token_count(text) <= 300);
+            let fresh = build_text(rt.alloc(), &mut Names::new(rt.alloc()), 40, text)?;
+            is_same(&rt, &build_text(rt.alloc(), names, 40, text)?, &fresh);
+        }
+    }
     Ok(())
 }
 

@@ -1,0 +1,148 @@
+//! The lists of the names, by their numbers.
+ghost use Rattle.std.specs.Prelude.{◌≡◌, ◌<◌, [], ◌∷◌, ◌++◌, length, nat_eq, IfOk, OnOk, OnErr};
+ghost use Rattle.std.specs.Map.{keys_of};
+ghost use Rattle.indexmap.specs.IndexMap.{set_value_at};
+ghost use Rattle.index_shard.specs.Tables.{IsTable};
+ghost use Rattle.posting_code.specs.Postings.{ArePostings};
+ghost use Rattle.shard_build.specs.Groups.{table_of};
+ghost use Rattle.shard_build.specs.Handed.{ComesNext, entry_at};
+ghost use Rattle.shard_build.specs.Met.{AreNames, IsNoted, list_at, name_at as name_of, names_of, rows_of};
+
+use crate::name::Name;
+use crate::seen::Seen;
+use index_shard::ShardMaker;
+use indexmap::IndexMap;
+use posting_code::{BLOCK, PostingList, PostingMaker};
+use std::alloc::AllocError;
+
+/// Puts an address behind those of the name with this number: whether it is the first.
+pub(crate) fn push_at(
+    lists: &mut IndexMap<Name, PostingMaker>,
+    number: usize,
+    address: u64,
+) -> Result<bool, AllocError>
+    requires within { number < length lists.old.entries }
+    requires rising { ArePostings (list_at lists.old.entries number ++ address ∷ []) }
+    ensures ok { OnOk result (lists.new.entries ≡ set_value_at lists.old.entries number (list_at lists.old.entries number ++ address ∷ [])) }
+    ensures first { IfOk result (λ first. first ≡ nat_eq (length (list_at lists.old.entries number)) 0) }
+    ensures err { OnErr result (lists.new.entries ≡ lists.old.entries) }
+{
+    let list = &mut lists[number];
+    let is_first = list.len() == 0;
+    list.push(address)?;
+    Ok(is_first)
+}
+
+/// Takes the addresses of the name with this number. None are left there, even after an Err.
+pub(crate) fn take_at(
+    lists: &mut IndexMap<Name, PostingMaker>,
+    number: usize,
+) -> Result<PostingList, AllocError>
+    requires { number < length lists.old.entries }
+    ensures value { IfOk result (λ list. list ≡ list_at lists.old.entries number) }
+    ensures entries { lists.new.entries ≡ set_value_at lists.old.entries number [] }
+{
+    lists[number].take()
+}
+
+/// Empties the list of the name with this number.
+pub(crate) fn clear_at(lists: &mut IndexMap<Name, PostingMaker>, number: usize)
+    requires { number < length lists.old.entries }
+    ensures { lists.new.entries ≡ set_value_at lists.old.entries number [] }
+{
+    lists[number].clear();
+}
+
+/// Empties the lists of all names that were seen.
+pub(crate) fn clear_all(lists: &mut IndexMap<Name, PostingMaker>, seen: &mut Vec<Seen>)
+    requires { AreNames (names_of lists.old.entries seen.old.items) }
+    ensures none { seen.new.items ≡ [] }
+    ensures names { AreNames (names_of lists.new.entries seen.new.items) }
+{
+    while let Some(last) = seen.pop() {
+        clear_at(lists, last.number);
+    }
+}
+
+/// What is to be noted of the name with this number.
+pub(crate) fn seen_at(lists: &IndexMap<Name, PostingMaker>, number: usize) -> Seen
+    requires { number < length lists.now.entries }
+    ensures number { result.number ≡ number }
+    ensures noted { IsNoted (keys_of lists.now.entries) result }
+{
+    let head = match lists.get_index(number) {
+        Some((name, _)) => name.head(),
+        None => 0,
+    };
+    Seen { head, number }
+}
+
+/// Hands the names that were seen over to a shard that is being made, the last one first.
+pub(crate) fn hand_over(
+    lists: &mut IndexMap<Name, PostingMaker>,
+    seen: &mut Vec<Seen>,
+    maker: &mut ShardMaker,
+) -> Result<(), AllocError>
+    requires names { AreNames (names_of lists.old.entries seen.old.items) }
+    requires none { maker.old.table ≡ [] }
+    requires table { IsTable maker.old.range (table_of (rows_of (names_of lists.old.entries seen.old.items))) }
+    ensures names { AreNames (names_of lists.new.entries seen.new.items) }
+    ensures table { OnOk result (maker.new.table ≡ table_of (rows_of (names_of lists.old.entries seen.old.items))) }
+    ensures range { maker.new.range ≡ maker.old.range }
+{
+    while let Some(last) = seen.pop() {
+        hand_one(lists, last, maker)?;
+    }
+    Ok(())
+}
+
+/// Hands one name over with its addresses. None are left there, even after an Err.
+// A short list is lent to be copied once, so that no memory is asked for it. A longer one takes its memory along.
+fn hand_one(
+    lists: &mut IndexMap<Name, PostingMaker>,
+    last: Seen,
+    maker: &mut ShardMaker,
+) -> Result<(), AllocError>
+    requires within { last.number < length lists.old.entries }
+    requires noted { IsNoted (keys_of lists.old.entries) last }
+    requires next { ComesNext maker.old.range maker.old.table (entry_at lists.old.entries last) }
+    ensures entries { lists.new.entries ≡ set_value_at lists.old.entries last.number [] }
+    ensures ok { OnOk result (maker.new ≡ record maker.old { table = maker.old.table ++ entry_at lists.old.entries last ∷ [] }) }
+    ensures err { OnErr result (maker.new ≡ maker.old) }
+{
+    if lists[last.number].len() > BLOCK {
+        let addresses = take_at(lists, last.number)?;
+        maker.push_list(name_at(lists, last.number), addresses)?;
+        return Ok(());
+    }
+    let done = lend(lists, last, maker);
+    clear_at(lists, last.number);
+    done
+}
+
+/// Puts a name with its addresses behind the others.
+fn lend(
+    lists: &IndexMap<Name, PostingMaker>,
+    last: Seen,
+    maker: &mut ShardMaker,
+) -> Result<(), AllocError>
+    requires within { last.number < length lists.now.entries }
+    requires noted { IsNoted (keys_of lists.now.entries) last }
+    requires next { ComesNext maker.old.range maker.old.table (entry_at lists.now.entries last) }
+    ensures ok { OnOk result (maker.new ≡ record maker.old { table = maker.old.table ++ entry_at lists.now.entries last ∷ [] }) }
+    ensures err { OnErr result (maker.new ≡ maker.old) }
+{
+    let list = lists[last.number].as_postings();
+    maker.push_parts(last.head, name_at(lists, last.number), &[list])?;
+    Ok(())
+}
+
+/// The name with this number, and no bytes where there is none.
+pub(crate) fn name_at(lists: &IndexMap<Name, PostingMaker>, number: usize) -> &[u8]
+    ensures { result.now ≡ name_of lists.now.entries number }
+{
+    match lists.get_index(number) {
+        Some((name, _)) => name.as_slice(),
+        None => b"",
+    }
+}

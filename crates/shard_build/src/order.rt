@@ -1,0 +1,97 @@
+//! The order of the names, and of those that were seen.
+//!
+//! The names that were met are put in byte order now and then, so that the names of the next file stand in order by their numbers but for
+//! those that are new. A stable sort takes such a run as it is.
+ghost use Rattle.std.specs.Prelude.{◌≡◌, []};
+ghost use Rattle.std.specs.List.Sorted.{IsPermutation, IsSorted};
+ghost use Rattle.std.specs.Map.{keys_of};
+ghost use Rattle.shard_build.specs.Met.{AreNames, falling, names_of};
+
+use crate::lists::{name_at, seen_at};
+use crate::name::Name;
+use crate::seen::Seen;
+use indexmap::IndexMap;
+use posting_code::PostingMaker;
+use std::alloc::AllocError;
+use std::cmp::Ordering;
+
+/// Puts the names in the order of their bytes, while no list has addresses. After an Err they are as they were.
+pub(crate) fn sort_names(lists: &mut IndexMap<Name, PostingMaker>) -> Result<(), AllocError>
+    requires { AreNames (names_of lists.old.entries []) }
+    ensures { AreNames (names_of lists.new.entries []) }
+{
+    lists.sort_unstable_by(|x, _, y, _| compare_names(x, y))
+}
+
+/// The order of two names.
+// Nothing is promised of it: names in another order would be sorted as well, only slower.
+fn compare_names(x: &Name, y: &Name) -> Ordering {
+    match x.head().cmp(&y.head()) {
+        Ordering::Less => Ordering::Less,
+        Ordering::Equal => x.as_slice().cmp(y.as_slice()),
+        Ordering::Greater => Ordering::Greater,
+    }
+}
+
+/// Puts the names that were seen in the order of their bytes, the last one first. It is quick where they have a run, which are in order by their numbers.
+pub(crate) fn sort_seen(lists: &IndexMap<Name, PostingMaker>, seen: &mut Vec<Seen>, has_run: bool)
+    requires { AreNames (names_of lists.now.entries seen.old.items) }
+    ensures names { AreNames (names_of lists.now.entries seen.new.items) }
+    ensures sorted { IsSorted (falling (keys_of lists.now.entries)) seen.new.items }
+{
+    if has_run {
+        note_by_number(lists, seen);
+        sort_with_run(lists, seen);
+    } else {
+        sort_without_run(lists, seen);
+    }
+}
+
+/// Notes the names with addresses anew, by their numbers, the last one first. They stay as they were noted where no memory is left.
+fn note_by_number(lists: &IndexMap<Name, PostingMaker>, seen: &mut Vec<Seen>)
+    requires { AreNames (names_of lists.now.entries seen.old.items) }
+    ensures { AreNames (names_of lists.now.entries seen.new.items) }
+{
+    let mut number = lists.len();
+    if seen.reserve(number.saturating_sub(seen.len())).is_err() {
+        return;
+    }
+    seen.clear();
+    while number > 0 {
+        number -= 1;
+        if lists[number].len() > 0 {
+            seen.push_reserved(seen_at(lists, number));
+        }
+    }
+}
+
+/// Sorts names of which many stand in order. Without memory for it they are sorted as any others.
+fn sort_with_run(lists: &IndexMap<Name, PostingMaker>, seen: &mut Vec<Seen>)
+    ensures permutation { IsPermutation seen.old.items seen.new.items }
+    ensures sorted { IsSorted (falling (keys_of lists.now.entries)) seen.new.items }
+{
+    match seen.sort_by(|x, y| compare(lists, *y, *x)) {
+        Ok(()) => {}
+        Err(AllocError) => sort_without_run(lists, seen),
+    }
+}
+
+/// Sorts names in whatever order they stand.
+fn sort_without_run(lists: &IndexMap<Name, PostingMaker>, seen: &mut Vec<Seen>)
+    ensures permutation { IsPermutation seen.old.items seen.new.items }
+    ensures sorted { IsSorted (falling (keys_of lists.now.entries)) seen.new.items }
+{
+    seen.sort_unstable_by(|x, y| compare(lists, *y, *x));
+}
+
+/// The order of two names that were seen.
+// Their heads decide most comparisons, and touch no other memory.
+fn compare(lists: &IndexMap<Name, PostingMaker>, x: Seen, y: Seen) -> Ordering
+    ensures { result ≡ falling (keys_of lists.now.entries) y x }
+{
+    match x.head.cmp(&y.head) {
+        Ordering::Less => Ordering::Less,
+        Ordering::Equal => name_at(lists, x.number).cmp(name_at(lists, y.number)),
+        Ordering::Greater => Ordering::Greater,
+    }
+}
