@@ -13,6 +13,7 @@ pub mod ChangeSlots
 pub mod Tails
 pub mod ChangeLaw
 pub mod PartLaws
+pub mod PartWords
 mod ChangeWorked
 pub mod TermLemmas
 pub mod CountLemmas

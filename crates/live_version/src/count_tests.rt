@@ -71,7 +71,7 @@ fn of_the_postings_those_at_no_dead_address_are_counted(rt: HostRuntime) -> Resu
                 .filter(|p| mask.dead(**p).is_none())
                 .count();
             assert_eq!(rt;
-                count_alive(&list, &mask),
+                count_alive(&list.as_postings(), &mask),
                 alive,
                 "{count} under {ranges:?}"
             );

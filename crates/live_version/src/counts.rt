@@ -14,7 +14,7 @@ use address_space::Range;
 use delete_mask::Mask;
 use gcl_model::{Ledger, Question, Steps, uncounted};
 use posting_access::rank;
-use posting_code::PostingList;
+use posting_code::Postings;
 
 impl Version {
     /// How many surviving words have the token: of each slot it takes the length of the term's list, less what each dead range holds of it.
@@ -48,12 +48,12 @@ impl Slot {
         requires { place < length self.now.shard.table }
         ensures { result ≡ length (filter (is_alive self.now.mask) (addresses_at self.now.shard.table place)) }
     {
-        count_alive(self.shard().postings(place), self.mask()) as u64
+        count_alive(&self.shard().postings(place), self.mask()) as u64
     }
 }
 
 /// How many postings are not dead.
-pub(crate) fn count_alive(list: &PostingList, mask: &Mask) -> usize
+pub(crate) fn count_alive(list: &Postings<'_>, mask: &Mask) -> usize
     ensures { result ≡ length (filter (is_alive mask.now) list.now) }
 {
     let ranges = mask.ranges();
@@ -65,13 +65,13 @@ pub(crate) fn count_alive(list: &PostingList, mask: &Mask) -> usize
 }
 
 /// How many postings a range has.
-fn count_within(list: &PostingList, range: &Range) -> usize
+fn count_within(list: &Postings<'_>, range: &Range) -> usize
     ensures { result ≡ length (filter (is_within range.now) list.now) }
 {
     rank_of(list, range.last + 1) - rank_of(list, range.first)
 }
 
-fn rank_of(list: &PostingList, k: u64) -> usize
+fn rank_of(list: &Postings<'_>, k: u64) -> usize
     ensures { result ≡ count_below list.now k }
 {
     uncounted(&Rank { list, k })
@@ -80,7 +80,7 @@ fn rank_of(list: &PostingList, k: u64) -> usize
 /// How many postings are below `k`.
 #[derive(Drop)]
 struct Rank<'a> {
-    list: &'a PostingList,
+    list: &'a Postings<'a>,
     k: u64,
 }
 

@@ -25,7 +25,12 @@ const LONG: &str =
     "a a a a a a a a a a a a a a a a a a a a a a a a a a a a a a a a a a a a a a a a \
      a a a a a a a a a a a a a a a a a a a a a a a a a a a a a a a a a a a a a a a a";
 
-const SCRIPTS: [&[Step<'static>]; 14] = [
+/// Postings in one block, of which two such texts have more than one together.
+const HALF: &str =
+    "a b a b a b a b a b a b a b a b a b a b a b a b a b a b a b a b a b a b a b a b a b \
+     a b a b a b a b a b a b a b a b a b a b a b a b a b a b a b a b a b";
+
+const SCRIPTS: [&[Step<'static>]; 15] = [
     &[Add("to be or not to be")],
     &[Add("")],
     &[Add("to be or not to be"), Add(""), Del(0)],
@@ -86,6 +91,16 @@ const SCRIPTS: [&[Step<'static>]; 14] = [
         Del(1),
         Merge(0, 2),
         Add("to be"),
+    ],
+    &[
+        Add(HALF),
+        Add("to be or"),
+        Add(HALF),
+        Merge(0, 3),
+        Add("not a"),
+        Merge(0, 2),
+        Del(2),
+        Add("b"),
     ],
     &[
         Add(LONG),

@@ -29,14 +29,6 @@ headed_postings [] (suc n) term is = absurd cc
 headed_postings (e ∷ es) zero term is = rw is refl
 headed_postings (e ∷ es) (suc n) term is = headed_postings es n term is
 
-pub headed_behind : (es : List TermEntry) (n next : ℕ) (term : List ℕ) → next ≡ n + 1 → is_headed (drop n es) term ≡ true → behind (drop n es) term ≡ drop next es
-headed_behind es n zero term after is = absurd (omega arith)
-headed_behind [] zero (suc next) term after is = absurd cc
-headed_behind [] (suc n) (suc next) term after is = absurd cc
-headed_behind (e ∷ es) zero (suc zero) term after is = rw is refl
-headed_behind (e ∷ es) zero (suc (suc next)) term after is = absurd (omega arith)
-headed_behind (e ∷ es) (suc n) (suc next) term after is = headed_behind es n next term (omega arith) is
-
 pub unheaded_postings : (left : List TermEntry) (term : List ℕ) → is_headed left term ≡ false → head_postings left term ≡ []
 unheaded_postings [] term is = refl
 unheaded_postings (e ∷ es) term is = rw is refl

@@ -1,6 +1,5 @@
 -- The least of the first terms of the parts.
 use Rattle.std.proofs.Common.{◌≡◌, ◌⊎◌, ℕ, true, false, List, [], ◌∷◌, ◌++◌, Option, Some, None, inl, inr, refl, sym, ◌∙◌}
-use denote.Ref.{Bor}
 use Rattle.std.specs.Option.{option_map, IfSome}
 use Rattle.std.proofs.lemmas.Bool.{or_cases, or_left, or_right}
 use Rattle.std.proofs.lemmas.Slice.Eq.{bytes_eq-Decides}
@@ -45,6 +44,7 @@ least_more least after parts part of before here among = record {
     any_last [] term h = or_left (is_headed part.left term) false h
     any_last (p ∷ ps) term h = or_right (is_headed p.left term) _ (any_last ps term h)
 
-pub if_some_now : (P : List ℕ → Type 0) (o : Option (Bor (List ℕ))) → ((term : List ℕ) → option_map (λ (t : Bor (List ℕ)). t.now) o ≡ Some term → P term) → IfSome o (λ t. P t.now)
-if_some_now P None holds = tt
-if_some_now P (Some t) holds = holds t.now refl
+-- what holds of the term of an option holds of the option
+pub if_some_term : {X : Type 0} (term : X → List ℕ) (P : List ℕ → Type 0) (o : Option X) → ((t : List ℕ) → option_map term o ≡ Some t → P t) → IfSome o (λ x. P (term x))
+if_some_term term P None holds = tt
+if_some_term term P (Some x) holds = holds (term x) refl

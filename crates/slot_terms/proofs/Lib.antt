@@ -1,3 +1,4 @@
+pub mod Firsts
 pub mod Heads
 pub mod LeastHeads
 pub mod LivePostings

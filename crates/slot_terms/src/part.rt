@@ -1,32 +1,49 @@
-ghost use Rattle.std.specs.Prelude.{◌≡◌, ◌++◌, IsTrue, OnOk, option_map};
+ghost use Rattle.std.specs.Prelude.{◌≡◌, ◌<◌, ◌≤◌, ◌++◌, ◌⊎◌, [], length, drop, IsTrue, IfSome, OnOk, option_map};
+ghost use Rattle.std.specs.List.{concat};
+ghost use Rattle.std.specs.Ordering.{nat_cmp};
+ghost use Rattle.std.specs.Cmp.Lexicographic.{slice_cmp};
+ghost use Rattle.index_shard.specs.Kept.{AreBytes, leading};
+ghost use Rattle.index_shard.specs.Tables.{IsShard};
 ghost use Rattle.posting_code.specs.Postings.{ArePostings};
-ghost use Rattle.slot_terms.specs.Parts.{alive, head_term, head_postings, past};
+ghost use Rattle.slot_terms.specs.Firsts.{IsFirst};
+ghost use Rattle.slot_terms.specs.Parts.{IsLed, IsNoLater, alive, head_term, head_postings, is_headed, past};
 
 use address_space::Range;
 use delete_mask::Mask;
-use index_shard::Shard;
-use posting_code::{PostingList, PostingMaker, encode};
+use index_shard::{Room, Shard};
+use posting_code::{PostingMaker, Postings, encode};
 use std::alloc::{AllocError, Global};
+use std::cmp::Ordering;
 use std::marker::Model;
 
 /// The index and the dead ranges of a slot, and the place of the first term that is still to come.
+// The first bytes of that term stand here as a number: most comparisons end with it, and touch no other memory.
 #[derive(Drop)]
 pub(crate) struct Part<'a> {
     shard: &'a Shard,
     mask: &'a Mask,
     next: usize,
+    // 0 where no term is to come
+    head: u64,
+}
+
+/// A term, and its first bytes as a number.
+#[derive(Clone, Copy)]
+pub(crate) struct First<'a> {
+    pub(crate) head: u64,
+    pub(crate) term: &'a [u8],
 }
 
 impl<'a> Model for Part<'a> {
     ghost use Rattle.std.specs.Prelude.{◌≤◌, length, drop};
     ghost use Rattle.index_shard.specs.Tables.{IsShard};
-    ghost use Rattle.slot_terms.specs.Parts.{PartContent};
+    ghost use Rattle.slot_terms.specs.Parts.{IsLed, PartContent};
 
     ghost Value = { PartContent };
 
     ghost view = { λ p. record { mask = p.mask.now; left = drop p.next p.shard.now.table } };
 
-    ghost invariant = { λ p. (p.next ≤ length p.shard.now.table) × IsShard p.shard.now };
+    ghost invariant = { λ p. (p.next ≤ length p.shard.now.table) × IsLed (drop p.next p.shard.now.table) p.head × IsShard p.shard.now };
 }
 
 impl<'a> Part<'a> {
@@ -34,23 +51,111 @@ impl<'a> Part<'a> {
     pub(crate) fn new(shard: &'a Shard, mask: &'a Mask) -> Self
         ensures { result ≡ record { mask = mask.now; left = shard.now.table } }
     {
-        // Any call of the index tells that it is one.
-        let _ = shard.term_count();
         Part {
             shard,
             mask,
             next: 0,
+            head: head_from(shard, 0),
         }
     }
 
+    /// Whether no address of the slot is dead.
+    pub(crate) fn is_whole(&self) -> bool
+        ensures { IsTrue result → self.now.mask ≡ [] }
+    {
+        self.mask.range_count() == 0
+    }
+
+    /// What the slot's table takes.
+    pub(crate) fn room(&self) -> Room {
+        self.shard.room()
+    }
+
     /// The first term that is still to come.
-    pub(crate) fn head(&self) -> Option<&'a [u8]>
-        ensures { option_map (λ term. term.now) result ≡ head_term self.now.left }
+    fn first(&self) -> Option<First<'a>>
+        ensures term { option_map (λ first. first.term.now) result ≡ head_term self.now.left }
+        ensures head { IfSome result IsFirst }
     {
         if self.next == self.shard.term_count() {
             return None;
         }
-        Some(self.shard.term(self.next))
+        Some(First {
+            head: self.head,
+            term: self.shard.term(self.next),
+        })
+    }
+
+    /// The earlier one of a term and the first of this part.
+    pub(crate) fn earlier(&self, least: Option<First<'a>>) -> Option<First<'a>>
+        requires { IfSome least IsFirst }
+        ensures first { IsNoLater (option_map (λ first. first.term.now) result) (option_map (λ first. first.term.now) least.entry) }
+        ensures second { IsNoLater (option_map (λ first. first.term.now) result) (head_term self.now.left) }
+        ensures among { (option_map (λ first. first.term.now) result ≡ option_map (λ first. first.term.now) least.entry) ⊎ (option_map (λ first. first.term.now) result ≡ head_term self.now.left) }
+        ensures head { IfSome result IsFirst }
+    {
+        if self.next == self.shard.term_count() {
+            return least;
+        }
+        match least {
+            Some(first) => match self.order_to(first.head, first.term) {
+                Ordering::Less => self.first(),
+                _ => least,
+            },
+            None => self.first(),
+        }
+    }
+
+    /// The order of its first term to another one, of which the first bytes are given as a number.
+    fn order_to(&self, head: u64, term: &[u8]) -> Ordering
+        requires some { 0 < length self.now.left }
+        requires head { head ≡ leading 8 0 term.now }
+        requires bytes { AreBytes term.now }
+        ensures { IfSome (head_term self.now.left) (λ own. result ≡ slice_cmp nat_cmp own term.now) }
+    {
+        match self.head.cmp(&head) {
+            Ordering::Less => Ordering::Less,
+            Ordering::Equal => self.shard.term(self.next).cmp(term),
+            Ordering::Greater => Ordering::Greater,
+        }
+    }
+
+    /// Goes past the term, where it is the first, and puts its postings behind the lists.
+    pub(crate) fn take_list(
+        &mut self,
+        head: u64,
+        term: &[u8],
+        lists: &mut Vec<Postings<'a>>,
+    ) -> Result<(), AllocError>
+        requires { head ≡ leading 8 0 term.now }
+        ensures lists { OnOk result (concat lists.new.items ≡ concat lists.old.items ++ head_postings self.old.left term.now) }
+        ensures past { OnOk result (self.new ≡ past term.now self.old) }
+    {
+        if self.has_first(head, term) {
+            lists.push(self.shard.postings(self.next))?;
+            self.step();
+        }
+        Ok(())
+    }
+
+    /// Whether the term is the first that is still to come.
+    fn has_first(&self, head: u64, term: &[u8]) -> bool
+        requires { head ≡ leading 8 0 term.now }
+        ensures { result ≡ is_headed self.now.left term.now }
+    {
+        if self.head != head {
+            return false;
+        }
+        self.next < self.shard.term_count() && self.shard.term(self.next) == term
+    }
+
+    /// Goes past the first term, if one is to come.
+    fn step(&mut self)
+        ensures { self.new ≡ record self.old { left = drop 1 self.old.left } }
+    {
+        if self.next < self.shard.term_count() {
+            self.next += 1;
+            self.head = head_from(self.shard, self.next);
+        }
     }
 
     /// Goes past the term, where it is the first, and puts its live postings behind the addresses.
@@ -59,8 +164,8 @@ impl<'a> Part<'a> {
         ensures past { OnOk result (self.new ≡ past term.now self.old) }
     {
         if self.next < self.shard.term_count() && self.shard.term(self.next) == term {
-            put_live(self.shard.postings(self.next), self.mask, addresses)?;
-            self.next += 1;
+            put_live(&self.shard.postings(self.next), self.mask, addresses)?;
+            self.step();
         }
         Ok(())
     }
@@ -77,17 +182,29 @@ impl<'a> Part<'a> {
         ensures past { OnOk result (self.new ≡ past term.now self.old) }
     {
         if self.next < self.shard.term_count() && self.shard.term(self.next) == term {
-            append_live(alloc, self.shard.postings(self.next), self.mask, postings)?;
-            self.next += 1;
+            append_live(alloc, &self.shard.postings(self.next), self.mask, postings)?;
+            self.step();
         }
         Ok(())
     }
 }
 
+/// The first bytes of the term at a place, as a number, and 0 where there is none.
+fn head_from(shard: &Shard, place: usize) -> u64
+    requires { place ≤ length shard.now.table }
+    ensures value { IsLed (drop place shard.now.table) result }
+    ensures shard { IsShard shard.now }
+{
+    if place == shard.term_count() {
+        return 0;
+    }
+    shard.head(place)
+}
+
 /// Puts the live ones of the postings behind the others. Where nothing is dead they are not unpacked.
 fn append_live(
     alloc: Global,
-    list: &PostingList,
+    list: &Postings<'_>,
     mask: &Mask,
     postings: &mut PostingMaker,
 ) -> Result<(), AllocError>
@@ -100,11 +217,11 @@ fn append_live(
     let mut addresses = Vec::new(alloc);
     put_live(list, mask, &mut addresses)?;
     let live = encode(alloc, &addresses)?;
-    postings.append(&live)
+    postings.append(&live.as_postings())
 }
 
 /// Puts the live ones of the postings behind the addresses. Each block is read once.
-fn put_live(list: &PostingList, mask: &Mask, addresses: &mut Vec<u64>) -> Result<(), AllocError>
+fn put_live(list: &Postings<'_>, mask: &Mask, addresses: &mut Vec<u64>) -> Result<(), AllocError>
     ensures { OnOk result (addresses.new.items ≡ addresses.old.items ++ alive mask.now list.now) }
 {
     let mut members = [0; 64];

@@ -1,11 +1,14 @@
-ghost use Rattle.std.specs.Prelude.{◌≡◌, List, ℕ, [], ◌++◌, true, map, flat_map, option_map, IfOk, OnOk, IfSome, IsNone};
-ghost use Rattle.std.specs.List.{AllByRecursion, list_any};
+ghost use Rattle.std.specs.Prelude.{◌≡◌, List, ℕ, [], ◌++◌, true, map, flat_map, option_map, IfOk, OnOk, IfSome, IsNone, IsTrue};
+ghost use Rattle.std.specs.List.{AllByRecursion, concat, list_any};
+ghost use Rattle.index_shard.specs.Kept.{leading};
 ghost use Rattle.posting_code.specs.Postings.{ArePostings};
-ghost use Rattle.slot_terms.specs.Parts.{IsNext, IsNoLater, IsPart, alive, head_term, head_postings, is_headed, part_of, past, postings_left};
+ghost use Rattle.slot_terms.specs.Firsts.{IsFirst};
+ghost use Rattle.slot_terms.specs.Parts.{IsNext, IsNoLater, IsPart, IsWhole, alive, head_term, head_postings, is_headed, part_of, past, postings_left};
 
-use crate::part::Part;
-use live_version::{Slot, earlier_term};
-use posting_code::{PostingList, PostingMaker};
+use crate::part::{First, Part};
+use index_shard::Room;
+use live_version::Slot;
+use posting_code::{PostingList, PostingMaker, Postings};
 use std::alloc::{AllocError, Global};
 use std::marker::Model;
 
@@ -51,9 +54,51 @@ impl<'a> SlotTerms<'a> {
         ensures parts { IfOk result (λ found. AllByRecursion IsPart self.new) }
         ensures none { IfOk result (λ found. IsNone found → (term : List ℕ) → postings_left self.old term ≡ []) }
     {
-        if let Some(term) = self.least() {
-            self.take(term, addresses)?;
-            return Ok(Some(term));
+        if let Some(first) = self.least() {
+            self.take(first.term, addresses)?;
+            return Ok(Some(first.term));
+        }
+        Ok(None)
+    }
+
+    /// Whether no address of the slots is dead.
+    pub fn is_whole(&self) -> bool
+        ensures { IsTrue result → AllByRecursion IsWhole self.now }
+    {
+        self.parts.iter().all(|part| part.is_whole())
+    }
+
+    /// What the tables of all slots take: as much as that of the terms that they become, or more.
+    pub fn room(&self) -> Room {
+        let mut room = Room {
+            terms: 0,
+            bytes: 0,
+            packed: 0,
+        };
+        for part in &self.parts {
+            room = room.and(part.room());
+        }
+        room
+    }
+
+    /// The next term behind its first bytes as a number, and its postings in place of the lists, slot by slot. They are lent, and none is
+    /// unpacked. After an Err nothing is known of what is still to come.
+    pub fn next_lists(
+        &mut self,
+        lists: &mut Vec<Postings<'a>>,
+    ) -> Result<Option<(u64, &'a [u8])>, AllocError>
+        requires parts { AllByRecursion IsPart self.old }
+        requires whole { AllByRecursion IsWhole self.old }
+        ensures head { IfOk result (λ found. IfSome found (λ next. next.0 ≡ leading 8 0 next.1.now)) }
+        ensures next { IfOk result (λ found. IfSome found (λ next. IsNext self.old next.1.now (concat lists.new.items))) }
+        ensures past { IfOk result (λ found. IfSome found (λ next. self.new ≡ map (past next.1.now) self.old)) }
+        ensures parts { IfOk result (λ found. AllByRecursion IsPart self.new) }
+        ensures whole { IfOk result (λ found. AllByRecursion IsWhole self.new) }
+        ensures none { IfOk result (λ found. IsNone found → (term : List ℕ) → postings_left self.old term ≡ []) }
+    {
+        if let Some(first) = self.least() {
+            self.take_lists(first.head, first.term, lists)?;
+            return Ok(Some((first.head, first.term)));
         }
         Ok(None)
     }
@@ -68,16 +113,17 @@ impl<'a> SlotTerms<'a> {
         ensures parts { IfOk result (λ found. AllByRecursion IsPart self.new) }
         ensures none { IfOk result (λ found. IsNone found → (term : List ℕ) → postings_left self.old term ≡ []) }
     {
-        if let Some(term) = self.least() {
-            let postings = self.take_packed(term)?;
-            return Ok(Some((term, postings)));
+        if let Some(first) = self.least() {
+            let postings = self.take_packed(first.term)?;
+            return Ok(Some((first.term, postings)));
         }
         Ok(None)
     }
 
-    fn least(&self) -> Option<&'a [u8]>
-        ensures least { AllByRecursion (λ part. IsNoLater (option_map (λ term. term.now) result) (head_term part.left)) self.now }
-        ensures member { IfSome result (λ term. list_any (λ part. is_headed part.left term.now) self.now ≡ true) }
+    fn least(&self) -> Option<First<'a>>
+        ensures least { AllByRecursion (λ part. IsNoLater (option_map (λ first. first.term.now) result) (head_term part.left)) self.now }
+        ensures member { IfSome result (λ first. list_any (λ part. is_headed part.left first.term.now) self.now ≡ true) }
+        ensures head { IfSome result IsFirst }
     {
         least_head(self.parts.as_slice())
     }
@@ -88,6 +134,21 @@ impl<'a> SlotTerms<'a> {
     {
         addresses.clear();
         take_term(self.parts.as_mut_slice(), term, addresses)?;
+        Ok(())
+    }
+
+    fn take_lists(
+        &mut self,
+        head: u64,
+        term: &[u8],
+        lists: &mut Vec<Postings<'a>>,
+    ) -> Result<(), AllocError>
+        requires { head ≡ leading 8 0 term.now }
+        ensures lists { OnOk result (concat lists.new.items ≡ flat_map (λ part. head_postings part.left term.now) self.old) }
+        ensures past { OnOk result (self.new ≡ map (past term.now) self.old) }
+    {
+        lists.clear();
+        take_term_lists(self.parts.as_mut_slice(), head, term, lists)?;
         Ok(())
     }
 
@@ -135,14 +196,32 @@ fn take_term(
     Ok(())
 }
 
+/// Goes past the term in each part, and puts its postings behind the lists.
+fn take_term_lists<'a>(
+    parts: &mut [Part<'a>],
+    head: u64,
+    term: &[u8],
+    lists: &mut Vec<Postings<'a>>,
+) -> Result<(), AllocError>
+    requires { head ≡ leading 8 0 term.now }
+    ensures lists { OnOk result (concat lists.new.items ≡ concat lists.old.items ++ flat_map (λ part. head_postings part.left term.now) parts.old) }
+    ensures past { OnOk result (parts.new ≡ map (past term.now) parts.old) }
+{
+    for part in parts.iter_mut() {
+        part.take_list(head, term, lists)?;
+    }
+    Ok(())
+}
+
 /// The least term that is still to come.
-fn least_head<'a>(parts: &[Part<'a>]) -> Option<&'a [u8]>
-    ensures least { AllByRecursion (λ part. IsNoLater (option_map (λ term. term.now) result) (head_term part.left)) parts.now }
-    ensures member { IfSome result (λ term. list_any (λ part. is_headed part.left term.now) parts.now ≡ true) }
+fn least_head<'a>(parts: &[Part<'a>]) -> Option<First<'a>>
+    ensures least { AllByRecursion (λ part. IsNoLater (option_map (λ first. first.term.now) result) (head_term part.left)) parts.now }
+    ensures member { IfSome result (λ first. list_any (λ part. is_headed part.left first.term.now) parts.now ≡ true) }
+    ensures head { IfSome result IsFirst }
 {
     let mut least = None;
     for part in parts {
-        least = earlier_term(least, part.head());
+        least = part.earlier(least);
     }
     least
 }

@@ -1,12 +1,12 @@
-use Rattle.std.proofs.Common.{◌≡◌, ◌+◌, ◌-◌, ◌∷◌, [], take, drop, true, sym, ap, ◌∙◌, subst, arith}
+use Rattle.std.proofs.Common.{◌≡◌, ◌+◌, ◌-◌, ◌∷◌, [], Some, take, drop, true, sym, ap, ◌∙◌, subst, arith}
 use Rattle.std.specs.List.{AllByRecursion}
 use Rattle.std.proofs.lemmas.Result.{IfOk-weaker}
 use Rattle.index_shard.specs.Tables.{words_of}
-use Rattle.live_version.specs.Contents.{LiesIn, SlotContent, is_of_files, files_of, live_of}
-use Rattle.live_version.specs.Changes.{IsSameLive, slots_at}
+use Rattle.live_version.specs.Contents.{LiesIn, SlotContent, is_of_files, files_of, live_of, ranges_of}
+use Rattle.live_version.specs.Changes.{IsSameLive, LiesInside, slots_at, whole_range}
 use Rattle.slot_terms.specs.Parts.{IsPart}
 use Rattle.shard_merge.specs.Merged.{AreWordsOf}
-use Rattle.shard_merge.proofs.Runs.{run_lent, range_of_run, files_lie, parts_are_tables, words_of_run, words_owned, merged_words, slots_lent, same_live}
+use Rattle.shard_merge.proofs.Runs.{run_lent, range_of_run, files_lie, parts_are_tables, words_of_run, words_owned, merged_words, slots_lent, same_live, lies_inside}
 use Rattle.shard_merge.proofs.merging.merge.Goals as goal
 
 pub range_of-range-requires-clause-apart : goal.range_of-range-requires-clause-apart
@@ -52,6 +52,22 @@ new-requires-2-clause-owned c =
     c.in_ok-shard.ensures.postings in
     subst (λ ws. AllByRecursion (λ w. is_of_files c.in_ok-files.files w.address ≡ true) ws) (sym words)
     (subst (λ files. AllByRecursion (λ w. is_of_files files w.address ≡ true) (live_of slots)) (sym c.in_ok-files.ensures) (words_owned slots run.all))
+
+pub returns-clause-range : goal.returns-clause-range
+returns-clause-range c =
+    let all = c.args.version.now.slots in
+    let same = slots_lent c.slots.result.now all c.args.at c.args.count (c.args.at + c.args.count - c.args.at) c.slots.ensures.value (omega arith) in
+    let whole : whole_range (ranges_of (slots_at c.args.at c.args.count all)) ≡ Some c.range_of-range.result = ap (λ slots. whole_range (ranges_of slots)) (sym same) ∙ c.range_of-range.ensures in
+    IfOk-weaker c.new-2.result _ (λ slot. whole_range (ranges_of (slots_at c.args.at c.args.count all)) ≡ Some slot.range)
+    (λ slot is. whole ∙ ap (λ (s : SlotContent). Some s.range) (sym is)) c.new-2.ensures.value
+
+pub returns-clause-inside : goal.returns-clause-inside
+returns-clause-inside c =
+    let all = c.args.version.now.slots in
+    let same = slots_lent c.slots.result.now all c.args.at c.args.count (c.args.at + c.args.count - c.args.at) c.slots.ensures.value (omega arith) in
+    let whole : whole_range (ranges_of (slots_at c.args.at c.args.count all)) ≡ Some c.range_of-range.result = ap (λ slots. whole_range (ranges_of slots)) (sym same) ∙ c.range_of-range.ensures in
+    IfOk-weaker c.new-2.result _ (λ slot. LiesInside slot.range (whole_range (ranges_of (slots_at c.args.at c.args.count all))))
+    (λ slot is. lies_inside slot.range (whole_range (ranges_of (slots_at c.args.at c.args.count all))) (whole ∙ ap (λ (s : SlotContent). Some s.range) (sym is))) c.new-2.ensures.value
 
 pub returns-clause-words : goal.returns-clause-words
 returns-clause-words c =

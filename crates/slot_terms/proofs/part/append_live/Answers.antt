@@ -24,10 +24,10 @@ pub append-requires-2 : goal.append-requires-2
 append-requires-2 c =
     let live = alive c.args.mask.now c.args.list.now in
     let is : c.deref.result.now ≡ live = c.deref.ensures.value ∙ c.in_ok-put_live.ensures ∙ ap (λ l. l ++ live) c.new-addresses.ensures.items in
-    subst (λ l. ArePostings (c.args.postings.now ++ l)) (sym (c.in_ok-live.ensures ∙ is)) c.requires
+    subst (λ l. ArePostings (c.args.postings.now ++ l)) (sym (c.as_postings.ensures ∙ c.in_ok-live.ensures ∙ is)) c.requires
 
 pub returns : goal.returns
 returns c =
     let live = alive c.args.mask.now c.args.list.now in
     let is : c.deref.result.now ≡ live = c.deref.ensures.value ∙ c.in_ok-put_live.ensures ∙ ap (λ l. l ++ live) c.new-addresses.ensures.items in
-    subst (λ l. OnOk c.append-2.result (c.append-2.new.self ≡ c.args.postings.now ++ l)) (c.in_ok-live.ensures ∙ is) c.append-2.ensures
+    subst (λ l. OnOk c.append-2.result (c.append-2.new.self ≡ c.args.postings.now ++ l)) (c.as_postings.ensures ∙ c.in_ok-live.ensures ∙ is) c.append-2.ensures

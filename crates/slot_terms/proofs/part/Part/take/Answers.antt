@@ -1,7 +1,8 @@
-use Rattle.std.proofs.Common.{◌≡◌, ◌+◌, ◌++◌, true, false, drop, refl, sym, ap, ◌∙◌, arith, subst}
+use Rattle.std.proofs.Common.{◌≡◌, ◌++◌, true, false, drop, sym, ap, ◌∙◌, arith, subst}
 use Rattle.std.proofs.lemmas.List.{append-nil}
-use Rattle.slot_terms.specs.Parts.{PartContent, alive, is_headed, head_postings, past}
-use Rattle.slot_terms.proofs.Heads.{part_content, headed_at, headed_postings, headed_behind, unheaded_past, unheaded_postings, unheaded_behind}
+use Rattle.slot_terms.specs.Parts.{PartContent, alive, is_headed, head_postings}
+use Rattle.slot_terms.proofs.Firsts.{past_headed}
+use Rattle.slot_terms.proofs.Heads.{part_content, headed_at, headed_postings, unheaded_past, unheaded_postings, unheaded_behind}
 use Rattle.slot_terms.proofs.part.Part.take.Goals as goal
 use Rattle.slot_terms.proofs.part.Part.take.Goals.{else-self-term_count-via-then-self-term_count+else-eq, else-self-term_count-via-else-self-term_count}
 
@@ -17,7 +18,7 @@ returns-in_ok-put_live c =
           c.in_ok-put_live.ensures
           ∙ ap (λ l. out ++ alive c.self.inside.mask.now l) (c.postings.ensures.value ∙ sym (headed_postings table next term headed))
           ∙ ap (λ (p : PartContent). out ++ alive p.mask (head_postings p.left term)) c.self.view_is;
-      past = ap (part_content c.self.inside.mask.now) (sym (headed_behind table next (next + 1) term refl headed)) ∙ ap (past term) c.self.view_is;
+      past = c.step.ensures ∙ past_headed c.args.self.now term (subst (λ (p : PartContent). is_headed p.left term ≡ true) c.self.view_is headed);
     }
 
 pub returns-else-self-term_count : goal.returns-else-self-term_count

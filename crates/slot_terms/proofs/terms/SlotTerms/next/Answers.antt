@@ -6,10 +6,10 @@ use Rattle.slot_terms.proofs.terms.SlotTerms.next.Goals as goal
 
 pub returns-in-Some-clause-next : goal.returns-in-Some-clause-next
 returns-in-Some-clause-next c =
-    next_of c.args.self.now c.in-Some.term.now [] c.take.new.addresses.items c.requires c.in-Some.ensures.least c.in-Some.ensures.member refl c.in_ok-take.ensures.addresses
+    next_of c.args.self.now c.in-Some.first.term.now [] c.take.new.addresses.items c.requires c.in-Some.ensures.least c.in-Some.ensures.member refl c.in_ok-take.ensures.addresses
 
 pub returns-in-Some-clause-parts : goal.returns-in-Some-clause-parts
-returns-in-Some-clause-parts c = subst (AllByRecursion IsPart) (sym c.in_ok-take.ensures.past) (past_tables c.args.self.now c.in-Some.term.now c.requires)
+returns-in-Some-clause-parts c = subst (AllByRecursion IsPart) (sym c.in_ok-take.ensures.past) (past_tables c.args.self.now c.in-Some.first.term.now c.requires)
 
 pub returns-clause-none : goal.returns-clause-none
 returns-clause-none c = λ is term. none_left c.args.self.now term c.in_default.ensures.least

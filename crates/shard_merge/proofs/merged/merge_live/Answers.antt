@@ -1,11 +1,11 @@
-use Rattle.std.proofs.Common.{◌≡◌, ◌<◌, ◌++◌, [], ◌∷◌, length, map, IfSome, sym, subst, ap, ◌∙◌, arith}
+use Rattle.std.proofs.Common.{◌≡◌, ◌<◌, length, map, IfSome, sym, subst, ap, ◌∙◌, arith}
 use Rattle.std.proofs.lemmas.List.{nil_from_length}
 use Rattle.gcl_model.specs.Slots.{SlotRange}
 use Rattle.index_shard.specs.Tables.{ArePostingsIn}
 use Rattle.slot_terms.specs.Parts.{IsNext, entries_left, past}
 use Rattle.slot_terms.proofs.Passing.{past_fewer}
-use Rattle.shard_merge.proofs.TermByTerm.{IsMerging, left_rises, may_push, merging_begins, merging_skips, merging_pushes, merged_all}
-use Rattle.shard_merge.proofs.merged.merge_terms.Goals as goal
+use Rattle.shard_merge.proofs.TermByTerm.{IsMerging, left_rises, may_push, merging_skips, merging_pushes}
+use Rattle.shard_merge.proofs.merged.merge_live.Goals as goal
 
 pub next_packed-requires : goal.next_packed-requires
 next_packed-requires c =

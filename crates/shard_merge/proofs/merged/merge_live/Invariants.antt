@@ -1,7 +1,7 @@
 use Rattle.std.proofs.Common.{◌≡◌}
 use Rattle.slot_terms.specs.Parts.{entries_left}
 use Rattle.shard_merge.proofs.TermByTerm.{IsMerging}
-use Rattle.shard_merge.proofs.merged.merge_terms.Given as goal
+use Rattle.shard_merge.proofs.merged.merge_live.Given as goal
 
 -- the maker has the terms so far, and the rest is still to come
 abbrev pub invariant-loop-maker : goal.invariant-loop-maker

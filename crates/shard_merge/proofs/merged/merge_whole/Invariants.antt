@@ -1,0 +1,16 @@
+use Rattle.std.proofs.Common.{◌≡◌}
+use Rattle.std.specs.List.{AllByRecursion}
+use Rattle.slot_terms.specs.Parts.{IsWhole, entries_left}
+use Rattle.shard_merge.proofs.TermByTerm.{IsMerging}
+use Rattle.shard_merge.proofs.merged.merge_whole.Given as goal
+
+-- the maker has the terms so far, and the rest is still to come
+abbrev pub invariant-loop-lists : goal.invariant-loop-lists
+invariant-loop-lists l = record {
+  range : l.maker.range ≡ l.fn.range;
+  merging : IsMerging l.fn.terms l.terms l.maker.table;
+  whole : AllByRecursion IsWhole l.terms;
+}
+
+abbrev pub decreases-loop-lists : goal.decreases-loop-lists
+decreases-loop-lists l = entries_left l.terms
