@@ -1,23 +1,27 @@
 -- What a chain's own access in a direction is, by those of its operands.
 use Rattle.std.proofs.Common.{◌≡◌, ℕ, ◌≤◌, List, [], ◌∷◌, ◌++◌, Option, Some, None, min, max, refl, sym, ap, ◌∙◌, arith}
+use Rattle.std.proofs.Math.Path.{fun_ext}
 use Rattle.std.specs.Option.{option_map, option_and_then}
 use Rattle.gcl_model.specs.Extents.{Extent}
 use Rattle.gcl_model.specs.Texts.{Text}
 use Rattle.gcl_model.specs.Forms.{Forms, both, one, seq, forms_count}
 use Rattle.gcl_model.specs.Meaning.{concordance, operands}
-use Rattle.gcl_model.specs.Access.{first_start, last_end}
+use Rattle.gcl_model.specs.Access.{first_start, first_end, last_end, last_start}
 use Rattle.gcl_combine.specs.Farthest.{end_so_far, start_so_far}
 use Rattle.gcl_combine.proofs.BothOf.{first_start-both_so_far, last_end-both_so_far}
 use Rattle.gcl_combine.proofs.OneOf.{first_start-one, last_end-one}
-use Rattle.gcl_order.specs.Walks.{last_before, walk_backward}
+use Rattle.gcl_order.specs.Walks.{last_before, walk_forward, walk_backward, forward_again, back_again}
 use Rattle.gcl_order.proofs.SeqAccess.{seq_forward, seq_backward}
-use Rattle.gcl_eval.specs.Directions.{near_access, opposite, beside, farther, farthest, IsAsFar, between, better, best, beyond, walk, join}
+use Rattle.gcl_order.proofs.SeqFarAccess.{seq_from_last, seq_from_first}
+use Rattle.gcl_model.specs.Directions.{near_access, opposite, farther, IsAsFar, between, far_access, far_side}
+use Rattle.gcl_combine.specs.Directions.{farthest, better, best}
+use Rattle.gcl_eval.specs.Directions.{beside, beyond, walk, join, on_again}
 use Rattle.gcl_model.specs.declared.direction.Direction.{Direction}
 use Rattle.gcl_model.specs.declared.direction.Direction.TheVariants.{Forward, Backward}
 
 -- both of
 pub farthest-cons : (direction : Direction) (list : List Extent) (lists : List (List Extent)) (k side : ℕ) →
-    farthest direction (list ∷ lists) k side ≡ option_and_then (λ a. farthest direction lists k (farther direction side a)) (near_access direction list k)
+    farthest direction (list ∷ lists) k side ≡ option_and_then (λ a. farthest direction lists k (farther direction side (far_side direction a))) (near_access direction list k)
 farthest-cons Forward list lists k side = refl
 farthest-cons Backward list lists k side = refl
 
@@ -86,3 +90,23 @@ pub near_access-seq : (direction : Direction) (text : Text) (forms : Forms) (nea
     ≡ option_and_then (λ far. option_map (λ near. join direction near far) (walk (opposite direction) before far)) (option_and_then (walk direction after) (near_access direction nearest k))
 near_access-seq Forward text forms nearest farthest after before as_near as_far k = seq_forward text forms nearest farthest after before as_near as_far k
 near_access-seq Backward text forms nearest farthest after before as_near as_far k = seq_backward text forms farthest nearest before after as_far as_near k
+
+-- followed by, by the far sides
+on_again-forward : (node : List Extent) (after : List (List Extent)) (first next k : ℕ) (o : Option Extent) → forward_again node after first k o ≡ on_again Forward node after first next k o
+on_again-forward node after first next k None = refl
+on_again-forward node after first next k (Some near) = refl
+
+on_again-backward : (node : List Extent) (after : List (List Extent)) (first next k : ℕ) (o : Option Extent) → back_again node after next k o ≡ on_again Backward node after first next k o
+on_again-backward node after first next k None = refl
+on_again-backward node after first next k (Some near) = refl
+
+pub far_access-seq : (direction : Direction) (text : Text) (forms : Forms) (nearest farthest : List Extent) (after before : List (List Extent)) →
+    operands text forms ≡ beside direction nearest after → operands text forms ≡ beside (opposite direction) farthest before → (k : ℕ) →
+    far_access direction (concordance text (seq forms)) k
+    ≡ option_and_then (λ found. on_again direction (concordance text (seq forms)) after text.first text.next k (walk (opposite direction) before found)) (far_access direction farthest k)
+far_access-seq Forward text forms nearest farthest after before as_near as_far k =
+    seq_from_last text forms nearest farthest after before as_near as_far k
+    ∙ ap (λ f. option_and_then f (first_end farthest k)) (fun_ext (λ found. on_again-forward (concordance text (seq forms)) after text.first text.next k (walk_backward before found)))
+far_access-seq Backward text forms nearest farthest after before as_near as_far k =
+    seq_from_first text forms farthest nearest before after as_far as_near k
+    ∙ ap (λ f. option_and_then f (last_start farthest k)) (fun_ext (λ found. on_again-backward (concordance text (seq forms)) after text.first text.next k (walk_forward before found)))

@@ -13,7 +13,9 @@ use Rattle.gcl_model.proofs.Minimal.{same_truth}
 use Rattle.gcl_model.proofs.Meanings.{concordance_rises}
 use Rattle.gcl_model.proofs.Other.{first_end_after, first_end_first}
 use Rattle.gcl_order.specs.Walks.{address_before}
-use Rattle.gcl_eval.specs.Directions.{near_access, far_access, passed, resume}
+use Rattle.gcl_order.proofs.SeqFarAccess.{last_start_all}
+use Rattle.gcl_model.specs.Directions.{near_access, far_access}
+use Rattle.gcl_eval.specs.Directions.{passed, resume}
 use Rattle.gcl_model.specs.declared.direction.Direction.{Direction}
 use Rattle.gcl_model.specs.declared.direction.Direction.TheVariants.{Forward, Backward}
 use Rattle.gcl_eval.proofs.Found.{member_of_text}
@@ -63,11 +65,6 @@ all_start_by list r k is c m =
       | inl lt ↦ let from : k + 1 ≤ c.start = omega arith in absurd (true≢false (sym (covered_from list c (extent (k + 1) c.end) m (from, le_refl c.end)) ∙ covers_by_first_start list r (k + 1) c.end ∙ ap (λ o. ends_by o c.end) is))
       | inr ge ↦ ge
     ]
-
-last_start_all : (list : List Extent) (next k : ℕ) → ((c : Extent) → Has list c → (c.start ≤ k) × (c.end < next)) → last_start list k ≡ option_and_then (last_end list) (address_before next)
-last_start_all [] zero k all = refl
-last_start_all (x ∷ xs) zero k all = let h = (all x (inl refl)).1 in absurd (omega arith)
-last_start_all list (suc v) k all = find_last_agree_on (λ a. leb a.start k) (λ a. leb a.end v) list (λ c m. let h = all c m in let s : c.start ≤ k = h.0 in let e : c.end < suc v = h.1 in le-leb c.start k s ∙ sym (le-leb c.end v (omega arith)))
 
 last_start_before : (list : List Extent) → IsRising list → (k : ℕ) (a : Extent) → first_start list (k + 1) ≡ Some a → a.start ≤ a.end → (n : ℕ) → a.end ≡ n → last_start list k ≡ option_and_then (last_end list) (address_before n)
 last_start_before list r k a is proper zero end =

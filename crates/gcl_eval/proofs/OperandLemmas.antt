@@ -11,7 +11,8 @@ use Rattle.gcl_model.specs.Meaning.{concordance}
 use Rattle.gcl_model.specs.Cost.{cost}
 use Rattle.gcl_model.proofs.FormLemmas.{form_of-Both, form_of-One, form_of-Seq}
 use Rattle.gcl_eval.specs.Operands.{operand_forms, operand_lists, operand_costs}
-use Rattle.gcl_eval.specs.Directions.{near_access, beside}
+use Rattle.gcl_model.specs.Directions.{near_access, far_access}
+use Rattle.gcl_eval.specs.Directions.{beside}
 use Rattle.gcl_model.specs.declared.direction.Direction.{Direction}
 use Rattle.gcl_model.specs.declared.direction.Direction.TheVariants.{Forward, Backward}
 
@@ -75,3 +76,7 @@ form-Seq e v exprs is same = ap form_of is ∙ form_of-Seq v ∙ ap (λ es. seq 
 pub by_form-near : (e : Expr) (form : Form) → form_of e ≡ form → (direction : Direction) (text : Text) (k : ℕ) (o : Option Extent) → o ≡ near_access direction (concordance text form) k →
     o ≡ near_access direction (concordance text (form_of e)) k
 by_form-near e form is direction text k o found = found ∙ ap (λ f. near_access direction (concordance text f) k) (sym is)
+
+pub by_form-far : (e : Expr) (form : Form) → form_of e ≡ form → (direction : Direction) (text : Text) (k : ℕ) (o : Option Extent) → o ≡ far_access direction (concordance text form) k →
+    o ≡ far_access direction (concordance text (form_of e)) k
+by_form-far e form is direction text k o found = found ∙ ap (λ f. far_access direction (concordance text f) k) (sym is)

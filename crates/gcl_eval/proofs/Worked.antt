@@ -1,5 +1,5 @@
 -- The accesses by the far sides by those by the near ones, what a chain does in a direction, and what accesses may cost.
-use Rattle.std.specs.Prelude.{◌≡◌, ℕ, List, [], ◌∷◌, Some, None, codes}
+use Rattle.std.specs.Prelude.{◌≡◌, ℕ, List, [], ◌∷◌, Some, None, true, false, codes}
 use Rattle.std.proofs.Common.{refl}
 use Rattle.gcl_model.specs.Extents.{Extent, extent}
 use Rattle.gcl_model.specs.Texts.{Text}
@@ -7,7 +7,9 @@ use Rattle.gcl_model.specs.Forms.{Form, term, both, seq, contained_in, no_forms,
 use Rattle.gcl_model.specs.Cost.{cost}
 use Rattle.gcl_eval.specs.Costs.{cost_in, near_cost}
 use Rattle.gcl_eval.specs.Members.{members_from}
-use Rattle.gcl_eval.specs.Directions.{access_of, beside, farthest, between, best, walk, join, outside, passed, resume}
+use Rattle.gcl_model.specs.Directions.{between}
+use Rattle.gcl_combine.specs.Directions.{farthest, best}
+use Rattle.gcl_eval.specs.Directions.{access_of, beside, walk, join, reaches, outside, passed, resume, next_past, on_again}
 use Rattle.gcl_eval.specs.declared.direction.Access.TheVariants.{FirstEnd, LastStart}
 use Rattle.gcl_model.specs.declared.direction.Direction.TheVariants.{Forward, Backward}
 
@@ -71,6 +73,27 @@ walk-forward = refl
 
 join-backward : join Backward (extent 4 4) (extent 1 2) ≡ extent 1 4
 join-backward = refl
+
+-- (4, 4) reaches back to 4 and not to 3
+reaches-backward : reaches Backward 4 (extent 4 4) ≡ true
+reaches-backward = refl
+
+reaches-short : reaches Backward 3 (extent 4 4) ≡ false
+reaches-short = refl
+
+-- of (1, 2) and (5, 6): the next member past (1, 1), and from the edge
+next_past-one : next_past Forward (extent 1 2 ∷ extent 5 6 ∷ []) 0 8 (Some (extent 1 1)) ≡ Some (extent 5 6)
+next_past-one = refl
+
+next_past-edge : next_past Backward (extent 1 2 ∷ extent 5 6 ∷ []) 0 8 None ≡ Some (extent 5 6)
+next_past-edge = refl
+
+-- on from (5, 5) to (6, 6), which reaches 3; and from (1, 1) to (2, 2), which does not
+on_again-reached : on_again Forward (extent 1 2 ∷ extent 5 6 ∷ []) ((extent 2 2 ∷ extent 6 6 ∷ []) ∷ []) 0 8 3 (Some (extent 5 5)) ≡ Some (extent 5 6)
+on_again-reached = refl
+
+on_again-short : on_again Forward (extent 1 2 ∷ []) ((extent 2 2 ∷ extent 6 6 ∷ []) ∷ []) 0 8 3 (Some (extent 1 1)) ≡ None
+on_again-short = refl
 
 outside-at_3 : outside Forward 8 3 ≡ Some 2
 outside-at_3 = refl

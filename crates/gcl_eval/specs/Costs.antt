@@ -18,7 +18,7 @@ cost_in rounds text most form = cost text most form
 abbrev pub near_cost : Text → ℕ → Form → ℕ
 near_cost = cost_in 2
 
--- how many rounds an access of a chain takes at most: `first_end` asks for the last member before, and for the next one
+-- how many rounds an access of a chain takes at most: `first_end` finds where to go on in two, and the next member in two more
 abbrev pub rounds : Access → ℕ
 rounds FirstStart = 2
 rounds FirstEnd = 4

@@ -1,12 +1,11 @@
 -- The accesses, and what a chain does, by the direction in which its operands are gone through.
 -- Going forward, the near side of a member is its start and the far side its end; going backward it is the other way round.
-use Rattle.std.specs.Prelude.{◌≤◌, ℕ, ◌+◌, List, [], ◌∷◌, ◌++◌, Option, Some, None, min, max, nat_lt, if◌then◌else◌}
+use Rattle.std.specs.Prelude.{◌≤◌, ℕ, ◌+◌, List, [], ◌∷◌, ◌++◌, Option, Some, None, nat_le, nat_lt, Bool, if◌then◌else◌}
 use Rattle.std.specs.Option.{option_and_then}
-use Rattle.gcl_model.specs.Extents.{Extent, extent}
+use Rattle.gcl_model.specs.Extents.{Extent}
 use Rattle.gcl_model.specs.Texts.{Word, next_place, previous_place}
+use Rattle.gcl_model.specs.Directions.{near_access, opposite}
 use Rattle.gcl_model.specs.Access.{first_start, first_end, last_end, last_start}
-use Rattle.gcl_combine.specs.Farthest.{end_so_far, start_so_far}
-use Rattle.gcl_combine.specs.Better.{nearer, nearer_back, best_forward, best_backward}
 use Rattle.gcl_order.specs.Walks.{address_before, joined, walk_forward, walk_backward}
 use Rattle.gcl_model.specs.declared.direction.Direction.{Direction}
 use Rattle.gcl_model.specs.declared.direction.Direction.TheVariants.{Forward, Backward}
@@ -34,55 +33,10 @@ direction_of FirstEnd = Forward
 direction_of LastEnd = Backward
 direction_of LastStart = Backward
 
--- the other way: of forward it is backward
-abbrev pub opposite : Direction → Direction
-opposite Forward = Backward
-opposite Backward = Forward
-
--- the access by the near sides, which a chain has by those of its operands: forward, of (1, 2) and (5, 6) at 2 it gives (5, 6)
-abbrev pub near_access : Direction → List Extent → ℕ → Option Extent
-near_access Forward = first_start
-near_access Backward = last_end
-
--- the access by the far sides, which a chain has by its near ones: forward, of (1, 2) and (5, 6) at 2 it gives (1, 2)
-abbrev pub far_access : Direction → List Extent → ℕ → Option Extent
-far_access Forward = first_end
-far_access Backward = last_start
-
 -- a list in which x comes before the others in this direction: backward, 3 beside 1, 2 gives 1, 2, 3
 abbrev pub beside : {X : Type 0} → Direction → X → List X → List X
 beside Forward x others = x ∷ others
 beside Backward x others = others ++ x ∷ []
-
--- both of: the farther of a place and of the far side of an answer; forward, of 4 and (1, 6) it is 6
-abbrev pub farther : Direction → ℕ → Extent → ℕ
-farther Forward so_far a = max so_far a.end
-farther Backward so_far a = min so_far a.start
-
--- the farthest of a place and of the far sides of the lists' answers at k; forward, of 4 and the answers (1, 6) and (2, 3) it is 6
-abbrev pub farthest : Direction → List (List Extent) → (k so_far : ℕ) → Option ℕ
-farthest Forward = end_so_far
-farthest Backward = start_so_far
-
--- v lies as far as u in this direction, or farther: forward, 4 lies as far as 3
-abbrev pub IsAsFar : Direction → ℕ → ℕ → Type 0
-IsAsFar Forward u v = u ≤ v
-IsAsFar Backward u v = v ≤ u
-
--- the interval with these sides: backward, from the near side 6 to the far side 4 it is (4, 6)
-abbrev pub between : Direction → ℕ → ℕ → Extent
-between Forward near far = extent near far
-between Backward near far = extent far near
-
--- one of: the answer that comes first in this direction; forward, of (1, 6) and (2, 4) it is (2, 4)
-abbrev pub better : Direction → Option Extent → Option Extent → Option Extent
-better Forward = nearer
-better Backward = nearer_back
-
--- the best of an answer and of the lists' answers at k; forward, of none, (2, 5) and (3, 4) it is (3, 4)
-abbrev pub best : Direction → List (List Extent) → ℕ → Option Extent → Option Extent
-best Forward = best_forward
-best Backward = best_backward
 
 -- followed by: where the operand after this answer is asked, if anywhere; forward, after (1, 2) it is 3
 abbrev pub beyond : Direction → Extent → Option ℕ
@@ -104,6 +58,11 @@ abbrev pub CanJoin : Direction → Extent → Extent → Type 0
 CanJoin Forward near far = near.start ≤ far.end
 CanJoin Backward near far = far.start ≤ near.end
 
+-- the far side of an answer lies at k or beyond: forward, (1, 2) reaches 2, and backward it reaches 1
+abbrev pub reaches : Direction → ℕ → Extent → Bool
+reaches Forward k a = nat_le k a.end
+reaches Backward k a = nat_le a.start k
+
 -- where the nearest member that the access by the far sides at k passes over is looked for, if anywhere: forward at 3 up to 2
 abbrev pub outside : Direction → (next k : ℕ) → Option ℕ
 outside Forward next k = address_before k
@@ -119,3 +78,15 @@ resume Forward first next None = Some first
 resume Forward first next (Some a) = Some (a.start + 1)
 resume Backward first next None = address_before next
 resume Backward first next (Some a) = address_before a.end
+
+-- followed by: the node's next member past the near side of this one, or from the edge of the text where there is none:
+-- forward, of (1, 2) and (5, 6) past (1, 1) it is (5, 6)
+abbrev pub next_past : Direction → (node : List Extent) → (first next : ℕ) → Option Extent → Option Extent
+next_past direction node first next near = option_and_then (near_access direction node) (resume direction first next near)
+
+-- followed by: on again from where a way back ended, joined with where that leads if it reaches k, and else the node's next
+-- member past it; forward, from (5, 5) through a list of (6, 6) it is (5, 6) at 3
+abbrev pub on_again : Direction → (node : List Extent) → (after : List (List Extent)) → (first next k : ℕ) → Option Extent → Option Extent
+on_again direction node after first next k None = next_past direction node first next None
+on_again direction node after first next k (Some near) =
+    option_and_then (λ far. if reaches direction k far then Some (join direction near far) else next_past direction node first next (Some near)) (walk direction after near)

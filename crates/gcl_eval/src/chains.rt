@@ -7,12 +7,14 @@ ghost use Rattle.gcl_model.specs.Cost.{cost};
 ghost use Rattle.gcl_model.specs.WellFormed.{IsWellFormed, AreWellFormed};
 ghost use Rattle.gcl_eval.specs.Costs.{cost_in, near_cost, rounds};
 ghost use Rattle.gcl_eval.specs.Operands.{operand_forms, operand_lists, operand_costs, IsChain, AreOperands};
-ghost use Rattle.gcl_eval.specs.Directions.{access_of, near_access, far_access, farthest, walk, passed};
+ghost use Rattle.gcl_model.specs.Directions.{near_access, far_access};
+ghost use Rattle.gcl_combine.specs.Directions.{farthest};
+ghost use Rattle.gcl_eval.specs.Directions.{access_of, walk, passed, next_past};
 
 use crate::access::access;
 use crate::direction::{
-    Access, access_by_near_sides, better, between, beyond, farther, join, next_operand, opposite,
-    outside, resume,
+    Access, access_by_far_sides, access_by_near_sides, better, between, beyond, farther, join,
+    next_operand, opposite, outside, reaches, resume,
 };
 use gcl_model::{CountedLeaves, Direction, Expr, Interval};
 
@@ -40,9 +42,31 @@ pub(crate) fn chain_access<C: CountedLeaves>(
     }
 }
 
-/// The access by the far sides: on from the nearest member that it passes over.
+/// The access by the far sides.
 #[cycle(access)]
 fn far_access<C: CountedLeaves>(
+    expr: &Expr,
+    direction: Direction,
+    source: &C,
+    k: u64,
+    counter: &mut C::Counter,
+) -> Option<Interval>
+    requires chain { IsChain (form_of expr.now) }
+    requires well_formed { IsWellFormed (form_of expr.now) }
+    requires below { k < far }
+    ensures answer { result ≡ far_access direction (concordance (C.text source.now) (form_of expr.now)) k }
+    ensures counted { C.count counter.old ≤ C.count counter.new }
+    ensures cost { C.count counter.new ≤ C.count counter.old + cost (C.text source.now) (C.most source.now) (form_of expr.now) }
+{
+    match expr {
+        Expr::Seq(operands) => followed_by_far_sides(operands, direction, source, k, counter),
+        _ => past_passed(expr, direction, source, k, counter),
+    }
+}
+
+/// The access by the far sides of any chain: on from the nearest member that it passes over.
+#[cycle(access)]
+fn past_passed<C: CountedLeaves>(
     expr: &Expr,
     direction: Direction,
     source: &C,
@@ -195,6 +219,57 @@ fn followed_by<C: CountedLeaves>(
     let far = walk(after_nearest, direction, source, found, counter)?;
     let near = walk(before_farthest, opposite(direction), source, far, counter)?;
     Some(join(direction, near, far))
+}
+
+/// "Followed by", by the far sides: from the last operand's answer back through the others, and on again. A way on that
+/// reaches `k` ends where the way back began, and is the member; else the member is the next one past its near side.
+#[cycle(access)]
+fn followed_by_far_sides<C: CountedLeaves>(
+    operands: &[Expr],
+    direction: Direction,
+    source: &C,
+    k: u64,
+    counter: &mut C::Counter,
+) -> Option<Interval>
+    requires operands { AreOperands (operand_forms operands.now) }
+    requires below { k < far }
+    ensures answer { result ≡ far_access direction (concordance (C.text source.now) (seq (operand_forms operands.now))) k }
+    ensures counted { C.count counter.old ≤ C.count counter.new }
+    ensures cost { C.count counter.new ≤ C.count counter.old + 4 * operand_costs (C.text source.now) (C.most source.now) operands.now }
+{
+    let (_, after_nearest) = next_operand(direction, operands)?;
+    let (farthest, before_farthest) = next_operand(opposite(direction), operands)?;
+    let found = access(farthest, access_by_far_sides(direction), source, k, counter)?;
+    match walk(before_farthest, opposite(direction), source, found, counter) {
+        None => next_past(operands, direction, source, None, counter),
+        Some(near) => {
+            let far = walk(after_nearest, direction, source, near, counter)?;
+            if reaches(direction, k, far) {
+                Some(join(direction, near, far))
+            } else {
+                next_past(operands, direction, source, Some(near), counter)
+            }
+        }
+    }
+}
+
+/// "Followed by": the next member past the near side of this one, or from the text's edge.
+#[cycle(access)]
+fn next_past<C: CountedLeaves>(
+    operands: &[Expr],
+    direction: Direction,
+    source: &C,
+    near: Option<Interval>,
+    counter: &mut C::Counter,
+) -> Option<Interval>
+    requires operands { AreOperands (operand_forms operands.now) }
+    requires within { IfSome near (λ a. a.end < address_end) }
+    ensures answer { result ≡ next_past direction (concordance (C.text source.now) (seq (operand_forms operands.now))) (C.text source.now).first (C.text source.now).next near }
+    ensures counted { C.count counter.old ≤ C.count counter.new }
+    ensures cost { C.count counter.new ≤ C.count counter.old + 2 * operand_costs (C.text source.now) (C.most source.now) operands.now }
+{
+    let from = resume(direction, source.span(), near)?;
+    followed_by(operands, direction, source, from, counter)
 }
 
 /// On from an answer: each operand's answer beyond that of the one before it, up to the last one's.

@@ -1,6 +1,8 @@
 ghost use Rattle.std.specs.Prelude.{◌≡◌, ◌<◌, [], MatchOption, IfSome};
 ghost use Rattle.gcl_model.specs.Limits.{address_end, far};
-ghost use Rattle.gcl_eval.specs.Directions.{access_of, direction_of, near_access, opposite, beside, farther, IsAsFar, between, better, beyond, join, CanJoin, outside, resume};
+ghost use Rattle.gcl_model.specs.Directions.{near_access, far_access, opposite, farther, IsAsFar, between, far_side};
+ghost use Rattle.gcl_combine.specs.Directions.{better};
+ghost use Rattle.gcl_eval.specs.Directions.{access_of, direction_of, beside, beyond, join, CanJoin, reaches, outside, resume};
 
 use gcl_combine::{both_backward_start, both_forward_end, one_backward, one_forward};
 use gcl_model::{Direction, Expr, Interval, Span};
@@ -46,6 +48,16 @@ pub(crate) fn access_by_near_sides(direction: Direction) -> Access
     }
 }
 
+/// The access of the last operand of "followed by" that its access by the far sides asks.
+pub(crate) fn access_by_far_sides(direction: Direction) -> Access
+    ensures { access_of result ≡ far_access direction }
+{
+    match direction {
+        Direction::Forward => Access::FirstEnd,
+        Direction::Backward => Access::LastStart,
+    }
+}
+
 /// The operand that comes next, and the others.
 pub(crate) fn next_operand(direction: Direction, operands: &[Expr]) -> Option<(&Expr, &[Expr])>
     ensures { MatchOption result (operands.now ≡ []) (λ p. operands.now ≡ beside direction p.0.now p.1.now) }
@@ -58,7 +70,7 @@ pub(crate) fn next_operand(direction: Direction, operands: &[Expr]) -> Option<(&
 
 /// The farther of the place so far and the far side of the answer.
 pub(crate) fn farther(direction: Direction, so_far: u64, answer: Interval) -> u64
-    ensures { result ≡ farther direction so_far answer }
+    ensures { result ≡ farther direction so_far (far_side direction answer) }
 {
     match direction {
         Direction::Forward => both_forward_end(so_far, answer),
@@ -109,6 +121,16 @@ pub(crate) fn join(direction: Direction, near: Interval, far: Interval) -> Inter
     match direction {
         Direction::Forward => seq_join(near, far),
         Direction::Backward => seq_join(far, near),
+    }
+}
+
+/// Whether the far side of the answer lies at `k` or beyond.
+pub(crate) fn reaches(direction: Direction, k: u64, answer: Interval) -> bool
+    ensures { result ≡ reaches direction k answer }
+{
+    match direction {
+        Direction::Forward => k <= answer.end,
+        Direction::Backward => answer.start <= k,
     }
 }
 

@@ -100,7 +100,7 @@ seq_reaches m lists rm r cover = record {
   backward_is = λ u w. cover (extent u w) ∙ in_order_backward lists r u w;
 }
 
-seq_node : (text : Text) (forms : Forms) → 1 ≤ forms_count forms → Reaches (concordance text (seq forms)) (seq_end (operands text forms)) (seq_start (operands text forms))
+pub seq_node : (text : Text) (forms : Forms) → 1 ≤ forms_count forms → Reaches (concordance text (seq forms)) (seq_end (operands text forms)) (seq_start (operands text forms))
 seq_node text no_forms some = absurd (omega arith)
 seq_node text (more_forms form forms) some =
     seq_reaches (concordance text (seq (more_forms form forms))) (operands text (more_forms form forms))

@@ -1,3 +1,4 @@
 pub mod InOrder
 pub mod SeqAccess
+pub mod SeqFarAccess
 mod Worked

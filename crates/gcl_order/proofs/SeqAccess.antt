@@ -14,7 +14,7 @@ use Rattle.gcl_order.proofs.InOrder.{seq_end, start_before, seq_start, first_sta
 use Rattle.gcl_order.specs.Walks.{address_before, joined, last_before, walk_forward, walk_backward, forward_and_back, back_and_forward}
 
 -- a member is the first from its start on, and the last up to its end
-within_member : (list : List Extent) → IsRising list → (a : Extent) → Has list a → (u v : ℕ) → a.start ≤ u → v ≤ a.end → covers list (extent u v) ≡ true → (u ≤ a.start) × (a.end ≤ v)
+pub within_member : (list : List Extent) → IsRising list → (a : Extent) → Has list a → (u v : ℕ) → a.start ≤ u → v ≤ a.end → covers list (extent u v) ≡ true → (u ≤ a.start) × (a.end ≤ v)
 within_member list r a m u v le ge e =
     let c = covered_tells list (extent u v) e in
     let x : u ≤ c.by.start = c.nested.0 in
@@ -96,11 +96,11 @@ seq_start-walk (list ∷ front) last v a is =
     later (Some b) = refl
 
 -- a walk forward ends at a member of the last list
-walk_on : (lists : List (List Extent)) (o : Option Extent) (t : Extent) → option_and_then (walk_forward lists) o ≡ Some t → (b : Extent) × (o ≡ Some b) × (walk_forward lists b ≡ Some t)
+pub walk_on : (lists : List (List Extent)) (o : Option Extent) (t : Extent) → option_and_then (walk_forward lists) o ≡ Some t → (b : Extent) × (o ≡ Some b) × (walk_forward lists b ≡ Some t)
 walk_on lists None t e = absurd cc
 walk_on lists (Some b) t e = (b, refl, e)
 
-forward_member : (front : List (List Extent)) (first : List Extent) (rest : List (List Extent)) (last : List Extent) (a t : Extent) →
+pub forward_member : (front : List (List Extent)) (first : List Extent) (rest : List (List Extent)) (last : List Extent) (a t : Extent) →
     first ∷ rest ≡ front ++ last ∷ [] → Has first a → walk_forward rest a ≡ Some t → Has last t
 forward_member [] first [] last a t e m w = let is : first ≡ last = cc in let at : a ≡ t = cc in subst (λ l. Has l t) is (subst (Has first) at m)
 forward_member [] first (r ∷ rest) last a t e m w = absurd cc
@@ -120,34 +120,37 @@ last_before-gives : (list : List Extent) (o : Option Extent) (h : Extent) → op
 last_before-gives list None h e = absurd cc
 last_before-gives list (Some b) h e = before_gives list (address_before b.start) h e
 
-backward_member : (front : List (List Extent)) (first : List Extent) (rest : List (List Extent)) (last : List Extent) (a h : Extent) →
+pub backward_member : (front : List (List Extent)) (first : List Extent) (rest : List (List Extent)) (last : List Extent) (a h : Extent) →
     first ∷ rest ≡ front ++ last ∷ [] → Has last a → walk_backward front a ≡ Some h → Has first h
 backward_member [] first rest last a h e m w = let is : first ≡ last = cc in let at : a ≡ h = cc in subst (λ l. Has l h) (sym is) (subst (Has last) at m)
 backward_member (x ∷ front) first rest last a h e m w = let is : x ≡ first = cc in subst (λ l. Has l h) is (last_before-gives x (walk_backward front a) h w)
 
-some_forms : (text : Text) (forms : Forms) (first : List Extent) (rest : List (List Extent)) → operands text forms ≡ first ∷ rest → 1 ≤ forms_count forms
+pub some_forms : (text : Text) (forms : Forms) (first : List Extent) (rest : List (List Extent)) → operands text forms ≡ first ∷ rest → 1 ≤ forms_count forms
 some_forms text no_forms first rest e = absurd cc
 some_forms text (more_forms form forms) first rest e = omega arith
 
-rise_at : (lists : List (List Extent)) → AreRising lists → (front : List (List Extent)) (last : List Extent) → lists ≡ front ++ last ∷ [] → IsRising last
+pub rise_at : (lists : List (List Extent)) → AreRising lists → (front : List (List Extent)) (last : List Extent) → lists ≡ front ++ last ∷ [] → IsRising last
 rise_at [] r [] last e = absurd cc
 rise_at [] r (x ∷ front) last e = absurd cc
 rise_at (list ∷ lists) r [] last e = let is : list ≡ last = cc in subst IsRising is r.0
 rise_at (list ∷ lists) r (x ∷ front) last e = let later : lists ≡ front ++ last ∷ [] = cc in rise_at lists r.1 front last later
 
-rise_first : (lists : List (List Extent)) → AreRising lists → (first : List Extent) (rest : List (List Extent)) → lists ≡ first ∷ rest → IsRising first
+pub rise_first : (lists : List (List Extent)) → AreRising lists → (first : List Extent) (rest : List (List Extent)) → lists ≡ first ∷ rest → IsRising first
 rise_first [] r first rest e = absurd cc
 rise_first (list ∷ lists) r first rest e = let is : list ≡ first = cc in subst IsRising is r.0
 
 module _ (text : Text) (forms : Forms) (first last : List Extent) (rest front : List (List Extent)) (as_first : operands text forms ≡ first ∷ rest) (as_last : operands text forms ≡ front ++ last ∷ []) where
-  -- the start that is found back from the end of a tail
+  -- the start that is found back from the end of a member of the last list
+  pub start_back : (t : Extent) → Has last t → seq_start (operands text forms) t.end ≡ start_of (walk_backward front t)
+  start_back t m =
+      ap (λ lists. seq_start lists t.end) as_last
+      ∙ seq_start-walk front last t.end (Some t) (last_end-member last (rise_at (operands text forms) (operands_rise text forms) front last as_last) t m)
+
   start_from : (k : ℕ) (o : Option Extent) → first_start first k ≡ o → (t : Extent) → option_and_then (walk_forward rest) o ≡ Some t → seq_start (operands text forms) t.end ≡ start_of (walk_backward front t)
   start_from k o is t e =
       let on = walk_on rest o t e in
       let m = find_gives (λ y. leb k y.start) first on.0 (is ∙ on.1) in
-      let tail = forward_member front first rest last on.0 t (sym as_first ∙ as_last) m.0 on.2 in
-      ap (λ lists. seq_start lists t.end) as_last
-      ∙ seq_start-walk front last t.end (Some t) (last_end-member last (rise_at (operands text forms) (operands_rise text forms) front last as_last) t tail)
+      start_back t (forward_member front first rest last on.0 t (sym as_first ∙ as_last) m.0 on.2)
 
   join_head : (t : Extent) (h : Option Extent) → option_map (λ u. extent u t.end) (start_of h) ≡ option_map (λ head. joined head t) h
   join_head t None = refl
@@ -164,15 +167,18 @@ module _ (text : Text) (forms : Forms) (first last : List Extent) (rest front : 
       ∙ ap (option_and_then (λ v. option_map (λ u. extent u v) (seq_start (operands text forms) v))) (ap (λ lists. seq_end lists k) as_first ∙ seq_end-first first rest k)
       ∙ forward_cases k (option_and_then (walk_forward rest) (first_start first k)) refl
 
-  -- the end that is found on from the start of a head
+  -- the end that is found on from the start of a member of the first list
+  pub end_on : (h : Extent) → Has first h → seq_end (operands text forms) h.start ≡ end_of (walk_forward rest h)
+  end_on h m =
+      ap (λ lists. seq_end lists h.start) as_first
+      ∙ seq_end-first first rest h.start
+      ∙ ap (λ o. end_of (option_and_then (walk_forward rest) o)) (first_start-member first (rise_first (operands text forms) (operands_rise text forms) first rest as_first) h m)
+
   end_from : (k : ℕ) (o : Option Extent) → last_end last k ≡ o → (h : Extent) → option_and_then (walk_backward front) o ≡ Some h → seq_end (operands text forms) h.start ≡ end_of (walk_forward rest h)
   end_from k None is h e = absurd cc
   end_from k (Some a) is h e =
       let m = find_last_gives (λ y. leb y.end k) last a is in
-      let head = backward_member front first rest last a h (sym as_first ∙ as_last) m.0 e in
-      ap (λ lists. seq_end lists h.start) as_first
-      ∙ seq_end-first first rest h.start
-      ∙ ap (λ o. end_of (option_and_then (walk_forward rest) o)) (first_start-member first (rise_first (operands text forms) (operands_rise text forms) first rest as_first) h head)
+      end_on h (backward_member front first rest last a h (sym as_first ∙ as_last) m.0 e)
 
   join_tail : (h : Extent) (t : Option Extent) → option_map (λ v. extent h.start v) (end_of t) ≡ option_map (λ tail. joined h tail) t
   join_tail h None = refl

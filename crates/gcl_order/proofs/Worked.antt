@@ -2,7 +2,7 @@
 use Rattle.std.specs.Prelude.{◌≡◌, List, [], ◌∷◌, Some, None}
 use Rattle.std.proofs.Common.{refl}
 use Rattle.gcl_model.specs.Extents.{Extent, extent}
-use Rattle.gcl_order.specs.Walks.{joined, address_before, last_before, walk_forward, walk_backward, forward_and_back, back_and_forward}
+use Rattle.gcl_order.specs.Walks.{joined, address_before, last_before, walk_forward, walk_backward, forward_and_back, back_and_forward, from_last, from_first}
 
 abbrev to : List Extent
 to = extent 1 1 ∷ extent 5 5 ∷ []
@@ -50,3 +50,36 @@ be_to-up_to_6 = refl
 
 be_to-up_to_4 : back_and_forward to (to ∷ []) (be ∷ []) 4 ≡ None
 be_to-up_to_4 = refl
+
+-- from the last "be": the way back and forward again ends where it began
+abbrev to_be : List Extent
+to_be = extent 1 2 ∷ extent 5 6 ∷ []
+
+to_be-ends_at_3 : from_last to_be be (be ∷ []) (to ∷ []) 0 3 ≡ Some (extent 5 6)
+to_be-ends_at_3 = refl
+
+to_be-ends_at_7 : from_last to_be be (be ∷ []) (to ∷ []) 0 7 ≡ None
+to_be-ends_at_7 = refl
+
+-- of "to" at 1 and "be" at 2 and 6 the way from 6 ends at 2, which is before 3: there is no further member
+one_to_be-ends_at_3 : from_last (extent 1 2 ∷ []) be (be ∷ []) ((extent 1 1 ∷ []) ∷ []) 0 3 ≡ None
+one_to_be-ends_at_3 = refl
+
+-- of "to" at 5 and "be" at 2 and 6 no way leads back from 2: it is the first member of all
+late_to_be-ends_at_1 : from_last (extent 5 6 ∷ []) be (be ∷ []) ((extent 5 5 ∷ []) ∷ []) 0 1 ≡ Some (extent 5 6)
+late_to_be-ends_at_1 = refl
+
+-- from the first "to", the other way round
+to_be-starts_at_4 : from_first to_be to (be ∷ []) (to ∷ []) 8 4 ≡ Some (extent 1 2)
+to_be-starts_at_4 = refl
+
+to_be-starts_at_0 : from_first to_be to (be ∷ []) (to ∷ []) 8 0 ≡ None
+to_be-starts_at_0 = refl
+
+-- of "to" at 1 and 5 and "be" at 6 the way from 1 leads back to 5, which is past 4: there is no member before
+to_one_be-starts_at_4 : from_first (extent 5 6 ∷ []) to ((extent 6 6 ∷ []) ∷ []) (to ∷ []) 8 4 ≡ None
+to_one_be-starts_at_4 = refl
+
+-- of "to" at 1 and 5 and "be" at 2 no way leads on from 5: it is the last member of all
+to_early_be-starts_at_7 : from_first (extent 1 2 ∷ []) to ((extent 2 2 ∷ []) ∷ []) (to ∷ []) 8 7 ≡ Some (extent 1 2)
+to_early_be-starts_at_7 = refl

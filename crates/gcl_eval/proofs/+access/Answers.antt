@@ -1,15 +1,16 @@
-use Rattle.std.proofs.Common.{◌+◌, Some, None, drop, ap, sym, ◌∙◌, subst, arith, rules}
+use Rattle.std.proofs.Common.{◌+◌, Some, None, drop, refl, ap, sym, ◌∙◌, subst, arith, rules}
 use Rattle.gcl_model.specs.Forms.{term, phrase, width, both, one, seq}
 use Rattle.gcl_model.specs.FormOf.{form_of}
 use Rattle.gcl_model.specs.Meaning.{concordance}
 use Rattle.gcl_eval.specs.Operands.{operand_forms, operand_lists}
-use Rattle.gcl_eval.specs.Directions.{access_of, farthest, best, walk}
+use Rattle.gcl_combine.specs.Directions.{farthest, best}
+use Rattle.gcl_eval.specs.Directions.{access_of, walk, join}
 use Rattle.gcl_model.specs.declared.direction.Direction.TheVariants.{Forward}
 use Rattle.gcl_model.proofs.Lists.{drop_here}
 use Rattle.gcl_eval.proofs.Found.{access_within}
 use Rattle.gcl_eval.proofs.ChainRules.{back_is_as_far}
-use Rattle.gcl_eval.proofs.OperandLemmas.{costs_beside, parts_beside, depth_beside, form-Both, form-One, form-Seq, by_form-near}
-use Rattle.gcl_eval.proofs.ChainSteps.{walk_ends, walk_next, farthest_next, best_next, best_all, farther_below, both_far, both_near, seq_found, seq_far, seq_near, joins, near_within, far_ends}
+use Rattle.gcl_eval.proofs.OperandLemmas.{costs_beside, parts_beside, depth_beside, form-Both, form-One, form-Seq, by_form-near, by_form-far}
+use Rattle.gcl_eval.proofs.ChainSteps.{walk_ends, walk_next, farthest_next, best_next, best_all, farther_below, both_far, both_near, seq_found, seq_far, seq_near, joins, near_within, far_ends, far_found, far_edge, far_on, far_reached, far_short, joins_far}
 use Rattle.gcl_eval.specs.KnownAnswers.{IsKnown}
 use Rattle.gcl_eval.proofs.KnownLemmas.{told_is, asked_second, kept_second}
 use Rattle.gcl_eval.proofs.ContainLoops.{goes_below}
@@ -37,14 +38,20 @@ access::access-returns-in-Both-clause-within g t c =
     access_within c.args.access (g.C.CountedLeaves.text c.args.source.now) (form_of c.args.expr.now) c.args.k c.chain_access.result c.span-span.ensures.sound c.chain_access.ensures.answer
 
 -- the access by the far sides
-pub chains::far_access-returns-in_err-from-clause-answer : goal.chains::far_access-returns-in_err-from-clause-answer
-chains::far_access-returns-in_err-from-clause-answer g t c =
+pub chains::far_access-returns-in-Seq-clause-answer : goal.chains::far_access-returns-in-Seq-clause-answer
+chains::far_access-returns-in-Seq-clause-answer g t c =
+    by_form-far c.args.expr.now (seq (operand_forms c.deref.result.now)) (form-Seq c.args.expr.now c.in-Seq.operands c.deref.result.now c.in-Seq.is c.deref.ensures.value)
+    c.args.direction (g.C.CountedLeaves.text c.args.source.now) c.args.k c.followed_by_far_sides.result c.followed_by_far_sides.ensures.answer
+
+-- the access by the far sides of any chain
+pub chains::past_passed-returns-in_err-from-clause-answer : goal.chains::past_passed-returns-in_err-from-clause-answer
+chains::past_passed-returns-in_err-from-clause-answer g t c =
     let from = rw (c.span-span.ensures.first, c.span-span.ensures.next) at c.in_err-from.ensures.value in
     let r = far_ends c.args.direction (g.C.CountedLeaves.text c.args.source.now) (form_of c.args.expr.now) c.args.k c.passed_member-passed.result c.passed_member-passed.ensures.answer None from in
     search rules
 
-pub chains::far_access-returns-clause-answer : goal.chains::far_access-returns-clause-answer
-chains::far_access-returns-clause-answer g t c =
+pub chains::past_passed-returns-clause-answer : goal.chains::past_passed-returns-clause-answer
+chains::past_passed-returns-clause-answer g t c =
     let from = rw (c.span-span.ensures.first, c.span-span.ensures.next) at c.in_ok-from.ensures.value in
     c.near_access.ensures.answer ∙ far_ends c.args.direction (g.C.CountedLeaves.text c.args.source.now) (form_of c.args.expr.now) c.args.k c.passed_member-passed.result c.passed_member-passed.ensures.answer (Some c.in_ok-from.from) from
 
@@ -358,6 +365,99 @@ containments::containment_access-returns-in-Finish-clause-known g t c =
 pub containments::containment_access-returns-in_err-member-in-GoTo-clause-known : goal.containments::containment_access-returns-in_err-member-in-GoTo-clause-known
 containments::containment_access-returns-in_err-member-in-GoTo-clause-known g t c =
     kept_second c.direction-direction.result c.args.wanted c.direction-direction.ensures c.operands-containment.result.0 (g.C.CountedLeaves.text c.args.source.now) (form_of c.args.expr.now) (form_of c.operands-containment.result.1.now) (form_of c.operands-containment.result.2.now) c.operands-containment.ensures.form c.known_access-answer.new.known c.question-asked.result.0 c.question-asked.ensures.access c.known_access-answer.ensures.known
+
+-- followed by, by the far sides: back, and on again
+pub chains::followed_by_far_sides-access-requires : goal.chains::followed_by_far_sides-access-requires
+chains::followed_by_far_sides-access-requires g t c =
+    let parts = parts_beside c.opposite.result c.args.operands.now c.in_ok-farthest.farthest.now c.in_ok-farthest.before_farthest.now c.in_ok-farthest.ensures c.requires.operands.each in
+    let depth = depth_beside c.opposite.result c.args.operands.now c.in_ok-farthest.farthest.now c.in_ok-farthest.before_farthest.now c.in_ok-farthest.ensures in
+    search rules
+
+pub chains::followed_by_far_sides-walk-requires : goal.chains::followed_by_far_sides-walk-requires
+chains::followed_by_far_sides-walk-requires g t c =
+    let within = c.in_ok-found.ensures.within in
+    let parts = parts_beside c.opposite.result c.args.operands.now c.in_ok-farthest.farthest.now c.in_ok-farthest.before_farthest.now c.in_ok-farthest.ensures c.requires.operands.each in
+    let depth = depth_beside c.opposite.result c.args.operands.now c.in_ok-farthest.farthest.now c.in_ok-farthest.before_farthest.now c.in_ok-farthest.ensures in
+    search rules
+
+pub chains::followed_by_far_sides-walk-requires-in-Some : goal.chains::followed_by_far_sides-walk-requires-in-Some
+chains::followed_by_far_sides-walk-requires-in-Some g t c =
+    let within = c.in-Some.ensures.within in
+    let parts = parts_beside c.args.direction c.args.operands.now c.in_ok-after_nearest.field-0-0.now c.in_ok-after_nearest.after_nearest.now c.in_ok-after_nearest.ensures c.requires.operands.each in
+    let depth = depth_beside c.args.direction c.args.operands.now c.in_ok-after_nearest.field-0-0.now c.in_ok-after_nearest.after_nearest.now c.in_ok-after_nearest.ensures in
+    search rules
+
+pub chains::followed_by_far_sides-returns-in_err-found-clause-answer : goal.chains::followed_by_far_sides-returns-in_err-found-clause-answer
+chains::followed_by_far_sides-returns-in_err-found-clause-answer g t c =
+    let far_is = rw c.opposite.ensures at c.in_ok-farthest.ensures in
+    let found = rw c.access_by_far_sides.ensures at c.in_err-found.ensures.answer in
+    let r = far_found c.args.direction (g.C.CountedLeaves.text c.args.source.now) c.args.operands.now c.in_ok-after_nearest.after_nearest.now c.in_ok-farthest.before_farthest.now c.in_ok-after_nearest.field-0-0.now c.in_ok-farthest.farthest.now c.in_ok-after_nearest.ensures far_is c.args.k None found in
+    search rules
+
+pub chains::followed_by_far_sides-returns-in_err-found-clause-cost : goal.chains::followed_by_far_sides-returns-in_err-found-clause-cost
+chains::followed_by_far_sides-returns-in_err-found-clause-cost g t c =
+    let far_costs = costs_beside c.opposite.result (g.C.CountedLeaves.text c.args.source.now) (g.C.CountedLeaves.most c.args.source.now) c.args.operands.now c.in_ok-farthest.farthest.now c.in_ok-farthest.before_farthest.now c.in_ok-farthest.ensures in
+    omega (arith, c.access.ensures.cost)
+
+pub chains::followed_by_far_sides-returns-in-None-clause-answer : goal.chains::followed_by_far_sides-returns-in-None-clause-answer
+chains::followed_by_far_sides-returns-in-None-clause-answer g t c =
+    let far_is = rw c.opposite.ensures at c.in_ok-farthest.ensures in
+    let found = rw c.access_by_far_sides.ensures at c.in_ok-found.ensures.answer in
+    let back = rw c.opposite-2.ensures at c.in-None.ensures.answer in
+    far_edge c.args.direction (g.C.CountedLeaves.text c.args.source.now) c.args.operands.now c.in_ok-after_nearest.after_nearest.now c.in_ok-farthest.before_farthest.now c.in_ok-after_nearest.field-0-0.now c.in_ok-farthest.farthest.now c.in_ok-after_nearest.ensures far_is c.args.k c.in_ok-found.found found back c.next_past.result c.next_past.ensures.answer
+
+pub chains::followed_by_far_sides-returns-in-None-clause-cost : goal.chains::followed_by_far_sides-returns-in-None-clause-cost
+chains::followed_by_far_sides-returns-in-None-clause-cost g t c =
+    let far_costs = costs_beside c.opposite.result (g.C.CountedLeaves.text c.args.source.now) (g.C.CountedLeaves.most c.args.source.now) c.args.operands.now c.in_ok-farthest.farthest.now c.in_ok-farthest.before_farthest.now c.in_ok-farthest.ensures in
+    omega (arith, c.access.ensures.cost, c.walk.ensures.cost, c.next_past.ensures.cost)
+
+pub chains::followed_by_far_sides-returns-in_err-far-in-Some-clause-answer : goal.chains::followed_by_far_sides-returns-in_err-far-in-Some-clause-answer
+chains::followed_by_far_sides-returns-in_err-far-in-Some-clause-answer g t c =
+    let far_is = rw c.opposite.ensures at c.in_ok-farthest.ensures in
+    let found = rw c.access_by_far_sides.ensures at c.in_ok-found.ensures.answer in
+    let back = rw c.opposite-2.ensures at c.in-Some.ensures.answer in
+    let r = far_on c.args.direction (g.C.CountedLeaves.text c.args.source.now) c.args.operands.now c.in_ok-after_nearest.after_nearest.now c.in_ok-farthest.before_farthest.now c.in_ok-after_nearest.field-0-0.now c.in_ok-farthest.farthest.now c.in_ok-after_nearest.ensures far_is c.args.k c.in_ok-found.found c.in-Some.near found back None c.in_err-far-in-Some.ensures.answer in
+    search rules
+
+pub chains::followed_by_far_sides-returns-in_err-far-in-Some-clause-cost : goal.chains::followed_by_far_sides-returns-in_err-far-in-Some-clause-cost
+chains::followed_by_far_sides-returns-in_err-far-in-Some-clause-cost g t c =
+    let far_costs = costs_beside c.opposite.result (g.C.CountedLeaves.text c.args.source.now) (g.C.CountedLeaves.most c.args.source.now) c.args.operands.now c.in_ok-farthest.farthest.now c.in_ok-farthest.before_farthest.now c.in_ok-farthest.ensures in
+    let near_costs = costs_beside c.args.direction (g.C.CountedLeaves.text c.args.source.now) (g.C.CountedLeaves.most c.args.source.now) c.args.operands.now c.in_ok-after_nearest.field-0-0.now c.in_ok-after_nearest.after_nearest.now c.in_ok-after_nearest.ensures in
+    omega (arith, c.access.ensures.cost, c.walk.ensures.cost, c.walk-in-Some.ensures.cost)
+
+pub chains::followed_by_far_sides-join-requires : goal.chains::followed_by_far_sides-join-requires
+chains::followed_by_far_sides-join-requires g t c =
+    let far_is = rw c.opposite.ensures at c.in_ok-farthest.ensures in
+    let found = rw c.access_by_far_sides.ensures at c.in_ok-found.ensures.answer in
+    let back = rw c.opposite-2.ensures at c.in-Some.ensures.answer in
+    joins_far c.args.direction (g.C.CountedLeaves.text c.args.source.now) (seq (operand_forms c.args.operands.now)) c.args.k c.in-Some.near c.in_ok-far-in-Some.far
+    (far_reached c.args.direction (g.C.CountedLeaves.text c.args.source.now) c.args.operands.now c.in_ok-after_nearest.after_nearest.now c.in_ok-farthest.before_farthest.now c.in_ok-after_nearest.field-0-0.now c.in_ok-farthest.farthest.now c.in_ok-after_nearest.ensures far_is c.args.k c.in_ok-found.found c.in-Some.near found back c.in_ok-far-in-Some.far c.in_ok-far-in-Some.ensures.answer (sym c.reaches.ensures ∙ c.if-reaches.true) (join c.args.direction c.in-Some.near c.in_ok-far-in-Some.far) refl)
+
+pub chains::followed_by_far_sides-returns-then-reaches-clause-answer : goal.chains::followed_by_far_sides-returns-then-reaches-clause-answer
+chains::followed_by_far_sides-returns-then-reaches-clause-answer g t c =
+    let far_is = rw c.opposite.ensures at c.in_ok-farthest.ensures in
+    let found = rw c.access_by_far_sides.ensures at c.in_ok-found.ensures.answer in
+    let back = rw c.opposite-2.ensures at c.in-Some.ensures.answer in
+    far_reached c.args.direction (g.C.CountedLeaves.text c.args.source.now) c.args.operands.now c.in_ok-after_nearest.after_nearest.now c.in_ok-farthest.before_farthest.now c.in_ok-after_nearest.field-0-0.now c.in_ok-farthest.farthest.now c.in_ok-after_nearest.ensures far_is c.args.k c.in_ok-found.found c.in-Some.near found back c.in_ok-far-in-Some.far c.in_ok-far-in-Some.ensures.answer (sym c.reaches.ensures ∙ c.if-reaches.true) c.join.result c.join.ensures
+
+pub chains::followed_by_far_sides-returns-then-reaches-clause-cost : goal.chains::followed_by_far_sides-returns-then-reaches-clause-cost
+chains::followed_by_far_sides-returns-then-reaches-clause-cost g t c =
+    let far_costs = costs_beside c.opposite.result (g.C.CountedLeaves.text c.args.source.now) (g.C.CountedLeaves.most c.args.source.now) c.args.operands.now c.in_ok-farthest.farthest.now c.in_ok-farthest.before_farthest.now c.in_ok-farthest.ensures in
+    let near_costs = costs_beside c.args.direction (g.C.CountedLeaves.text c.args.source.now) (g.C.CountedLeaves.most c.args.source.now) c.args.operands.now c.in_ok-after_nearest.field-0-0.now c.in_ok-after_nearest.after_nearest.now c.in_ok-after_nearest.ensures in
+    omega (arith, c.access.ensures.cost, c.walk.ensures.cost, c.walk-in-Some.ensures.cost)
+
+pub chains::followed_by_far_sides-returns-else-reaches-clause-answer : goal.chains::followed_by_far_sides-returns-else-reaches-clause-answer
+chains::followed_by_far_sides-returns-else-reaches-clause-answer g t c =
+    let far_is = rw c.opposite.ensures at c.in_ok-farthest.ensures in
+    let found = rw c.access_by_far_sides.ensures at c.in_ok-found.ensures.answer in
+    let back = rw c.opposite-2.ensures at c.in-Some.ensures.answer in
+    far_short c.args.direction (g.C.CountedLeaves.text c.args.source.now) c.args.operands.now c.in_ok-after_nearest.after_nearest.now c.in_ok-farthest.before_farthest.now c.in_ok-after_nearest.field-0-0.now c.in_ok-farthest.farthest.now c.in_ok-after_nearest.ensures far_is c.args.k c.in_ok-found.found c.in-Some.near found back c.in_ok-far-in-Some.far c.in_ok-far-in-Some.ensures.answer (sym c.reaches.ensures ∙ c.if-reaches.false) c.next_past-else-reaches.result c.next_past-else-reaches.ensures.answer
+
+pub chains::followed_by_far_sides-returns-else-reaches-clause-cost : goal.chains::followed_by_far_sides-returns-else-reaches-clause-cost
+chains::followed_by_far_sides-returns-else-reaches-clause-cost g t c =
+    let far_costs = costs_beside c.opposite.result (g.C.CountedLeaves.text c.args.source.now) (g.C.CountedLeaves.most c.args.source.now) c.args.operands.now c.in_ok-farthest.farthest.now c.in_ok-farthest.before_farthest.now c.in_ok-farthest.ensures in
+    let near_costs = costs_beside c.args.direction (g.C.CountedLeaves.text c.args.source.now) (g.C.CountedLeaves.most c.args.source.now) c.args.operands.now c.in_ok-after_nearest.field-0-0.now c.in_ok-after_nearest.after_nearest.now c.in_ok-after_nearest.ensures in
+    omega (arith, c.access.ensures.cost, c.walk.ensures.cost, c.walk-in-Some.ensures.cost, c.next_past-else-reaches.ensures.cost)
 
 -- an answer that is known
 pub known::known_access-returns-in-Some-clause-answer : goal.known::known_access-returns-in-Some-clause-answer

@@ -7,7 +7,8 @@ use Rattle.gcl_model.specs.Meaning.{concordance}
 use Rattle.gcl_model.specs.Cost.{cost}
 use Rattle.gcl_model.specs.WellFormed.{AreWellFormed}
 use Rattle.gcl_eval.specs.Operands.{operand_forms, operand_lists, operand_costs}
-use Rattle.gcl_eval.specs.Directions.{access_of, farthest, best, walk}
+use Rattle.gcl_combine.specs.Directions.{farthest, best}
+use Rattle.gcl_eval.specs.Directions.{access_of, walk}
 use Rattle.gcl_eval.specs.Containments.{asks}
 use Rattle.gcl_eval.specs.KnownAnswers.{IsKnown}
 use Rattle.gcl_eval.proofs.ContainLoops.{IsAt, turns}
@@ -82,19 +83,22 @@ decreases-containments::containment_access-loop-next g l =
 
 -- the depth, and at one depth the caller above those that it calls
 abbrev pub decreases-access::access : goal.decreases-access::access
-decreases-access::access g l = 8 * size-Expr l.expr.now + 4
+decreases-access::access g l = 8 * size-Expr l.expr.now + 5
 
 abbrev pub decreases-known::known_access : goal.decreases-known::known_access
-decreases-known::known_access g l = 8 * size-Expr l.expr.now + 5
+decreases-known::known_access g l = 8 * size-Expr l.expr.now + 6
 
 abbrev pub decreases-containments::containment_access : goal.decreases-containments::containment_access
 decreases-containments::containment_access g l = 8 * size-Expr l.expr.now + 1
 
 abbrev pub decreases-chains::chain_access : goal.decreases-chains::chain_access
-decreases-chains::chain_access g l = 8 * size-Expr l.expr.now + 3
+decreases-chains::chain_access g l = 8 * size-Expr l.expr.now + 4
 
 abbrev pub decreases-chains::far_access : goal.decreases-chains::far_access
-decreases-chains::far_access g l = 8 * size-Expr l.expr.now + 2
+decreases-chains::far_access g l = 8 * size-Expr l.expr.now + 3
+
+abbrev pub decreases-chains::past_passed : goal.decreases-chains::past_passed
+decreases-chains::past_passed g l = 8 * size-Expr l.expr.now + 2
 
 abbrev pub decreases-chains::passed_member : goal.decreases-chains::passed_member
 decreases-chains::passed_member g l = 8 * size-Expr l.expr.now + 1
@@ -104,16 +108,22 @@ decreases-chains::near_access g l = 8 * size-Expr l.expr.now
 
 -- an operand is smaller than the expression
 abbrev pub decreases-chains::both_of : goal.decreases-chains::both_of
-decreases-chains::both_of g l = 8 * most size-Expr l.operands.now + 6
+decreases-chains::both_of g l = 8 * most size-Expr l.operands.now + 7
 
 abbrev pub decreases-chains::one_of : goal.decreases-chains::one_of
-decreases-chains::one_of g l = 8 * most size-Expr l.operands.now + 6
+decreases-chains::one_of g l = 8 * most size-Expr l.operands.now + 7
 
 abbrev pub decreases-chains::followed_by : goal.decreases-chains::followed_by
-decreases-chains::followed_by g l = 8 * most size-Expr l.operands.now + 6
+decreases-chains::followed_by g l = 8 * most size-Expr l.operands.now + 7
+
+abbrev pub decreases-chains::next_past : goal.decreases-chains::next_past
+decreases-chains::next_past g l = 8 * most size-Expr l.operands.now + 8
+
+abbrev pub decreases-chains::followed_by_far_sides : goal.decreases-chains::followed_by_far_sides
+decreases-chains::followed_by_far_sides g l = 8 * most size-Expr l.operands.now + 9
 
 abbrev pub decreases-chains::farthest : goal.decreases-chains::farthest
-decreases-chains::farthest g l = 8 * most size-Expr l.operands.now + 5
+decreases-chains::farthest g l = 8 * most size-Expr l.operands.now + 6
 
 abbrev pub decreases-chains::walk : goal.decreases-chains::walk
-decreases-chains::walk g l = 8 * most size-Expr l.operands.now + 5
+decreases-chains::walk g l = 8 * most size-Expr l.operands.now + 6

@@ -3,7 +3,7 @@ use Rattle.gcl_model.specs.FormOf.{form_of}
 use Rattle.gcl_model.specs.Meaning.{concordance}
 use Rattle.gcl_model.proofs.Lists.{drop_here}
 use Rattle.gcl_eval.specs.Operands.{operand_lists}
-use Rattle.gcl_eval.specs.Directions.{best}
+use Rattle.gcl_combine.specs.Directions.{best}
 use Rattle.gcl_eval.specs.KnownAnswers.{IsKnown, AreKnown}
 use Rattle.gcl_model.specs.declared.direction.Direction.TheVariants.{Forward}
 use Rattle.gcl_eval.specs.declared.direction.Access.TheVariants.{FirstStart}

@@ -2,7 +2,7 @@ use Rattle.std.proofs.Common.{◌≡◌, ◌+◌, ◌<◌, ◌≤◌, None, IfSo
 use Rattle.gcl_model.specs.Limits.{address_end}
 use Rattle.gcl_model.specs.WellFormed.{AreWellFormed}
 use Rattle.gcl_eval.specs.Operands.{operand_forms, operand_lists, operand_costs}
-use Rattle.gcl_eval.specs.Directions.{best}
+use Rattle.gcl_combine.specs.Directions.{best}
 use Rattle.gcl_eval.specs.KnownAnswers.{AreKnown}
 use Rattle.gcl_model.specs.declared.direction.Direction.TheVariants.{Forward}
 use Rattle.gcl_eval.proofs.onward.first_of_one.Given as goal
