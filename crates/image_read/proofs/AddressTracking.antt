@@ -8,6 +8,7 @@ use Rattle.posting_code.specs.Numbers.{spelling}
 use Rattle.posting_code.specs.Packed.{last_of, packed_from}
 use Rattle.posting_code.specs.Postings.{ArePostings, RiseWithin}
 use Rattle.posting_code.proofs.Numbers.{prefix_free}
+use Rattle.posting_code.proofs.Packed.{packed_from-push}
 use Rattle.posting_code.proofs.Rising.{last_of-push, rise_length, rise_push, rise_wider}
 use Rattle.index_shard.specs.Tables.{has_address}
 use Rattle.index_shard.proofs.TableLaws.{all_push}
@@ -18,10 +19,6 @@ use Rattle.image_file.specs.declared.format.Format.TheVariants.{One, Two}
 use Rattle.image_file.proofs.Decoding.{eight_same}
 use Rattle.image_read.specs.declared.places.Role.{Role}
 use Rattle.image_read.specs.Reading.{FillRole, HasNoAddresses, HasNoCount, HasNoPacked, IsAddressesFront, IsCountFront, IsPacked, SeenContent, Sees, SeesAll, count_bytes, count_end, is_seen, role_in}
-
-packed_from-push : (from : ℕ) (ps : List ℕ) (p : ℕ) → packed_from from (ps ++ p ∷ []) ≡ packed_from from ps ++ spelling (p - last_of (from ∷ ps))
-packed_from-push from [] p = append-nil (spelling (p - from))
-packed_from-push from (q ∷ qs) p = ap (λ l. spelling (q - from) ++ l) (packed_from-push q qs p) ∙ sym (append_assoc (spelling (q - from)) (packed_from q qs) (spelling (p - last_of (q ∷ qs))))
 
 pub lacks_later : (low bound : ℕ) (ps : List ℕ) (p : ℕ) → RiseWithin low bound ps → bound ≤ p → has_address ps p ≡ false
 lacks_later low bound [] p rise le = refl

@@ -9,16 +9,12 @@ use crate::front::{TextFront, eight_in_front, four_in_front, packed_in_front, te
 use crate::head::Head;
 use crate::places::{Places, Role};
 use address_space::Range;
+use gcl_model::{file_end, file_start};
 use image_file::Format;
 use index_shard::{Shard, ShardMaker};
 use std::alloc::{AllocError, Global};
 use std::cmp::Ordering;
 use word_tokens::is_token;
-
-/// The token before the first word of each file, and the one after its last.
-const FILE_START: &[u8] = b"<file!>";
-
-const FILE_END: &[u8] = b"</file!>";
 
 /// A term at the front of some bytes, its role, and what stands behind it.
 #[derive(Clone, Copy)]
@@ -143,10 +139,10 @@ fn role_of(term: &[u8]) -> Option<Role>
     ensures some { IfSome result (λ role. HasRole term.now role) }
     ensures none { IsNone result → (role : Role) → HasRole term.now role → ⊥ }
 {
-    if term == FILE_START {
+    if term == file_start() {
         return Some(Role::Start);
     }
-    if term == FILE_END {
+    if term == file_end() {
         return Some(Role::End);
     }
     if is_token(term) {

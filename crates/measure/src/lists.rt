@@ -3,7 +3,7 @@ ghost use Rattle.posting_code.specs.Postings.{ArePostings};
 
 use gcl_model::{Ledger, Question, Steps, uncounted};
 use posting_access::at_or_after;
-use posting_code::{ADDRESS_END, PostingList, encode};
+use posting_code::{ADDRESS_END, Postings, encode};
 use std::alloc::{AllocError, Global};
 use std::rt::Clock;
 use std::time::Instant;
@@ -37,7 +37,7 @@ fn rising(alloc: Global, count: u64) -> Result<Vec<u64>, AllocError>
 /// The least address of a list from `k` on.
 #[derive(Drop)]
 struct LeastFrom<'a> {
-    list: &'a PostingList,
+    list: &'a Postings<'a>,
     k: u64,
 }
 
@@ -59,7 +59,7 @@ impl Question for LeastFrom<'_> {
 }
 
 /// The nanoseconds of a million look-ups at random places, and the sum of what they found.
-fn looked_up<R: Clock>(rt: &R, list: &PostingList, end: u64) -> Option<(u64, u64)>
+fn looked_up<R: Clock>(rt: &R, list: &Postings<'_>, end: u64) -> Option<(u64, u64)>
     requires { 0 < end }
 {
     let start = Instant::now(rt).ok()?;
@@ -95,7 +95,7 @@ fn halved<R: Clock>(rt: &R, members: &[u64], end: u64) -> Option<(u64, u64)>
 }
 
 /// The nanoseconds of a walk over all members, and their sum.
-fn walked<R: Clock>(rt: &R, list: &PostingList) -> Option<(u64, u64)> {
+fn walked<R: Clock>(rt: &R, list: &Postings<'_>) -> Option<(u64, u64)> {
     let start = Instant::now(rt).ok()?;
     let mut sum = 0u64;
     let mut members = [0; 64];
@@ -125,6 +125,7 @@ pub(crate) fn measure_lists<R: Clock + Print + AllocGlobal>(rt: &R) -> Option<()
     let members = rising(rt.alloc(), 1_000_000).ok()?;
     let end = members.last().copied().unwrap_or(0).saturating_add(1);
     let list = encode(rt.alloc(), &members).ok()?;
+    let list = list.as_postings();
     let (ours, found) = looked_up(rt, &list, end)?;
     let (plain, same) = halved(rt, &members, end)?;
     println!(rt;

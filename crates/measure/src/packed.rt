@@ -3,7 +3,7 @@ ghost use Rattle.posting_code.specs.Postings.{RiseWithin};
 
 use crate::files::text_of;
 use index_shard::Shard;
-use posting_code::{ADDRESS_END, PostingList, PostingMaker};
+use posting_code::{ADDRESS_END, PostingList, PostingMaker, Postings};
 use shard_build::build_from;
 use std::alloc::{AllocError, Global};
 use std::rt;
@@ -26,7 +26,7 @@ fn packed_size(n: u64) -> u64 {
 }
 
 /// How many bytes the differences of a list take, the first address counted as the one from 0.
-fn differences_of(list: &PostingList) -> u64 {
+fn differences_of(list: &Postings<'_>) -> u64 {
     let mut size = 0u64;
     let mut before = 0;
     let mut members = [0; 64];
@@ -59,7 +59,7 @@ fn put_block(maker: &mut PostingMaker, least: u64, members: &[u64]) -> Result<u6
 }
 
 /// The same list in memory of its own.
-fn copied(alloc: Global, list: &PostingList) -> Result<PostingList, AllocError> {
+fn copied(alloc: Global, list: &Postings<'_>) -> Result<PostingList, AllocError> {
     let mut maker = PostingMaker::new(alloc);
     let mut next = 0;
     let mut members = [0; 64];
@@ -84,10 +84,10 @@ fn copy_long(
     for i in 0..shard.term_count() {
         let list = shard.postings(i);
         if list.len() >= LONG {
-            kept.push(copied(alloc, list)?)?;
+            kept.push(copied(alloc, &list)?)?;
             sizes.lists = sizes.lists.saturating_add(1);
             sizes.postings = sizes.postings.saturating_add(list.len());
-            sizes.differences = sizes.differences.saturating_add(differences_of(list));
+            sizes.differences = sizes.differences.saturating_add(differences_of(&list));
         }
     }
     Ok(sizes)

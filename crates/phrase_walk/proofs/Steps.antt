@@ -9,6 +9,7 @@ use Rattle.gcl_model.specs.Forms.{phrase}
 use Rattle.gcl_model.specs.Meaning.{concordance}
 use Rattle.gcl_model.specs.Cost.{fewest_places}
 use Rattle.phrase_walk.specs.Rounds.{rounds_cost}
+pub use Rattle.phrase_walk.specs.Starts.{NoneBefore}
 use Rattle.phrase_walk.proofs.Places.{Held, next_tells, none_next, previous_tells, none_previous}
 use Rattle.phrase_walk.proofs.Rows.{InRow, token_at, IsInPlace, row_place, places_row, fewest_of_each}
 use Rattle.phrase_walk.proofs.Passed.{places_before, before_most, before_rises, before_more}
@@ -16,10 +17,15 @@ use Rattle.phrase_walk.proofs.Members.{row_within, first_row, no_first_row, last
 use Rattle.phrase_walk.proofs.Ring.{ring_agrees, ring_rounds}
 use Rattle.phrase_walk.proofs.Asked.{IsAskedWithin, asked_stays, asked_moves, asked_bound}
 
--- no row starts from k on before s; and none from behind s up to k
-abbrev pub NoneBefore : Text → List (List ℕ) → ℕ → ℕ → Type 0
-NoneBefore text tokens k s = (r : ℕ) → k ≤ r → r < s → InRow text tokens r → ⊥
+-- none before a start, and none from there on before another one, is none before the other one
+pub none_before_on : (text : Text) (tokens : List (List ℕ)) (k s from : ℕ) → NoneBefore text tokens k s → NoneBefore text tokens s from → NoneBefore text tokens k from
+none_before_on text tokens k s from before between r ge less row =
+    elim (cases_lt r s) [
+      | inl lt ↦ before r ge lt row
+      | inr le ↦ between r le less row
+    ]
 
+-- no row starts from behind s up to k
 abbrev pub NoneBehind : Text → List (List ℕ) → ℕ → ℕ → Type 0
 NoneBehind text tokens k s = (r : ℕ) → s < r → r ≤ k → InRow text tokens r → ⊥
 
@@ -100,12 +106,13 @@ module _ (text : Text) (tokens : List (List ℕ)) (sound : IsText text) (some : 
       let below : r + length tokens ≤ text.next = (row_within text sound tokens r some row).1 in
       omega (arith, below, ge, past, some)))
 
-  module _ (turn agreed s most old now after q : ℕ) (few : agreed < length tokens) (step : after ≤ now + most) (is : Some q ≡ next_place text.words (token_at tokens turn) (s + turn)) where
+  -- the token is looked up from a start on that is not before the one that was reached
+  module _ (turn agreed s from most old now after q : ℕ) (few : agreed < length tokens) (step : after ≤ now + most) (ahead : s ≤ from) (is : Some q ≡ next_place text.words (token_at tokens turn) (from + turn)) where
     held_next : (t : ℕ) → q - turn ≡ t → IsInPlace text tokens t turn
     held_next t e =
-        let n = next_tells text (token_at tokens turn) sound (s + turn) q (sym is) in
-        let from : s + turn ≤ q = n.from in
-        let same : q ≡ t + turn = omega (arith, from, e) in
+        let n = next_tells text (token_at tokens turn) sound (from + turn) q (sym is) in
+        let above : from + turn ≤ q = n.from in
+        let same : q ≡ t + turn = omega (arith, above, e) in
         subst (Held text (token_at tokens turn)) same n.held
 
     forward_stays : q - turn ≡ s → IsAskedForward text tokens turn agreed s most old now → IsAskedForward text tokens (turn + 1) (agreed + 1) s most old after
@@ -113,22 +120,22 @@ module _ (text : Text) (tokens : List (List ℕ)) (sound : IsText text) (some : 
 
     forward_moves : (q - turn ≡ s → ⊥) → IsAskedForward text tokens turn agreed s most old now → IsAskedForward text tokens (turn + 1) 1 (q - turn) most old after
     forward_moves moved asked =
-        let from : s + turn ≤ q = (next_within turn s q is).0 in
+        let above : from + turn ≤ q = (next_within turn from q is).0 in
         asked_moves (length tokens) turn agreed few (passed_upto text tokens s) (IsInPlace text tokens s) most old now after step asked
         (passed_upto text tokens (q - turn)) (IsInPlace text tokens (q - turn))
-        (λ i lt. before_rises text.words (token_at tokens i) (s + i) (q - turn + i) (omega (arith, from)))
-        (λ i lt held. before_more text.words (token_at tokens i) (s + i) (s + i) (q - turn + i) held (omega arith) (omega (arith, from, moved)))
+        (λ i lt. before_rises text.words (token_at tokens i) (s + i) (q - turn + i) (omega (arith, above, ahead)))
+        (λ i lt held. before_more text.words (token_at tokens i) (s + i) (s + i) (q - turn + i) held (omega arith) (omega (arith, above, ahead, moved)))
         (held_next (q - turn) refl)
 
   -- after a token was asked, whether it agreed or leads on
-  pub forward_on : (turn agreed following s most old now after q : ℕ) → agreed < length tokens → after ≤ now + most → Some q ≡ next_place text.words (token_at tokens turn) (s + turn) →
+  pub forward_on : (turn agreed following s from most old now after q : ℕ) → agreed < length tokens → after ≤ now + most → s ≤ from → Some q ≡ next_place text.words (token_at tokens turn) (from + turn) →
       Leads (q - turn) s agreed following →
       IsAskedForward text tokens turn agreed s most old now → IsAskedForward text tokens (turn + 1) following (q - turn) most old after
-  forward_on turn agreed following s most old now after q few step is (inl (e, n)) asked =
+  forward_on turn agreed following s from most old now after q few step ahead is (inl (e, n)) asked =
       subst (λ t. IsAskedForward text tokens (turn + 1) following t most old after) (sym e)
-      (subst (λ f. IsAskedForward text tokens (turn + 1) f s most old after) (sym n) (forward_stays turn agreed s most old now after q few step is e asked))
-  forward_on turn agreed following s most old now after q few step is (inr (moved, n)) asked =
-      subst (λ f. IsAskedForward text tokens (turn + 1) f (q - turn) most old after) (sym n) (forward_moves turn agreed s most old now after q few step is moved asked)
+      (subst (λ f. IsAskedForward text tokens (turn + 1) f s most old after) (sym n) (forward_stays turn agreed s from most old now after q few step ahead is e asked))
+  forward_on turn agreed following s from most old now after q few step ahead is (inr (moved, n)) asked =
+      subst (λ f. IsAskedForward text tokens (turn + 1) f (q - turn) most old after) (sym n) (forward_moves turn agreed s from most old now after q few step ahead is moved asked)
 
   -- where each token agreed, this is the first row
   pub forward_found : (k s turn most old now : ℕ) → turn ≤ length tokens → k ≤ s → NoneBefore text tokens k s → IsAskedForward text tokens turn (length tokens) s most old now →

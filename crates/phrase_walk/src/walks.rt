@@ -4,6 +4,7 @@ ghost use Rattle.gcl_model.specs.Forms.{phrase};
 ghost use Rattle.gcl_model.specs.Meaning.{concordance};
 ghost use Rattle.gcl_model.specs.Cost.{cost};
 ghost use Rattle.phrase_walk.specs.Rounds.{rounds_cost};
+ghost use Rattle.phrase_walk.specs.Starts.{NoneBefore};
 
 use gcl_model::{Bytes, CountedLeaves, Interval};
 
@@ -30,7 +31,8 @@ pub(crate) fn first_from<C: CountedLeaves>(
     let mut turn = 0usize;
     let mut agreed = 0usize;
     while agreed < len {
-        let place = source.next(tokens[turn].as_slice(), start + turn as u64, counter)?;
+        let from = earliest_start(tokens, source, turn, start);
+        let place = source.next(tokens[turn].as_slice(), from + turn as u64, counter)?;
         // No row starts before this: its token would stand before the first place.
         let earliest = place - turn as u64;
         agreed = if earliest == start { agreed + 1 } else { 1 };
@@ -38,6 +40,21 @@ pub(crate) fn first_from<C: CountedLeaves>(
         turn = next_turn(turn, len);
     }
     Some(Interval::new(start, start + (len as u64 - 1)))
+}
+
+/// A start from this one on before which no row starts. It is a later one only at the first token's turn: where the source tells, without a
+/// look-up, that the second token does not stand right behind the first one before it.
+fn earliest_start<C: CountedLeaves>(tokens: &[Bytes], source: &C, turn: usize, start: u64) -> u64
+    requires { start < (C.text source.now).next }
+    ensures from { start ≤ result }
+    ensures within { result ≤ (C.text source.now).next }
+    ensures none { NoneBefore (C.text source.now) tokens.now start result }
+{
+    if turn > 0 || tokens.len() < 2 {
+        return start;
+    }
+    let pair = source.earliest_pair(tokens[0].as_slice(), tokens[1].as_slice(), start);
+    pair.min(source.span().next)
 }
 
 /// The last row of the tokens that starts at or before `k`.

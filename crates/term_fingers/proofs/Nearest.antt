@@ -123,10 +123,10 @@ found_behind : (xs : List ℕ) (i k : ℕ) → ArePostings xs → suc i < length
 found_behind xs i k r within less more =
     (within, sym (least_at 0 (2 ^ 56) xs (suc i) k r (omega arith) (λ m e. let same : i ≡ m = omega arith in subst (λ j. get_or xs j 0 < k) same less) (λ _. more) ∙ slice_get-get_or xs (suc i) 0 within))
 
-below-lt : (u k : ℕ) → u < k → one_below u k ≡ 1
+pub below-lt : (u k : ℕ) → u < k → one_below u k ≡ 1
 below-lt u k lt = ap (λ b. cond b 1 0) (lt-ltb u k lt)
 
-below-ge : (u k : ℕ) → k ≤ u → one_below u k ≡ 0
+pub below-ge : (u k : ℕ) → k ≤ u → one_below u k ≡ 0
 below-ge u k ge = ap (λ b. cond b 1 0) (le-ltb u k ge)
 
 -- of four members behind one that is less than k, of which the last is not, so many are less: the one behind these is the least from k on

@@ -1,5 +1,5 @@
 -- The lists that the terms of a query have in the slots of a version.
-use Rattle.std.specs.Prelude.{◌≡◌, ℕ, nat_lt, if◌then◌else◌, List, [], map, Option, None, Some, slice_get}
+use Rattle.std.specs.Prelude.{◌≡◌, ℕ, ◌+◌, ◌<◌, ◌≤◌, nat_lt, if◌then◌else◌, List, [], length, map, Option, None, Some, slice_get, slice_index}
 use Rattle.std.specs.Option.{option_map}
 use Rattle.index_shard.specs.Tables.{ShardContent, addresses_at, place_of}
 use Rattle.live_version.specs.Contents.{SlotContent}
@@ -32,3 +32,28 @@ pub record TellsNearest (list part : List ℕ) (k : ℕ) : Type 0 where
 -- 1 for a member below k, else 0: of 5 it is 1 below 6, and 0 below 5
 abbrev pub one_below : ℕ → ℕ → ℕ
 one_below member k = if nat_lt member k then 1 else 0
+
+-- the number is the member at a place: 5 is one of 2, 5 and 9, at place 1
+pub record IsAt (members : List ℕ) (p : ℕ) : Type 0 where
+  pub place : ℕ
+  pub within : place < length members
+  pub is : slice_index members place ≡ p
+
+-- each member of the first list, from k on, with a member of the second right behind it stands at place i or later, and that one at j or later:
+-- of 2, 5 and 9 beside 4 and 10 from 2 on it is so of the places 2 and 1
+abbrev pub ArePassed : (first second : List ℕ) (k i j : ℕ) → Type 0
+ArePassed first second k i j = (x y : ℕ) → x < length first → y < length second → k ≤ slice_index first x → slice_index first x + 1 ≡ slice_index second y → (i ≤ x) × (j ≤ y)
+
+-- a member of the first list lies at k or before, and one of the second at r or behind
+pub record LieAround (first second : List ℕ) (k r : ℕ) : Type 0 where
+  pub low : ℕ
+  pub begins : IsAt first low
+  pub from : low ≤ k
+  pub high : ℕ
+  pub ends : IsAt second high
+  pub upto : r ≤ high
+
+-- from k on before r no member of the first list has one of the second right behind it, and if that says anything, their members lie around
+pub record LackPairs (first second : List ℕ) (k r : ℕ) : Type 0 where
+  pub none : (p : ℕ) → k ≤ p → p < r → IsAt first p → IsAt second (p + 1) → ⊥
+  pub around : k < r → LieAround first second k r

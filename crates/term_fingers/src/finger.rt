@@ -2,14 +2,16 @@ ghost use Rattle.std.specs.Prelude.{◌≡◌, ◌*◌, ◌-◌, ◌<◌, ◌≤
 ghost use Rattle.index_shard.specs.Searched.{nearest};
 ghost use Rattle.posting_code.specs.Postings.{ArePostings, block_of, blocks_of};
 ghost use Rattle.posting_access.specs.Search.{least_from, greatest_to};
-ghost use Rattle.term_fingers.specs.Lists.{TellsNearest, list_of};
+ghost use Rattle.live_version.specs.Contents.{IsVersion};
+ghost use Rattle.term_fingers.specs.Lists.{LackPairs, TellsNearest, list_of};
 
 use crate::members::{greatest_in, least_in, reach_around};
 use crate::naming::Naming;
 use crate::near::border_near;
+use crate::pairs::earliest_pair_in;
 use gcl_model::{Direction, Ledger, Steps};
 use posting_access::BlocksUpTo;
-use posting_code::{BLOCK, PostingList};
+use posting_code::{BLOCK, Postings};
 use std::marker::PhantomData;
 
 /// Where a term was last looked for: one block of one list, its members where they were read, and a place among them.
@@ -44,10 +46,46 @@ impl<J: Naming> Finger<J> {
         }
     }
 
+    pub(crate) fn slot(&self) -> usize
+        ensures { result ≡ self.now.slot }
+    {
+        self.slot
+    }
+
+    pub(crate) fn place(&self) -> usize
+        ensures { result ≡ self.now.place }
+    {
+        self.place
+    }
+
+    /// An address from `k` on before which no member of this finger's list has one of the other finger's right behind it, as far as the
+    /// blocks tell that both hold. Both go on to there.
+    pub(crate) fn earliest_pair(&mut self, other: &mut Finger<J>, k: u64) -> u64
+        requires { IsVersion J.version }
+        ensures from { k ≤ result }
+        ensures none { LackPairs (list_of J.version.slots self.old.slot self.old.place) (list_of J.version.slots other.old.slot other.old.place) k result }
+    {
+        let first = &self.members[..self.count];
+        let second = &other.members[..other.count];
+        if !reach_around(first, k) || !reach_around(second, k.saturating_add(1)) {
+            return k;
+        }
+        let (address, at, behind) = earliest_pair_in(first, second, (self.at, other.at), k);
+        if address <= k {
+            return k;
+        }
+        // both blocks were of use, so the next ones are unpacked at once
+        self.at = at;
+        self.again = true;
+        other.at = behind;
+        other.again = true;
+        address
+    }
+
     /// The address that is nearest to `k` on one side, in the list at a place of the slot with this number.
     pub(crate) fn nearest<P: Ledger>(
         &mut self,
-        list: &PostingList,
+        list: &Postings<'_>,
         slot: usize,
         place: usize,
         k: u64,
@@ -67,7 +105,7 @@ impl<J: Naming> Finger<J> {
     #[inline]
     fn least<P: Ledger>(
         &mut self,
-        list: &PostingList,
+        list: &Postings<'_>,
         slot: usize,
         place: usize,
         k: u64,
@@ -88,7 +126,7 @@ impl<J: Naming> Finger<J> {
     #[inline(never)]
     fn least_far<P: Ledger>(
         &mut self,
-        list: &PostingList,
+        list: &Postings<'_>,
         slot: usize,
         place: usize,
         k: u64,
@@ -110,7 +148,7 @@ impl<J: Naming> Finger<J> {
     /// The least address of a block from `k` on.
     fn least_in_block<P: Ledger>(
         &mut self,
-        list: &PostingList,
+        list: &Postings<'_>,
         slot: usize,
         place: usize,
         block: usize,
@@ -134,7 +172,7 @@ impl<J: Naming> Finger<J> {
     #[inline]
     fn greatest<P: Ledger>(
         &mut self,
-        list: &PostingList,
+        list: &Postings<'_>,
         slot: usize,
         place: usize,
         k: u64,
@@ -155,7 +193,7 @@ impl<J: Naming> Finger<J> {
     #[inline(never)]
     fn greatest_far<P: Ledger>(
         &mut self,
-        list: &PostingList,
+        list: &Postings<'_>,
         slot: usize,
         place: usize,
         k: u64,
@@ -178,7 +216,7 @@ impl<J: Naming> Finger<J> {
     /// Whether `k` lies between the ends of the members that were read last, and they are of this list: then they tell the answer, and
     /// no block is looked for.
     #[inline]
-    fn spans(&self, list: &PostingList, slot: usize, place: usize, k: u64) -> bool
+    fn spans(&self, list: &Postings<'_>, slot: usize, place: usize, k: u64) -> bool
         requires { list.now ≡ list_of J.version.slots slot place }
         ensures { IsTrue result → TellsNearest list.now (take self.now.count self.now.members) k }
     {
@@ -208,7 +246,7 @@ impl<J: Naming> Finger<J> {
     }
 
     /// Reads a block, unless it is the one that was read last.
-    fn read(&mut self, list: &PostingList, slot: usize, place: usize, block: usize)
+    fn read(&mut self, list: &Postings<'_>, slot: usize, place: usize, block: usize)
         requires list { list.now ≡ list_of J.version.slots slot place }
         requires block { block < blocks_of list.now }
         ensures members { take self.new.count self.new.members ≡ block_of list.now block }
@@ -228,7 +266,7 @@ impl<J: Naming> Finger<J> {
 }
 
 /// How many blocks begin at or before `k`: they are the first ones. They are looked for from the block `hint` on.
-fn blocks_up_to<P: Ledger>(list: &PostingList, hint: usize, k: u64, probes: &mut Steps<P>) -> usize
+fn blocks_up_to<P: Ledger>(list: &Postings<'_>, hint: usize, k: u64, probes: &mut Steps<P>) -> usize
     ensures within { result ≤ blocks_of list.now }
     ensures before { 0 < result → slice_index list.now (64 * (result - 1)) ≤ k }
     ensures after { result < blocks_of list.now → k < slice_index list.now (64 * result) }
@@ -238,7 +276,7 @@ fn blocks_up_to<P: Ledger>(list: &PostingList, hint: usize, k: u64, probes: &mut
 }
 
 /// The first address of a block, if there is such a block.
-fn first_of_block(list: &PostingList, block: usize) -> Option<u64>
+fn first_of_block(list: &Postings<'_>, block: usize) -> Option<u64>
     requires { block ≤ blocks_of list.now }
     ensures { result ≡ slice_get list.now (64 * block) }
 {

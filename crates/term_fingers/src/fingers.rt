@@ -58,6 +58,18 @@ impl<'a, J: Naming> Leaves for Fingers<'a, J> {
         }
     }
 
+    fn earliest_pair(&self, first: &[u8], second: &[u8], k: u64) -> u64 {
+        // any call of the version tells that it is one
+        let _next = self.version.next();
+        let Some(found) = self.find(first) else {
+            return k;
+        };
+        let Some(behind) = self.find(second) else {
+            return k;
+        };
+        found.earliest_pair(behind, k)
+    }
+
     fn span(&self) -> Span {
         self.version.span()
     }

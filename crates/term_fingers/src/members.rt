@@ -78,7 +78,7 @@ fn soon(members: &[u64], hint: usize, k: u64) -> Option<usize>
 
 /// 1 for a member below `k`, else 0.
 #[inline(always)]
-fn one_below(member: u64, k: u64) -> usize
+pub(crate) fn one_below(member: u64, k: u64) -> usize
     ensures { result ≡ one_below member k }
 {
     if member < k { 1 } else { 0 }

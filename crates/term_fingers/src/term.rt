@@ -1,7 +1,9 @@
-ghost use Rattle.std.specs.Prelude.{◌≡◌, ◌≤◌, Some, length, take};
+ghost use Rattle.std.specs.Prelude.{◌≡◌, ◌≤◌, Some, IsTrue, false, length, slice_get, take};
 ghost use Rattle.gcl_model.specs.Limits.{most_slots};
+ghost use Rattle.gcl_model.specs.Texts.{any_pair};
 ghost use Rattle.index_shard.specs.Searched.{nearest};
 ghost use Rattle.index_shard.specs.Tables.{place_of, postings_of};
+ghost use Rattle.live_version.specs.Contents.{IsVersion, live_of};
 ghost use Rattle.term_fingers.specs.Lists.{places_of, shard_at};
 
 use crate::finger::Finger;
@@ -57,12 +59,63 @@ impl<'a, J: Naming> Term<'a, J> {
         let place = self.place(number, shard)?;
         let list = shard.postings(place);
         match self.finger.try_borrow_mut() {
-            Ok(mut finger) => finger.nearest(list, number, place, k, direction, probes),
+            Ok(mut finger) => finger.nearest(&list, number, place, k, direction, probes),
             // another look-up of the term is under way
             Err(_) => match direction {
-                Direction::Forward => at_or_after(list, k, probes),
-                Direction::Backward => at_or_before(list, k, probes),
+                Direction::Forward => at_or_after(&list, k, probes),
+                Direction::Backward => at_or_before(&list, k, probes),
             },
+        }
+    }
+
+    /// An address from `k` on before which the other term nowhere stands right behind this one, as far as their fingers tell.
+    pub(crate) fn earliest_pair(&self, other: &Term<'a, J>, k: u64) -> u64
+        requires { IsVersion J.version }
+        ensures from { k ≤ result }
+        ensures none { any_pair (live_of J.version.slots) self.now.bytes.now other.now.bytes.now k result ≡ false }
+    {
+        let Ok(mut finger) = self.finger.try_borrow_mut() else {
+            return k;
+        };
+        // of a term beside itself nothing is told: its finger is taken
+        let Ok(mut behind) = other.finger.try_borrow_mut() else {
+            return k;
+        };
+        self.earliest_pair_by(other, &mut finger, &mut behind, k)
+    }
+
+    /// The same by a finger of each term: they tell it where they are on the lists of both terms in one slot.
+    fn earliest_pair_by(
+        &self,
+        other: &Term<'a, J>,
+        finger: &mut Finger<J>,
+        behind: &mut Finger<J>,
+        k: u64,
+    ) -> u64
+        requires { IsVersion J.version }
+        ensures from { k ≤ result }
+        ensures none { any_pair (live_of J.version.slots) self.now.bytes.now other.now.bytes.now k result ≡ false }
+    {
+        let slot = finger.slot();
+        if behind.slot() != slot
+            || !self.has_place(slot, finger.place())
+            || !other.has_place(slot, behind.place())
+        {
+            return k;
+        }
+        finger.earliest_pair(behind, k)
+    }
+
+    /// Whether the term was found at this place in the index of the slot with this number.
+    fn has_place(&self, number: usize, place: usize) -> bool
+        ensures { IsTrue result → slice_get self.now.places number ≡ Some (Some place) }
+    {
+        if number >= 32 {
+            return false;
+        }
+        match self.places[number] {
+            Some(found) => found == place,
+            None => false,
         }
     }
 

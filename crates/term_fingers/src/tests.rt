@@ -6,9 +6,12 @@ ghost use Rattle.index_shard.specs.Tables.{ArePostingsIn, IsShard};
 
 use super::*;
 use address_space::{FileId, FileRecord, FileRun, Range};
-use gcl_model::{ADDRESS_END, Bytes, Direction, Leaves, Ledger, Question, Steps, counted};
+use gcl_model::{
+    ADDRESS_END, Bytes, Direction, Leaves, Ledger, Question, Steps, TokenList, counted,
+};
 use index_shard::{Shard, ShardMaker};
 use live_version::{Slot, Version};
+use shard_build::build;
 use std::alloc::{AllocError, Global};
 use std::marker::Brand;
 use std::process::Abort;
@@ -87,8 +90,9 @@ fn file(alloc: Global, id: u64, base: u64, len: u64) -> Result<FileRecord, Alloc
     })
 }
 
-/// Three files side by side, each of a thousand addresses, with `a` at every one of them.
-fn three_files(alloc: Global) -> Result<Slot, AllocError>
+/// Three files side by side, each of a thousand addresses.
+fn three_files(alloc: Global, shard: Shard) -> Result<Slot, AllocError>
+    requires { shard.range ≡ slot_range 0 2999 }
     ensures range { IfOk result (λ slot. slot.range ≡ slot_range 0 2999) }
     ensures ids { IfOk result (λ slot. AllByRecursion (λ file. file.id < 3) slot.files) }
     ensures mask { IfOk result (λ slot. slot.mask ≡ []) }
@@ -101,7 +105,8 @@ fn three_files(alloc: Global) -> Result<Slot, AllocError>
     files.push(file(alloc, 0, 0, 1000)?)?;
     files.push(file(alloc, 1, 1000, 1000)?)?;
     files.push(file(alloc, 2, 2000, 1000)?)?;
-    let shard = index(alloc, range, b"a", 1)?;
+    // any call of the index tells that it is one
+    let _terms = shard.term_count();
     Slot::new(alloc, range, shard, files)
 }
 
@@ -141,7 +146,11 @@ fn deleted<R: Abort>(rt: &R, version: &Version, id: u64) -> Result<Version, Allo
 
 /// A slot with a dead middle, one without files, and lists whose lengths are about those of blocks.
 fn slots<R: Abort>(rt: &R, alloc: Global) -> Result<Version, AllocError> {
-    let slot = three_files(alloc)?;
+    let range = Range {
+        first: 0,
+        last: 2999,
+    };
+    let slot = three_files(alloc, index(alloc, range, b"a", 1)?)?;
     let mut version = Version::of_slot(alloc, 0, 3000, 3, Some(slot))?;
     let lists = [
         (b"a", 1),
@@ -209,5 +218,186 @@ fn look_ups_in_no_order_are_those_of_the_version(rt: HostRuntime) -> Result<(), 
     let version = slots(&rt, rt.alloc())?;
     assert_eq!(rt; version.dels(), 2);
     ask_both::<Brand, _>(&rt, &version);
+    Ok(())
+}
+
+/// The next of the numbers that stand for chance.
+fn chance(state: u64) -> u64 {
+    state
+        .wrapping_mul(6364136223846793005)
+        .wrapping_add(1442695040888963407)
+}
+
+/// Words of which two are in the phrase, so it comes about once in sixteen words.
+const WORDS: [&str; 4] = ["of", "the", "a", "king"];
+
+/// So many of these words as chance wants them.
+fn chance_words(alloc: Global, seed: u64, count: usize) -> Result<TokenList, AllocError> {
+    let mut words = TokenList::new(alloc);
+    let mut state = seed;
+    for _ in 0..count {
+        state = chance(state);
+        let word = WORDS[((state >> 33) % 4) as usize];
+        words.push(Bytes::copy_of(alloc, word.as_bytes())?)?;
+    }
+    Ok(words)
+}
+
+/// The version with one file more of such words, in a slot of its own.
+fn with_words(
+    alloc: Global,
+    version: &Version,
+    seed: u64,
+    count: usize,
+) -> Result<Option<Version>, AllocError> {
+    let base = version.next();
+    let id = version.next_id();
+    let words = chance_words(alloc, seed, count)?;
+    let len = words.len() as u64;
+    if 1000 < len
+        || ADDRESS_END - 3000 < base
+        || 1 << 40 < id
+        || 1 << 40 < version.number()
+        || 32 <= version.slot_count()
+    {
+        return Ok(None);
+    }
+    let shard = build(alloc, base, &words)?;
+    let version = version.with_file(file(alloc, id, base, len + 2)?, shard)?;
+    Ok(Some(version))
+}
+
+/// One slot of three files.
+fn of_chance<R: Abort>(rt: &R, alloc: Global) -> Result<Slot, AllocError>
+    ensures range { IfOk result (λ slot. slot.range ≡ slot_range 0 2999) }
+    ensures ids { IfOk result (λ slot. AllByRecursion (λ file. file.id < 3) slot.files) }
+    ensures mask { IfOk result (λ slot. slot.mask ≡ []) }
+{
+    let words = chance_words(alloc, 1, 2998)?;
+    assert_eq!(rt; words.len(), 2998);
+    three_files(alloc, build(alloc, 0, &words)?)
+}
+
+/// A slot with a dead middle, one without files, and others whose lists end within blocks and at their ends.
+fn chance_slots<R: Abort>(rt: &R, alloc: Global) -> Result<Version, AllocError> {
+    let slot = of_chance(rt, alloc)?;
+    let mut version = Version::of_slot(alloc, 0, 3000, 3, Some(slot))?;
+    for (seed, count) in [(2, 1), (3, 300), (4, 1000), (5, 600), (6, 1000)] {
+        version = with_words(alloc, &version, seed, count)?.expect(rt, "a file may be added");
+    }
+    deleted(rt, &deleted(rt, &version, 1)?, 4)
+}
+
+/// Where the second word next stands right behind the first one from `k` on, by look-ups in the version.
+fn next_pair(version: &Version, first: &str, second: &str, k: u64) -> Option<u64> {
+    let mut at = k;
+    for _ in 0..10_000u32 {
+        let p = found(version, first, at, Direction::Forward).0?;
+        at = p.saturating_add(1);
+        if found(version, second, at, Direction::Forward).0 == Some(at) {
+            return Some(p);
+        }
+    }
+    None
+}
+
+/// Walks on from `k` as a phrase does, and gives over how many addresses it went without a look-up.
+fn went_over<J: Naming, R: Abort>(
+    rt: &R,
+    version: &Version,
+    fingers: &Fingers<'_, J>,
+    words: (&str, &str),
+    k: u64,
+) -> u64 {
+    let (first, second) = words;
+    let mut start = k;
+    let mut over = 0u64;
+    for _ in 0..20u32 {
+        let from = fingers.earliest_pair(first.as_bytes(), second.as_bytes(), start);
+        let next = next_pair(version, first, second, start);
+        assert!(rt; start <= from, "{first} {second} at {start}");
+        assert!(rt;
+            next.is_none_or(|p| from <= p),
+            "{first} {second} at {start}"
+        );
+        over = over.saturating_add(from - start);
+        let Some(p) = found(fingers, first, from, Direction::Forward).0 else {
+            return over;
+        };
+        start = p.saturating_add(1);
+        let Some(q) = found(fingers, second, start, Direction::Forward).0 else {
+            return over;
+        };
+        start = start.max(q.saturating_sub(1));
+    }
+    over
+}
+
+/// Two words with fingers in either order, one beside itself, and words of which one has no finger.
+const ASIDE: [(&str, &str); 5] = [
+    ("of", "the"),
+    ("the", "of"),
+    ("a", "a"),
+    ("the", "king"),
+    ("who", "of"),
+];
+
+fn ask_aside<J: Naming, R: Abort>(rt: &R, version: &Version)
+    requires { version.now ≡ J.version }
+{
+    let mut fingers = Fingers::<J>::new(version);
+    for term in ["of", "the", "a"] {
+        fingers.add(term.as_bytes());
+    }
+    let mut state = 1u64;
+    let mut over = 0u64;
+    for _ in 0..200u32 {
+        state = chance(state);
+        for words in ASIDE {
+            over = over.saturating_add(went_over(
+                rt,
+                version,
+                &fingers,
+                words,
+                (state >> 33) % 6000,
+            ));
+        }
+    }
+    assert!(rt; over > 10_000, "{over}");
+}
+
+#[test]
+fn no_pair_is_passed_over(rt: HostRuntime) -> Result<(), Fail> {
+    let version = chance_slots(&rt, rt.alloc())?;
+    assert_eq!(rt; version.dels(), 2);
+    ask_aside::<Brand, _>(&rt, &version);
+    Ok(())
+}
+
+/// A block is unpacked as soon as it is looked into twice.
+fn ask_unpacked<J: Naming, R: Abort>(rt: &R, version: &Version)
+    requires { version.now ≡ J.version }
+{
+    let mut fingers = Fingers::<J>::new(version);
+    for term in ["of", "the"] {
+        fingers.add(term.as_bytes());
+        for k in [1, 2] {
+            assert!(rt; found(&fingers, term, k, Direction::Forward).0.is_some());
+        }
+    }
+    for k in 20..120u64 {
+        let next = next_pair(version, "of", "the", k);
+        assert_eq!(rt;
+            Some(fingers.earliest_pair(b"of", b"the", k)),
+            next,
+            "at {k}"
+        );
+    }
+}
+
+#[test]
+fn of_two_unpacked_blocks_the_next_pair_is_told(rt: HostRuntime) -> Result<(), Fail> {
+    let version = chance_slots(&rt, rt.alloc())?;
+    ask_unpacked::<Brand, _>(&rt, &version);
     Ok(())
 }

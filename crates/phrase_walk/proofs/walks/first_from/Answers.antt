@@ -3,7 +3,7 @@ use Rattle.gcl_model.specs.Cost.{fewest_places}
 use Rattle.gcl_model.specs.Texts.{next_place}
 use Rattle.phrase_walk.proofs.Rows.{IsInPlace, token_at, token_is}
 use Rattle.phrase_walk.proofs.Asked.{asked_turns, rounds_within}
-use Rattle.phrase_walk.proofs.Steps.{Leads, IsAskedForward, passed_upto, forward_on, forward_found, forward_past, forward_cost, none_before_next, no_next, next_within, closer_on}
+use Rattle.phrase_walk.proofs.Steps.{Leads, IsAskedForward, passed_upto, forward_on, forward_found, forward_past, forward_cost, none_before_next, none_before_on, no_next, next_within, closer_on}
 use Rattle.phrase_walk.proofs.walks.first_from.Goals as goal
 use Rattle.phrase_walk.proofs.walks.first_from.Goals.{then-earliest-start, else-earliest-start}
 
@@ -19,10 +19,12 @@ returns-in_err-place-clause-answer g c =
     let tokens = c.args.tokens.now in
     let start = c.loop-agreed.start in
     let turn = c.loop-agreed.turn in
+    let from = c.earliest_start-from.result in
     let kept = c.loop-agreed.invariant in
     let token : c.as_slice.result.now ≡ token_at tokens turn = token_is tokens turn c.index-tokens-turn.result c.as_slice.result.now kept.turn (c.as_slice.ensures ∙ c.index-tokens-turn.is) in
     rw c.from_residual.ensures
-    (no_next text tokens c.in_err-place.ensures.sound c.requires c.args.k start turn kept.turn (subst (λ t. None ≡ next_place text.words t (start + turn)) token c.in_err-place.ensures.answer) kept.before)
+    (no_next text tokens c.in_err-place.ensures.sound c.requires c.args.k from turn kept.turn (subst (λ t. None ≡ next_place text.words t (from + turn)) token c.in_err-place.ensures.answer)
+    (none_before_on text tokens c.args.k start from kept.before c.earliest_start-from.ensures.none))
 
 pub returns-in_err-place-clause-rounds : goal.returns-in_err-place-clause-rounds
 returns-in_err-place-clause-rounds g c =
@@ -41,11 +43,12 @@ overflow_sub-earliest g c =
     let tokens = c.args.tokens.now in
     let start = c.loop-agreed.start in
     let turn = c.loop-agreed.turn in
+    let from = c.earliest_start-from.result in
     let kept = c.loop-agreed.invariant in
     let token : c.as_slice.result.now ≡ token_at tokens turn = token_is tokens turn c.index-tokens-turn.result c.as_slice.result.now kept.turn (c.as_slice.ensures ∙ c.index-tokens-turn.is) in
     let place = c.in_ok-place.place in
-    let is : Some place ≡ next_place text.words (token_at tokens turn) (start + turn) = subst (λ t. Some place ≡ next_place text.words t (start + turn)) token c.in_ok-place.ensures.answer in
-    let within = next_within text tokens c.in_ok-place.ensures.sound c.requires turn start place is in
+    let is : Some place ≡ next_place text.words (token_at tokens turn) (from + turn) = subst (λ t. Some place ≡ next_place text.words t (from + turn)) token c.in_ok-place.ensures.answer in
+    let within = next_within text tokens c.in_ok-place.ensures.sound c.requires turn from place is in
     omega (arith, within.0)
 
 pub loop-agreed-smaller : goal.loop-agreed-smaller
@@ -54,15 +57,17 @@ loop-agreed-smaller g c =
     let tokens = c.args.tokens.now in
     let start = c.loop-agreed.start in
     let turn = c.loop-agreed.turn in
+    let from = c.earliest_start-from.result in
     let kept = c.loop-agreed.invariant in
     let token : c.as_slice.result.now ≡ token_at tokens turn = token_is tokens turn c.index-tokens-turn.result c.as_slice.result.now kept.turn (c.as_slice.ensures ∙ c.index-tokens-turn.is) in
     let place = c.in_ok-place.place in
-    let is : Some place ≡ next_place text.words (token_at tokens turn) (start + turn) = subst (λ t. Some place ≡ next_place text.words t (start + turn)) token c.in_ok-place.ensures.answer in
+    let is : Some place ≡ next_place text.words (token_at tokens turn) (from + turn) = subst (λ t. Some place ≡ next_place text.words t (from + turn)) token c.in_ok-place.ensures.answer in
     let agreed = c.if-earliest-start.agreed in
     let leads : Leads (place - turn) start c.loop-agreed.agreed agreed =
     elim c.if-earliest-start.branch [ then-earliest-start w ↦ inl (w.if-earliest-start.true, w.agreed-is) | else-earliest-start w ↦ inr (w.if-earliest-start.false, w.agreed-is) ] in
-    let within = next_within text tokens c.in_ok-place.ensures.sound c.requires turn start place is in
-    closer_on text.next start turn place (length tokens) c.loop-agreed.agreed agreed c.loop-agreed-test.true within.0 within.1 leads
+    let within = next_within text tokens c.in_ok-place.ensures.sound c.requires turn from place is in
+    let above : start + turn ≤ place = omega (arith, within.0, c.earliest_start-from.ensures.from) in
+    closer_on text.next start turn place (length tokens) c.loop-agreed.agreed agreed c.loop-agreed-test.true above within.1 leads
 
 pub loop-agreed-preserved : goal.loop-agreed-preserved
 loop-agreed-preserved g c =
@@ -70,24 +75,28 @@ loop-agreed-preserved g c =
     let tokens = c.args.tokens.now in
     let start = c.loop-agreed.start in
     let turn = c.loop-agreed.turn in
+    let from = c.earliest_start-from.result in
     let kept = c.loop-agreed.invariant in
     let token : c.as_slice.result.now ≡ token_at tokens turn = token_is tokens turn c.index-tokens-turn.result c.as_slice.result.now kept.turn (c.as_slice.ensures ∙ c.index-tokens-turn.is) in
     let place = c.in_ok-place.place in
-    let is : Some place ≡ next_place text.words (token_at tokens turn) (start + turn) = subst (λ t. Some place ≡ next_place text.words t (start + turn)) token c.in_ok-place.ensures.answer in
+    let is : Some place ≡ next_place text.words (token_at tokens turn) (from + turn) = subst (λ t. Some place ≡ next_place text.words t (from + turn)) token c.in_ok-place.ensures.answer in
     let agreed = c.if-earliest-start.agreed in
     let leads : Leads (place - turn) start c.loop-agreed.agreed agreed =
     elim c.if-earliest-start.branch [ then-earliest-start w ↦ inl (w.if-earliest-start.true, w.agreed-is) | else-earliest-start w ↦ inr (w.if-earliest-start.false, w.agreed-is) ] in
-    let within = next_within text tokens c.in_ok-place.ensures.sound c.requires turn start place is in
+    let within = next_within text tokens c.in_ok-place.ensures.sound c.requires turn from place is in
+    let above : start + turn ≤ place = omega (arith, within.0, c.earliest_start-from.ensures.from) in
     let asked : IsAskedForward text tokens (turn + 1) agreed (place - turn) (g.C.CountedLeaves.most c.args.source.now) (g.C.CountedLeaves.count c.args.counter.now) (g.C.CountedLeaves.count c.next.new.counter) =
-    forward_on text tokens c.in_ok-place.ensures.sound c.requires turn c.loop-agreed.agreed agreed start (g.C.CountedLeaves.most c.args.source.now)
+    forward_on text tokens c.in_ok-place.ensures.sound c.requires turn c.loop-agreed.agreed agreed start from (g.C.CountedLeaves.most c.args.source.now)
     (g.C.CountedLeaves.count c.args.counter.now) (g.C.CountedLeaves.count c.loop-agreed.counter) (g.C.CountedLeaves.count c.next.new.counter) place
-    c.loop-agreed-test.true c.in_ok-place.ensures.cost is leads kept.asked in
+    c.loop-agreed-test.true c.in_ok-place.ensures.cost c.earliest_start-from.ensures.from is leads kept.asked in
     let turns = asked_turns (length tokens) turn c.next_turn-turn.result agreed (passed_upto text tokens (place - turn)) (IsInPlace text tokens (place - turn))
     (g.C.CountedLeaves.most c.args.source.now) (g.C.CountedLeaves.count c.args.counter.now) (g.C.CountedLeaves.count c.next.new.counter) kept.turn c.next_turn-turn.ensures.wraps c.next_turn-turn.ensures.goes_on asked in
     record {
       asked = turns.1;
-      before = none_before_next text tokens c.in_ok-place.ensures.sound c.requires c.args.k start turn place kept.turn is kept.before;
-      from = omega (arith, kept.from, within.0);
+      before =
+          none_before_next text tokens c.in_ok-place.ensures.sound c.requires c.args.k from turn place kept.turn is
+          (none_before_on text tokens c.args.k start from kept.before c.earliest_start-from.ensures.none);
+      from = omega (arith, kept.from, above);
       below = omega (arith, within.1);
       turn = turns.0;
       agreed = elim leads [ inl e ↦ omega (arith, e.1, c.loop-agreed-test.true) | inr e ↦ omega (arith, e.1, c.loop-agreed-test.true) ];

@@ -25,9 +25,9 @@ new-requires-clause-owned c =
     let a = c.in_ok-file.field-0 in
     let b = c.in_ok-file-2.field-0 in
     let d = c.in_ok-file-3.field-0 in
-    let shard = c.in_ok-shard.shard in
-    let last = ap (λ r. r.last) c.in_ok-shard.ensures.range in
+    let shard = c.args.shard in
+    let last = ap (λ r. r.last) c.requires in
     let files = c.in_ok-push-3.ensures.ok ∙ ap (λ l. l ++ d ∷ []) (c.in_ok-push-2.ensures.ok ∙ ap (λ l. l ++ b ∷ []) (c.in_ok-push.ensures.ok ∙ ap (λ l. l ++ a ∷ []) c.new-files.ensures)) in
     subst (λ fs. AllByRecursion (λ w. is_of_files fs w.address ≡ true) (words_of shard)) (sym files)
-    (owned_by (a ∷ b ∷ d ∷ []) (shard.range.last + 1) shard.range.first (words_of shard) (shard_words_rise shard c.in_ok-shard.ensures.shard)
+    (owned_by (a ∷ b ∷ d ∷ []) (shard.range.last + 1) shard.range.first (words_of shard) (shard_words_rise shard c.term_count-terms.ensures.shard)
     (λ p lt. three a b d c.in_ok-file.ensures.base c.in_ok-file.ensures.len c.in_ok-file-2.ensures.base c.in_ok-file-2.ensures.len c.in_ok-file-3.ensures.base c.in_ok-file-3.ensures.len p (omega arith)))

@@ -1,0 +1,90 @@
+ghost use Rattle.std.specs.Prelude.{◌≡◌, ℕ, ◌+◌, ◌-◌, ◌<◌, ◌≤◌, slice_index, length};
+ghost use Rattle.posting_code.specs.Postings.{ArePostings};
+ghost use Rattle.term_fingers.specs.Lists.{ArePassed, IsAt};
+
+use crate::members::one_below;
+
+/// An address from `k` on before which no member of the first list has one of the second right behind it, and the place in each list up to
+/// which it was gone through. The places from which on they are gone through are only hints.
+pub(crate) fn earliest_pair_in(
+    first: &[u64],
+    second: &[u64],
+    hints: (usize, usize),
+    k: u64,
+) -> (u64, usize, usize)
+    requires first { ArePostings first.now }
+    requires second { ArePostings second.now }
+    requires some { 0 < length second.now }
+    requires within { 0 < length first.now }
+    requires reach { k ≤ slice_index first.now (length first.now - 1) }
+    ensures none { (p : ℕ) → k ≤ p → p < result.0 → IsAt first.now p → IsAt second.now (p + 1) → ⊥ }
+    ensures first { result.0 ≤ slice_index first.now (length first.now - 1) + 1 }
+    ensures second { result.0 ≤ slice_index second.now (length second.now - 1) }
+{
+    let at = place_from(first, hints.0, k);
+    let behind = place_from(second, hints.1, k + 1);
+    let (at, behind) = side_by_side(first, second, at, behind, k);
+    let upto = address_at(first, at).min(second[second.len() - 1]);
+    (upto, at, behind)
+}
+
+/// A place before which all members are below `k`: the first one that is not, where the hint is right.
+fn place_from(members: &[u64], hint: usize, k: u64) -> usize
+    ensures within { result ≤ length members.now }
+    ensures before { 0 < result → slice_index members.now (result - 1) < k }
+{
+    // a hint behind a member that is not below `k` is of no use
+    let mut at = if 0 < hint && hint <= members.len() && members[hint - 1] < k {
+        hint
+    } else {
+        0
+    };
+    while at < members.len() && members[at] < k {
+        at += 1;
+    }
+    at
+}
+
+/// Goes through both lists side by side from these places on, up to the first member of the one that has a member of the other right behind
+/// it, or to the end of one.
+fn side_by_side(
+    first: &[u64],
+    second: &[u64],
+    from: usize,
+    from_behind: usize,
+    k: u64,
+) -> (usize, usize)
+    requires first { ArePostings first.now }
+    requires second { ArePostings second.now }
+    requires within { from ≤ length first.now }
+    requires within_behind { from_behind ≤ length second.now }
+    requires passed { ArePassed first.now second.now k from from_behind }
+    ensures within { result.0 ≤ length first.now }
+    ensures passed { ArePassed first.now second.now k result.0 result.1 }
+{
+    let mut at = from;
+    let mut behind = from_behind;
+    while at < first.len() && behind < second.len() && first[at] + 1 != second[behind] {
+        // which of the two goes on is chance, so it is counted without a branch
+        let wanted = first[at] + 1;
+        let met = second[behind];
+        at += one_below(wanted, met);
+        behind += one_below(met, wanted);
+    }
+    (at, behind)
+}
+
+/// The member at a place, or the address behind the last one.
+fn address_at(members: &[u64], at: usize) -> u64
+    requires rising { ArePostings members.now }
+    requires some { 0 < length members.now }
+    requires within { at ≤ length members.now }
+    ensures before { (x : ℕ) → x < length members.now → slice_index members.now x < result → x < at }
+    ensures upto { result ≤ slice_index members.now (length members.now - 1) + 1 }
+{
+    if at == members.len() {
+        members[at - 1] + 1
+    } else {
+        members[at]
+    }
+}
