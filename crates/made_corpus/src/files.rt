@@ -1,6 +1,6 @@
 ghost use Rattle.std.specs.Prelude.{◌≡◌, ◌≤◌, ◌∷◌, Some, OnOk, OnErr};
 ghost use Rattle.std.specs.Option.{option_copied};
-ghost use Rattle.outside.specs.Causes.{HasFileCause, CountsFileFault};
+ghost use Rattle.outside.specs.Causes.{HasFileCause, CountsFileFault, CountsKeep};
 ghost use Rattle.outside.specs.Contents.{IsKept, content_of};
 ghost use Rattle.gcl_model.specs.Limits.{most_made};
 ghost use Rattle.made_corpus.specs.MadeFiles.{made_files, kept_over};
@@ -8,7 +8,7 @@ ghost use Rattle.made_corpus.specs.MadeFiles.{made_files, kept_over};
 use crate::items::put_content;
 use crate::names::file_named;
 use gcl_model::Bytes;
-use outside::{FileError, Files, Loaded};
+use outside::{FileError, Files, GhostCount, Loaded};
 use std::alloc::{AllocError, Global};
 
 /// Puts what was made under a name into a buffer.
@@ -51,6 +51,7 @@ pub struct MadeFiles {
     start: u64,
     count: u64,
     kept: Vec<(Bytes, Bytes)>,
+    unkept: GhostCount,
 }
 
 impl MadeFiles {
@@ -63,6 +64,7 @@ impl MadeFiles {
             start,
             count,
             kept: Vec::new(alloc),
+            unkept: GhostCount::none(),
         }
     }
 
@@ -89,6 +91,8 @@ impl Files for MadeFiles {
 
     ghost faults = { λ _. 0 };
 
+    ghost unkept = { λ f. f.unkept };
+
     fn load(&mut self, name: &[u8], most: u64, out: &mut Vec<u8>) -> Result<Loaded, FileError> {
         self.put_file(name, out)?;
         if out.len() as u64 <= most {
@@ -103,8 +107,14 @@ impl Files for MadeFiles {
         ensures unchanged { OnErr result (⟦<MadeFiles as Files>⟧.held self.new ≡ ⟦<MadeFiles as Files>⟧.held self.old) }
         ensures cause { HasFileCause 0 0 result }
         ensures counts { CountsFileFault 0 0 result }
+        ensures unkept { CountsKeep (⟦<MadeFiles as Files>⟧.unkept self.old) (⟦<MadeFiles as Files>⟧.unkept self.new) result }
     {
-        put_entry(&mut self.kept, name, bytes)?;
-        Ok(())
+        match put_entry(&mut self.kept, name, bytes) {
+            Ok(()) => Ok(()),
+            Err(AllocError) => {
+                self.unkept.add_one();
+                Err(FileError::NoMemory)
+            }
+        }
     }
 }

@@ -1,10 +1,10 @@
 -- What an entry before all others makes of the contents.
-use Rattle.std.proofs.Common.{◌≡◌, ℕ, Bool, true, false, cond, List, [], ◌∷◌, Option, Some, None, refl, sym, ap, inl, inr, find, bytes_eq, unwrap_or, subst, Result, Ok, Err, IsErr}
+use Rattle.std.proofs.Common.{◌≡◌, ℕ, Bool, true, false, cond, List, [], ◌∷◌, Option, Some, None, refl, sym, ap, inl, inr, find, bytes_eq, unwrap_or, subst}
 use Rattle.std.proofs.Math.Path.{fun_ext}
-use Rattle.std.proofs.lemmas.Bool.{cases_Bool, false≢true}
+use Rattle.std.proofs.lemmas.Bool.{cases_Bool}
 use Rattle.std.proofs.lemmas.Slice.Eq.{bytes_eq-Decides}
 use Rattle.std.specs.Option.{option_map}
-use Rattle.outside.specs.Contents.{Contents, ChangesOnly, IsKept, changed_at, content_of, sure_content_of}
+use Rattle.outside.specs.Contents.{Contents, ChangesOnly, changed_at, content_of, sure_content_of}
 
 -- the content of an entry, or of what is found behind it
 content_or : (b : Bool) (name bytes : List ℕ) (rest : Option (List ℕ × List ℕ)) →
@@ -34,11 +34,10 @@ changed_at-same name contents = fun_ext (λ other. elim (cases_Bool (bytes_eq na
 ])
 
 -- files that stay as they are change at most under that name
-pub ChangesOnly-same : (name : List ℕ) (told : Option Contents) → ChangesOnly name told told
+ChangesOnly-same : (name : List ℕ) (told : Option Contents) → ChangesOnly name told told
 ChangesOnly-same name None = record { content = None; is = refl }
 ChangesOnly-same name (Some contents) = record { content = contents name; is = ap Some (sym (changed_at-same name contents)) }
 
--- an answer that is an error, and files that hold what they held
-pub IsKept-err : {T E : Type 0} (before now : Option Contents) (name bytes : List ℕ) (result : Result T E) → IsErr result → now ≡ before → IsKept before now name bytes result
-IsKept-err before now name bytes (Ok value) is same = absurd (false≢true is)
-IsKept-err before now name bytes (Err fault) is same = subst (λ told. ChangesOnly name before told) (sym same) (ChangesOnly-same name before)
+-- so do files that hold what they held
+pub changes_none : (name : List ℕ) (before now : Option Contents) → now ≡ before → ChangesOnly name before now
+changes_none name before now same = subst (λ told. ChangesOnly name before told) (sym same) (ChangesOnly-same name before)

@@ -1,9 +1,9 @@
 ghost use Rattle.std.specs.Prelude.{◌≡◌, ℕ, List, [], ◌∷◌, ◌++◌, Option, None, Some, IfSome, OnOk, OnErr, IsErrOf, ◌⊎◌, ◌↔◌};
 ghost use Rattle.std.specs.Option.{option_copied};
-ghost use Rattle.outside.specs.Causes.{HasFileCause, CountsFileFault};
+ghost use Rattle.outside.specs.Causes.{HasFileCause, CountsFileFault, CountsKeep};
 ghost use Rattle.outside.specs.Contents.{Contents, Loads, IsKept, content_of, sure_content_of};
 
-use crate::{FailList, FileError};
+use crate::{FailList, FileError, GhostCount};
 use gcl_model::Bytes;
 use std::alloc::{AllocError, Global};
 
@@ -24,19 +24,24 @@ pub trait Files {
     /// How often the files have failed.
     ghost faults: { Self → ℕ };
 
+    /// How often a keep has answered an error.
+    ghost unkept: { Self → ℕ };
+
     /// Empties `out` and puts the content of a name there, or its first `most + 1` bytes.
     /// A name that isn't held is a fault.
     fn load(&mut self, name: &[u8], most: u64, out: &mut Vec<u8>) -> Result<Loaded, FileError>
         ensures loaded { Loads (held self.old) name.now most result out.new.items }
         ensures same { held self.new ≡ held self.old }
         ensures cause { HasFileCause (faults self.old) (faults self.new) result }
-        ensures counts { CountsFileFault (faults self.old) (faults self.new) result };
+        ensures counts { CountsFileFault (faults self.old) (faults self.new) result }
+        ensures unkept { unkept self.new ≡ unkept self.old };
 
     /// Makes these bytes the content under a name. Every other name is as before, whatever the answer.
     fn keep(&mut self, name: &[u8], bytes: &[u8]) -> Result<(), FileError>
         ensures kept { IsKept (held self.old) (held self.new) name.now bytes.now result }
         ensures cause { HasFileCause (faults self.old) (faults self.new) result }
-        ensures counts { CountsFileFault (faults self.old) (faults self.new) result };
+        ensures counts { CountsFileFault (faults self.old) (faults self.new) result }
+        ensures unkept { CountsKeep (unkept self.old) (unkept self.new) result };
 }
 
 /// The content of the first entry of that name.
@@ -78,10 +83,11 @@ fn put_entry(held: &mut Vec<(Bytes, Bytes)>, name: &[u8], bytes: &[u8]) -> Resul
 pub struct MemFiles {
     held: Vec<(Bytes, Bytes)>,
     calls: FailList,
+    unkept: GhostCount,
 }
 
 impl MemFiles {
-    ghost use Rattle.outside.specs.Plans.{files_plan};
+    ghost use Rattle.outside.specs.Plans.{files_plan, IsDue, IsOneCallLater};
 
     /// Names and their contents; of two members of one name the first counts. It takes no memory.
     pub fn new(_alloc: Global, held: Vec<(Bytes, Bytes)>, fails: Vec<u64>) -> Self
@@ -91,6 +97,7 @@ impl MemFiles {
         MemFiles {
             held,
             calls: FailList::new(fails),
+            unkept: GhostCount::none(),
         }
     }
 
@@ -99,6 +106,21 @@ impl MemFiles {
         ensures { IfSome (⟦<MemFiles as Files>⟧.held self.now) (λ contents. option_copied result ≡ contents name.now) }
     {
         find_content(self.held.as_slice(), name)
+    }
+
+    /// Makes the call and puts the entry, and counts no keep.
+    fn put(&mut self, name: &[u8], bytes: &[u8]) -> Result<(), FileError>
+        ensures ok { OnOk result (self.new.held.items ≡ (name.now, bytes.now) ∷ self.old.held.items) }
+        ensures err { OnErr result (self.new.held.items ≡ self.old.held.items) }
+        ensures cause { HasFileCause self.old.calls.faults self.new.calls.faults result }
+        ensures counts { CountsFileFault self.old.calls.faults self.new.calls.faults result }
+        ensures planned { IsErrOf result FileError.Failed ↔ IsDue (files_plan self.old) }
+        ensures called { IsOneCallLater (files_plan self.old) (files_plan self.new) }
+        ensures unkept { self.new.unkept ≡ self.old.unkept }
+    {
+        self.calls.call()?;
+        put_entry(&mut self.held, name, bytes)?;
+        Ok(())
     }
 }
 
@@ -109,11 +131,14 @@ impl Files for MemFiles {
 
     ghost faults = { λ f. f.calls.faults };
 
+    ghost unkept = { λ f. f.unkept };
+
     fn load(&mut self, name: &[u8], most: u64, out: &mut Vec<u8>) -> Result<Loaded, FileError>
         ensures loaded { Loads (⟦<MemFiles as Files>⟧.held self.old) name.now most result out.new.items }
         ensures same { ⟦<MemFiles as Files>⟧.held self.new ≡ ⟦<MemFiles as Files>⟧.held self.old }
         ensures cause { HasFileCause (⟦<MemFiles as Files>⟧.faults self.old) (⟦<MemFiles as Files>⟧.faults self.new) result }
         ensures counts { CountsFileFault (⟦<MemFiles as Files>⟧.faults self.old) (⟦<MemFiles as Files>⟧.faults self.new) result }
+        ensures unkept { ⟦<MemFiles as Files>⟧.unkept self.new ≡ ⟦<MemFiles as Files>⟧.unkept self.old }
         ensures planned { IsErrOf result FileError.Failed → IsDue (files_plan self.old) ⊎ IfSome (⟦<MemFiles as Files>⟧.held self.old) (λ contents. contents name.now ≡ None) }
         ensures due { IsDue (files_plan self.old) → IsErrOf result FileError.Failed }
         ensures missing { IfSome (⟦<MemFiles as Files>⟧.held self.old) (λ contents. contents name.now ≡ None → IsErrOf result FileError.Failed) }
@@ -135,12 +160,17 @@ impl Files for MemFiles {
         ensures unchanged { OnErr result (⟦<MemFiles as Files>⟧.held self.new ≡ ⟦<MemFiles as Files>⟧.held self.old) }
         ensures cause { HasFileCause (⟦<MemFiles as Files>⟧.faults self.old) (⟦<MemFiles as Files>⟧.faults self.new) result }
         ensures counts { CountsFileFault (⟦<MemFiles as Files>⟧.faults self.old) (⟦<MemFiles as Files>⟧.faults self.new) result }
+        ensures unkept { CountsKeep (⟦<MemFiles as Files>⟧.unkept self.old) (⟦<MemFiles as Files>⟧.unkept self.new) result }
         ensures planned { IsErrOf result FileError.Failed ↔ IsDue (files_plan self.old) }
         ensures called { IsOneCallLater (files_plan self.old) (files_plan self.new) }
     {
-        self.calls.call()?;
-        put_entry(&mut self.held, name, bytes)?;
-        Ok(())
+        match self.put(name, bytes) {
+            Ok(()) => Ok(()),
+            Err(fault) => {
+                self.unkept.add_one();
+                Err(fault)
+            }
+        }
     }
 }
 
@@ -148,6 +178,7 @@ impl Files for MemFiles {
 #[derive(Drop)]
 pub struct SureFiles {
     held: Vec<(Bytes, Bytes)>,
+    unkept: GhostCount,
 }
 
 impl SureFiles {
@@ -158,7 +189,10 @@ impl SureFiles {
         ensures held { ⟦<SureFiles as Files>⟧.held result ≡ Some (sure_content_of held.items) }
         ensures entries { sure_entries result ≡ held.items }
     {
-        SureFiles { held }
+        SureFiles {
+            held,
+            unkept: GhostCount::none(),
+        }
     }
 
     /// The content under a name, None exactly where it isn't held.
@@ -176,6 +210,8 @@ impl Files for SureFiles {
 
     ghost faults = { λ _. 0 };
 
+    ghost unkept = { λ f. f.unkept };
+
     fn load(&mut self, name: &[u8], most: u64, out: &mut Vec<u8>) -> Result<Loaded, FileError> {
         out.clear();
         let content = find_content(self.held.as_slice(), name).unwrap_or(&[]);
@@ -187,9 +223,15 @@ impl Files for SureFiles {
         ensures unchanged { OnErr result (⟦<SureFiles as Files>⟧.held self.new ≡ ⟦<SureFiles as Files>⟧.held self.old) }
         ensures cause { HasFileCause 0 0 result }
         ensures counts { CountsFileFault 0 0 result }
+        ensures unkept { CountsKeep (⟦<SureFiles as Files>⟧.unkept self.old) (⟦<SureFiles as Files>⟧.unkept self.new) result }
         ensures entries { OnOk result (sure_entries self.new ≡ (name.now, bytes.now) ∷ sure_entries self.old) }
     {
-        put_entry(&mut self.held, name, bytes)?;
-        Ok(())
+        match put_entry(&mut self.held, name, bytes) {
+            Ok(()) => Ok(()),
+            Err(AllocError) => {
+                self.unkept.add_one();
+                Err(FileError::NoMemory)
+            }
+        }
     }
 }

@@ -1,14 +1,14 @@
 ghost use Rattle.std.specs.Prelude.{◌≡◌, ◌≤◌, [], None, IsTrue};
 ghost use Rattle.std.specs.Io.KnownBytes.{Appends};
 ghost use Rattle.outside.specs.Contents.{Loads};
-ghost use Rattle.outside.specs.Causes.{Rose};
+ghost use Rattle.outside.specs.Causes.{HasFileCause, CountsFileFault, Rose};
 ghost use Rattle.outside_std.specs.Loading.{content_left};
 
 use crate::beside::create_beside;
 use crate::sink::write_again;
 use crate::source::read_again;
 use gcl_model::Bytes;
-use outside::{FileError, Files, Loaded};
+use outside::{FileError, Files, GhostCount, Loaded};
 use std::fs::OpenFile;
 use std::io::{Read, Write};
 use std::{fs, rt};
@@ -30,6 +30,7 @@ pub enum FileCall {
 pub struct StdFiles<'a, R> {
     rt: &'a R,
     faults: u64,
+    unkept: GhostCount,
     call: Option<FileCall>,
     last: Option<Bytes>,
 }
@@ -42,6 +43,7 @@ impl<'a, R: rt::Files + AllocGlobal> StdFiles<'a, R> {
         StdFiles {
             rt,
             faults: 0,
+            unkept: GhostCount::none(),
             call: None,
             last: None,
         }
@@ -64,10 +66,31 @@ impl<'a, R: rt::Files + AllocGlobal> StdFiles<'a, R> {
     fn fault(&mut self, call: FileCall, name: &[u8])
         ensures later { self.old.faults ≤ self.new.faults }
         ensures rose { Rose self.old.faults self.new.faults }
+        ensures unkept { self.new.unkept ≡ self.old.unkept }
     {
         self.faults = self.faults.saturating_add(1);
         self.call = Some(call);
         self.last = Bytes::copy_of(self.rt.alloc(), name).ok();
+    }
+
+    // Puts the bytes under a name, and counts no keep.
+    fn put(&mut self, name: &[u8], bytes: &[u8]) -> Result<(), FileError>
+        ensures cause { HasFileCause self.old.faults self.new.faults result }
+        ensures counts { CountsFileFault self.old.faults self.new.faults result }
+        ensures unkept { self.new.unkept ≡ self.old.unkept }
+    {
+        let Ok(path) = str::from_utf8(name) else {
+            self.fault(FileCall::Keep, name);
+            return Err(FileError::Failed);
+        };
+        match replace(self.rt, path, bytes) {
+            Ok(()) => Ok(()),
+            Err(FileError::NoMemory) => Err(FileError::NoMemory),
+            Err(FileError::Failed) => {
+                self.fault(FileCall::Keep, name);
+                Err(FileError::Failed)
+            }
+        }
     }
 }
 
@@ -138,6 +161,8 @@ impl<'a, R: rt::Files + AllocGlobal> Files for StdFiles<'a, R> {
 
     ghost faults = { λ f. f.faults };
 
+    ghost unkept = { λ f. f.unkept };
+
     fn load(&mut self, name: &[u8], most: u64, out: &mut Vec<u8>) -> Result<Loaded, FileError> {
         out.clear();
         let Ok(path) = str::from_utf8(name) else {
@@ -159,16 +184,11 @@ impl<'a, R: rt::Files + AllocGlobal> Files for StdFiles<'a, R> {
     }
 
     fn keep(&mut self, name: &[u8], bytes: &[u8]) -> Result<(), FileError> {
-        let Ok(path) = str::from_utf8(name) else {
-            self.fault(FileCall::Keep, name);
-            return Err(FileError::Failed);
-        };
-        match replace(self.rt, path, bytes) {
+        match self.put(name, bytes) {
             Ok(()) => Ok(()),
-            Err(FileError::NoMemory) => Err(FileError::NoMemory),
-            Err(FileError::Failed) => {
-                self.fault(FileCall::Keep, name);
-                Err(FileError::Failed)
+            Err(fault) => {
+                self.unkept.add_one();
+                Err(fault)
             }
         }
     }

@@ -1,17 +1,14 @@
-use Rattle.std.proofs.Common.{◌≡◌, ◌∷◌, ◌∙◌, Some, refl, ap, rules}
+use Rattle.std.proofs.Common.{◌≡◌, ◌∷◌, ◌∙◌, Some, ap, rules}
 use Rattle.outside.specs.Contents.{content_of}
-use Rattle.outside.proofs.Keeping.{content_of-first, IsKept-err}
+use Rattle.outside.proofs.Keeping.{changes_none, content_of-first}
 use Rattle.outside.proofs.files.MemFilesFiles.keep.Goals as goal
 
-pub returns-in_err-call-clause-kept : goal.returns-in_err-call-clause-kept
-returns-in_err-call-clause-kept c = IsKept-err _ _ c.args.name.now c.args.bytes.now c.from_residual.result (search rules) refl
+pub returns-in-Err-clause-kept : goal.returns-in-Err-clause-kept
+returns-in-Err-clause-kept c =
+    let same : c.put.new.self.held.items ≡ c.args.self.now.held.items = search rules in
+    changes_none c.args.name.now _ _ (ap (λ held. Some (content_of held)) same)
 
-pub returns-in_err-put_entry-clause-kept : goal.returns-in_err-put_entry-clause-kept
-returns-in_err-put_entry-clause-kept c =
-    let same : c.put_entry.new.held.items ≡ c.args.self.now.held.items = search rules in
-    IsKept-err _ _ c.args.name.now c.args.bytes.now c.from_residual-in_err-put_entry.result (search rules) (ap (λ held. Some (content_of held)) same)
-
-pub returns-clause-kept : goal.returns-clause-kept
-returns-clause-kept c =
-    let put : c.put_entry.new.held.items ≡ (c.args.name.now, c.args.bytes.now) ∷ c.args.self.now.held.items = search rules in
+pub returns-in-Ok-clause-kept : goal.returns-in-Ok-clause-kept
+returns-in-Ok-clause-kept c =
+    let put : c.put.new.self.held.items ≡ (c.args.name.now, c.args.bytes.now) ∷ c.args.self.now.held.items = search rules in
     ap (λ held. Some (content_of held)) put ∙ ap Some (content_of-first c.args.name.now c.args.bytes.now c.args.self.now.held.items)
