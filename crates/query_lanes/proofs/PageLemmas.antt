@@ -11,10 +11,7 @@ use Rattle.gcl_model.specs.Limits.{address_end}
 use Rattle.gcl_model.specs.Meaning.{concordance, denotes}
 use Rattle.gcl_model.proofs.Covers.{Has, of_each}
 use Rattle.gcl_model.proofs.Meanings.{IsOf, each_of_text, concordance_rises}
-use Rattle.live_version.specs.Contents.{version_text}
-use Rattle.manifest_publish.proofs.Stands.{latest-stands}
 use Rattle.reader_pass.specs.Members.{first_members_from}
-use Rattle.collection.specs.Engines.{EngineContent, IsEngine}
 
 -- what stands between two lists is a member of both put together
 has_between : (before rest : List Extent) (a : Extent) → Has (before ++ a ∷ rest) a
@@ -46,13 +43,9 @@ page_is text form most before rest a parts =
     ap (λ list. take most (from_there (a.start + 1) list)) parts
     ∙ ap (λ list. take most list) (from_behind before rest a (subst IsRising parts (concordance_rises text form)))
 
--- a member of the list of a form starts below the end of addresses
-pub starts_below : (e : EngineContent) (form : Form) (before rest : List Extent) (a : Extent) → IsEngine e → concordance (version_text e.version) form ≡ before ++ a ∷ rest → a.start < address_end
-starts_below e form before rest a is parts =
-    let text = version_text e.version in
-    let stands = latest-stands e.history e.version is.ends.0 is.ends.1 in
-    let next : e.version.next ≡ stands.0.next = stands.1.next in
-    let within : stands.0.next ≤ address_end = (is.sound stands.0 stands.1).in_range in
+-- a member of the list of a form starts below the end of addresses, where the text does not go past it
+pub starts_below : (text : Text) (form : Form) (before rest : List Extent) (a : Extent) → text.next ≤ address_end → concordance text form ≡ before ++ a ∷ rest → a.start < address_end
+starts_below text form before rest a within parts =
     let of = of_each (IsOf text) (concordance text form) a (each_of_text text (denotes text form)) (subst (λ (list : List Extent). Has list a) (sym parts) (has_between before rest a)) in
     let proper = of.proper in
     let below = of.below in

@@ -1,11 +1,14 @@
 -- The answer to a query over a text.
-use Rattle.std.specs.Prelude.{ℕ, List, length, take, Result, Ok, Err}
+use Rattle.std.specs.Prelude.{ℕ, List, length, take, Option, None, Some, Result, Ok, Err}
 use Rattle.gcl_model.specs.Extents.{Extent}
 use Rattle.gcl_model.specs.Texts.{Text}
 use Rattle.gcl_model.specs.FormOf.{form_of}
 use Rattle.gcl_model.specs.Meaning.{concordance}
 use Rattle.gcl_model.specs.declared.expr.Expr.{Expr}
 use Rattle.gcl_parser.specs.declared.fault.QueryFault.{QueryFault}
+use Rattle.live_version.specs.Contents.{version_text}
+use Rattle.manifest_publish.specs.Accounts.{Account}
+use Rattle.collection.specs.Engines.{last_of}
 use Rattle.query_lanes.specs.declared.asks.Asked.{Asked}
 use Rattle.query_lanes.specs.declared.asks.Asked.TheVariants.{All, First, Number}
 use Rattle.query_lanes.specs.declared.asks.Ask.{Ask}
@@ -28,6 +31,12 @@ abbrev pub answer_by : Asked → Text → Result Expr QueryFault → Found
 answer_by asked text (Ok expr) = found_in asked (concordance text (form_of expr))
 answer_by asked text (Err fault) = Refused fault
 
--- the answer to a query over a text: over "to be or not to be" from address 0 on, to `count "to"` it is the number 2
+-- the text that a query is asked over: that of the last version of its own pass, where it has one, and else this one
+abbrev pub text_asked : Option Account → Text → Text
+text_asked None text = text
+text_asked (Some pass) text = version_text (last_of pass.history)
+
+-- the answer to a query over a text, where it has no pass of its own: over "to be or not to be" from address 0 on, to `count "to"` it is
+-- the number 2
 abbrev pub answer_in : Text → Ask → Found
-answer_in text ask = answer_by ask.asked text ask.query
+answer_in text ask = answer_by ask.asked (text_asked ask.pass text) ask.query

@@ -1,6 +1,7 @@
 -- What the lanes of a batch have done.
-use Rattle.std.specs.Prelude.{◌≡◌, ℕ, ◌+◌, ◌*◌, ◌≤◌, ◌<◌, true, List, [], ◌∷◌, ◌++◌, length, slice_get, slice_index_or, Option, Some}
+use Rattle.std.specs.Prelude.{◌≡◌, ℕ, ◌+◌, ◌*◌, ◌≤◌, ◌<◌, ◌⊎◌, ⊤, Bool, true, List, [], ◌∷◌, ◌++◌, length, slice_get, slice_index_or, Option, None, Some}
 use mathlib.Core.List.{IsPrefix}
+use Rattle.gcl_model.specs.Texts.{Text}
 use Rattle.live_version.specs.Contents.{VersionContent, version_text}
 use Rattle.manifest_publish.specs.Accounts.{ReaderContent, EndsWith, GoesOn}
 use Rattle.collection.specs.Engines.{EngineContent}
@@ -18,13 +19,22 @@ pub record IsMadeOn (ask : Ask) (before after : ReaderContent) (made : Made) : T
   pub ends : EndsWith history version
   pub from : GoesOn before history
   pub seen : IsPrefix history after.seen
-  pub number : made.number ≡ version.number
+  pub number : made.number ≡ Some version.number
   pub found : made.found ≡ answer_in (version_text version) ask
+
+-- the answer was made on the query's own pass: it is the one over whatever text
+pub record IsMadeOnOwn (ask : Ask) (made : Made) : Type 0 where
+  pub number : made.number ≡ None
+  pub found : (text : Text) → made.found ≡ answer_in text ask
+
+-- the answer was made on the query's own pass, or else on a version that the reader entered
+abbrev pub IsMade : Ask → ReaderContent → ReaderContent → Made → Type 0
+IsMade ask before after made = IsMadeOnOwn ask made ⊎ IsMadeOn ask before after made
 
 -- the k-th answer of a lane, where there is one, is to the k-th of its queries: each `lanes`-th one from the one at `at` on
 abbrev pub AreMadeOn : List Ask → ℕ → ℕ → ReaderContent → ReaderContent → List (Option Made) → Type 0
 AreMadeOn asks lanes at before after answers = (k : ℕ) (made : Made) (ask : Ask) → slice_get answers k ≡ Some (Some made)
-    → slice_get asks (at + k * lanes) ≡ Some ask → IsMadeOn ask before after made
+    → slice_get asks (at + k * lanes) ≡ Some ask → IsMade ask before after made
 
 -- a lane has answered its queries
 pub record IsRun (asks : List Ask) (lanes at : ℕ) (before after : ReaderContent) (work : Work) : Type 0 where
@@ -64,10 +74,16 @@ pub record AreSettled (history : List VersionContent) (before after : List Reade
   pub each : (i : ℕ) (d : ReaderContent) (e : Work) → i < length before
       → IsSettled history (slice_index_or before i d) (slice_index_or after i d) (slice_index_or works i e) (slice_index_or works' i e)
 
--- of a lane whose reader entered after the batch, each answer on a version that is none behind the engine's is the one over the engine's text
+-- an answer on the query's own pass counts, and another where the lane's reader entered after the batch and the version is none behind the
+-- engine's last one
+abbrev pub Counts : Bool → ℕ → Option ℕ → Type 0
+Counts settled last None = ⊤
+Counts settled last (Some number) = (settled ≡ true) × (number ≤ last)
+
+-- each answer of a lane that counts is the one over the engine's text
 abbrev pub IsTrusted : List Ask → ℕ → EngineContent → ℕ → Work → Type 0
-IsTrusted asks lanes engine at work = work.is_settled ≡ true → (k : ℕ) (made : Made) (ask : Ask) → slice_get work.made.items k ≡ Some (Some made)
-    → slice_get asks (at + k * lanes) ≡ Some ask → made.number ≤ engine.version.number → made.found ≡ answer_in (version_text engine.version) ask
+IsTrusted asks lanes engine at work = (k : ℕ) (made : Made) (ask : Ask) → slice_get work.made.items k ≡ Some (Some made)
+    → slice_get asks (at + k * lanes) ≡ Some ask → Counts work.is_settled engine.version.number made.number → made.found ≡ answer_in (version_text engine.version) ask
 
 -- the same of each lane
 abbrev pub AreTrusted : List Ask → EngineContent → List Work → Type 0

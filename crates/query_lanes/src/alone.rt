@@ -1,25 +1,51 @@
 ghost use Rattle.std.specs.Prelude.{◌≡◌, ◌<◌, map, IfOk, OnOk, OnErr};
 ghost use Rattle.collection.specs.Engines.{merge_end};
+ghost use Rattle.gcl_model.specs.FormOf.{form_of};
+ghost use Rattle.gcl_model.specs.Meaning.{concordance};
+ghost use Rattle.gcl_model.specs.WellFormed.{IsWellFormed};
 ghost use Rattle.live_version.specs.Contents.{version_text};
-ghost use Rattle.query_lanes.specs.Answers.{answer_in};
+ghost use Rattle.query_lanes.specs.Answers.{answer_in, found_in, text_asked};
 ghost use Rattle.query_lanes.specs.Merges.{IsMergedWhere, HasOneText};
 
-use crate::asks::{Ask, Found};
-use crate::found::find;
+use crate::asks::{Ask, Asked, Found};
+use crate::found::find_own;
 use crate::merging::merge;
 use collection::Engine;
+use gcl_model::Expr;
+use manifest_publish::Pass;
 use outside::Gate;
 use std::alloc::{AllocError, Global};
 use std::sync::Wait;
 
-/// Answers a query on the engine's own pass.
+/// Finds what a query asks on its own pass, or else on the engine's.
+fn find_alone(
+    alloc: Global,
+    engine: &Engine,
+    own: &Option<Pass>,
+    asked: Asked,
+    expr: &Expr,
+) -> Result<Found, AllocError>
+    requires { IsWellFormed (form_of expr.now) }
+    ensures { IfOk result (λ found. found ≡ found_in asked (concordance (text_asked own.now (version_text engine.now.version)) (form_of expr.now))) }
+{
+    if let Some(pass) = own {
+        let found = find_own(alloc, pass, asked, expr)?;
+        return Ok(found);
+    }
+    // by it the history is known to end with the engine's version
+    let _version = engine.version();
+    let pass = engine.pass()?;
+    let found = find_own(alloc, &pass, asked, expr)?;
+    Ok(found)
+}
+
+/// Answers a query on its own pass, or else on the engine's.
 pub fn answer_alone(alloc: Global, engine: &Engine, ask: &Ask) -> Result<Found, AllocError>
     ensures { IfOk result (λ found. found ≡ answer_in (version_text engine.now.version) ask.now) }
 {
     match &ask.query {
         Ok(expr) => {
-            let pass = engine.pass()?;
-            let found = find(alloc, &pass, ask.asked, expr)?;
+            let found = find_alone(alloc, engine, &ask.pass, ask.asked, expr)?;
             Ok(found)
         }
         Err(fault) => Ok(Found::Refused(*fault)),

@@ -5,6 +5,7 @@ ghost use Rattle.query_lanes.specs.WellFormedOnce.{query-prop};
 
 use gcl_model::{Expr, IntervalList};
 use gcl_parser::QueryFault;
+use manifest_publish::Pass;
 
 /// What a query asks of the concordance list of its expression.
 #[derive(Clone, Copy, Debug, PartialEq, Eq)]
@@ -26,6 +27,8 @@ pub struct Ask {
     pub asked: Asked,
     /// Its expression, or why it has none.
     pub query: Result<Expr, QueryFault>,
+    /// The version that it is asked on, where that is another than the engine's before the batch.
+    pub pass: Option<Pass>,
     ghost well_formed: { IfOk query (λ expr. IsWellFormed (form_of expr)) } by { query-prop query },
 }
 

@@ -5,6 +5,7 @@ ghost use Rattle.gcl_model.specs.WellFormed.{IsWellFormed};
 ghost use Rattle.live_version.specs.Contents.{VersionContent, version_text};
 ghost use Rattle.manifest_publish.specs.Histories.{IsLatest};
 ghost use Rattle.reader_pass.specs.Members.{first_members};
+ghost use Rattle.collection.specs.Engines.{last_of};
 ghost use Rattle.query_lanes.specs.Answers.{found_in};
 
 use crate::asks::{Asked, Found};
@@ -114,4 +115,15 @@ pub fn find(alloc: Global, pass: &Pass, asked: Asked, expr: &Expr) -> Result<Fou
         }
         Asked::Number => Ok(Found::Number(count(pass, expr))),
     }
+}
+
+/// The same, of the text of the pass.
+pub fn find_own(alloc: Global, pass: &Pass, asked: Asked, expr: &Expr) -> Result<Found, AllocError>
+    requires { IsWellFormed (form_of expr.now) }
+    ensures { IfOk result (λ found. found ≡ found_in asked (concordance (version_text (last_of pass.now.history)) (form_of expr.now))) }
+{
+    // by it the history is known to have a last version
+    let _version = pass.version();
+    let found = find(alloc, pass, asked, expr)?;
+    Ok(found)
 }

@@ -1,9 +1,9 @@
-ghost use Rattle.std.specs.Prelude.{◌≡◌, ◌<◌, ℕ, length, map, slice_get, Some, IfOk, IfSome};
+ghost use Rattle.std.specs.Prelude.{◌≡◌, ◌<◌, ℕ, length, map, slice_get, Some, IfOk, IfSome, IsTrue};
 ghost use Rattle.live_version.specs.Contents.{version_text};
 ghost use Rattle.query_lanes.specs.declared.asks.Ask.{Ask};
 ghost use Rattle.query_lanes.specs.declared.work.Made.{Made};
 ghost use Rattle.query_lanes.specs.Answers.{answer_in};
-ghost use Rattle.query_lanes.specs.Lanes.{AreTrusted};
+ghost use Rattle.query_lanes.specs.Lanes.{AreTrusted, Counts};
 
 use crate::alone::answer_alone;
 use crate::asks::{Ask, Found};
@@ -22,7 +22,17 @@ fn take_made(made: &mut [Option<Made>], k: usize) -> Option<Made>
     made[k].take()
 }
 
-/// Takes the answer that a lane made to the query at `j`, where its version is one of the engine's.
+/// Whether an answer counts that a lane made on the version of this number, or on the query's own.
+fn counts(engine: &Engine, is_settled: bool, number: Option<u64>) -> bool
+    ensures { IsTrue result → Counts is_settled engine.now.version.number number }
+{
+    match number {
+        None => true,
+        Some(number) => is_settled && number <= engine.version().number(),
+    }
+}
+
+/// Takes the answer that a lane made to the query at `j`, where it counts.
 fn take_kept(engine: &Engine, works: &mut [Work], asks: &[Ask], j: usize) -> Option<Found>
     requires trusted { AreTrusted asks.now engine.now works.old }
     ensures trusted { AreTrusted asks.now engine.now works.new }
@@ -33,11 +43,8 @@ fn take_kept(engine: &Engine, works: &mut [Work], asks: &[Ask], j: usize) -> Opt
     }
     let lanes = works.len();
     let work = &mut works[j % lanes];
-    if !work.is_settled {
-        return None;
-    }
     let made = take_made(work.made.as_mut_slice(), j / lanes)?;
-    if made.number > engine.version().number() {
+    if !counts(engine, work.is_settled, made.number) {
         return None;
     }
     Some(made.found)

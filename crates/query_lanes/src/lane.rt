@@ -1,17 +1,67 @@
-ghost use Rattle.std.specs.Prelude.{◌≡◌, ◌≤◌, ◌<◌, length, IfOk, IfSome};
+ghost use Rattle.std.specs.Prelude.{◌≡◌, ◌≤◌, ◌<◌, length, None, Some, Ok, IfOk, IfSome};
+ghost use Rattle.gcl_model.specs.FormOf.{form_of};
 ghost use Rattle.gcl_model.specs.Limits.{most_readers};
+ghost use Rattle.gcl_model.specs.WellFormed.{IsWellFormed};
 ghost use Rattle.query_lanes.specs.Readers.{IsLater};
-ghost use Rattle.query_lanes.specs.Lanes.{IsMadeOn, AreMadeOn, IsRun};
+ghost use Rattle.query_lanes.specs.Lanes.{AreMadeOn, IsMade, IsMadeOn, IsMadeOnOwn, IsRun};
 
 use crate::asks::Ask;
 use crate::enter::enter;
-use crate::found::find;
+use crate::found::{find, find_own};
 use crate::work::{Made, Work};
-use manifest_publish::Reader;
+use gcl_model::Expr;
+use manifest_publish::{Pass, Reader};
 use outside::Gate;
 use std::alloc::{AllocError, Global};
 
-/// Enters anew and answers a query: None where there was no pass, or the query is refused.
+/// Answers a query on its own pass.
+fn make_own<G: Gate>(
+    alloc: Global,
+    gate: &G,
+    ask: &Ask,
+    pass: &Pass,
+    expr: &Expr,
+) -> Result<Made, AllocError>
+    requires own { ask.now.pass ≡ Some pass.now }
+    requires asked { ask.now.query ≡ Ok expr.now }
+    requires well_formed { IsWellFormed (form_of expr.now) }
+    ensures { IfOk result (IsMadeOnOwn ask.now) }
+{
+    let found = find_own(alloc, pass, ask.asked, expr)?;
+    gate.after_query(ask.number, pass.version().number());
+    Ok(Made {
+        number: None,
+        found,
+    })
+}
+
+/// Enters anew and answers a query: None where there was no pass.
+fn make_entered<G: Gate>(
+    alloc: Global,
+    gate: &G,
+    ask: &Ask,
+    expr: &Expr,
+    reader: &mut Reader,
+) -> Result<Option<Made>, AllocError>
+    requires free { ask.now.pass ≡ None }
+    requires asked { ask.now.query ≡ Ok expr.now }
+    requires well_formed { IsWellFormed (form_of expr.now) }
+    ensures later { IsLater reader.old reader.new }
+    ensures made { IfOk result (λ some. IfSome some (IsMadeOn ask.now reader.old reader.new)) }
+{
+    let Some(pass) = enter(reader) else {
+        return Ok(None);
+    };
+    let number = pass.version().number();
+    let found = find(alloc, &pass, ask.asked, expr)?;
+    gate.after_query(ask.number, number);
+    Ok(Some(Made {
+        number: Some(number),
+        found,
+    }))
+}
+
+/// Answers a query on its own pass, or enters anew for it: None where there was no pass, or the query is refused.
 fn make<G: Gate>(
     alloc: Global,
     gate: &G,
@@ -19,19 +69,18 @@ fn make<G: Gate>(
     reader: &mut Reader,
 ) -> Result<Option<Made>, AllocError>
     ensures later { IsLater reader.old reader.new }
-    ensures made { IfOk result (λ some. IfSome some (IsMadeOn ask.now reader.old reader.new)) }
+    ensures made { IfOk result (λ some. IfSome some (IsMade ask.now reader.old reader.new)) }
 {
     gate.before_query(ask.number);
     let Ok(expr) = &ask.query else {
         return Ok(None);
     };
-    let Some(pass) = enter(reader) else {
-        return Ok(None);
-    };
-    let number = pass.version().number();
-    let found = find(alloc, &pass, ask.asked, expr)?;
-    gate.after_query(ask.number, number);
-    Ok(Some(Made { number, found }))
+    if let Some(pass) = &ask.pass {
+        let made = make_own(alloc, gate, ask, pass, expr)?;
+        return Ok(Some(made));
+    }
+    let made = make_entered(alloc, gate, ask, expr, reader)?;
+    Ok(made)
 }
 
 /// Answers every `lanes`-th query from the one at `at` on.

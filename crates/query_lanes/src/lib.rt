@@ -5,6 +5,9 @@
 //! the threads ran. So the layer above writes the answers of `answer_batch` in the order of the queries, and may let a merge run
 //! beside each batch.
 //!
+//! A query may have a pass of its own: then it is asked on the version of that, whatever was published since. So the layer above may put
+//! a query off, do lines that change the collection, and answer it with those that come behind them.
+//!
 //! Of a list at most a page is found, `PAGE` members. Whoever wants more asks for the page behind the last member that it has, with
 //! `page_behind`: so no whole list is kept, however long it is.
 //!
@@ -27,6 +30,7 @@ mod gather;
 mod lane;
 mod lanes;
 mod merging;
+mod own;
 mod pages;
 mod settle;
 mod work;
@@ -34,9 +38,12 @@ mod work;
 pub use alone::answer_alone;
 pub use asks::{Ask, Asked, Found};
 pub use batch::answer_batch;
+pub use own::{put_off, text_end};
 pub use pages::{PAGE, page_behind};
 pub use work::Work;
 
+#[cfg(test)]
+mod own_tests;
 #[cfg(test)]
 mod page_tests;
 #[cfg(test)]

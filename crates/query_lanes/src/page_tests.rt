@@ -1,4 +1,4 @@
-ghost use Rattle.std.specs.Prelude.{◌≡◌, List, ◌++◌, Ok, IfOk};
+ghost use Rattle.std.specs.Prelude.{◌≡◌, List, ◌++◌, None, Ok, IfOk};
 ghost use Rattle.gcl_model.specs.Extents.{Extent};
 ghost use Rattle.gcl_model.specs.FormOf.{form_of};
 ghost use Rattle.gcl_model.specs.Meaning.{concordance};
@@ -51,7 +51,8 @@ fn engine_of_words<R: Wait>(rt: &R, alloc: Global) -> Result<Engine, AllocError>
 
 /// What is found where all members are asked for.
 fn first_page(alloc: Global, engine: &Engine, ask: &Ask) -> Result<IntervalList, AllocError>
-    requires { ask.now.asked ≡ All }
+    requires asked { ask.now.asked ≡ All }
+    requires free { ask.now.pass ≡ None }
     ensures { (expr : Expression) → ask.now.query ≡ Ok expr → IfOk result (λ page. (before : List Extent) × (rest : List Extent) × (concordance (version_text engine.now.version) (form_of expr) ≡ before ++ page ++ rest)) }
 {
     match answer_alone(alloc, engine, ask)? {
@@ -74,7 +75,7 @@ fn next_page(
     let [.., last] = page.as_slice() else {
         return Ok(IntervalList::new(alloc));
     };
-    let next = page_behind(alloc, engine, expr, *last, PAGE)?;
+    let next = page_behind(alloc, engine, &None, expr, *last, PAGE)?;
     Ok(next)
 }
 
@@ -84,6 +85,7 @@ fn three_pages(alloc: Global, engine: &Engine) -> Result<[(usize, u64, u64); 3],
         number: 1,
         asked: Asked::All,
         query: query(alloc, b"\"x\"")?,
+        pass: None,
     };
     let first = first_page(alloc, engine, &ask)?;
     let Ok(expr) = &ask.query else {
@@ -112,6 +114,7 @@ fn found_at_once(alloc: Global, engine: &Engine, asked: Asked) -> Result<u64, Al
         number: 1,
         asked,
         query: query(alloc, b"\"x\"")?,
+        pass: None,
     };
     match answer_alone(alloc, engine, &ask)? {
         Found::List(page) => Ok(page.len() as u64),

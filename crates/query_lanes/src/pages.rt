@@ -6,7 +6,10 @@ ghost use Rattle.gcl_model.specs.Meaning.{concordance};
 ghost use Rattle.gcl_model.specs.WellFormed.{IsWellFormed};
 ghost use Rattle.live_version.specs.Contents.{version_text};
 ghost use Rattle.reader_pass.specs.Members.{first_members_from};
+ghost use Rattle.collection.specs.Engines.{last_of};
+ghost use Rattle.query_lanes.specs.Answers.{text_asked};
 
+use crate::own::text_end;
 use collection::Engine;
 use gcl_model::{Expr, Interval, IntervalList, Ledger, Question, Steps, uncounted};
 use manifest_publish::Pass;
@@ -52,24 +55,23 @@ impl Question for MembersFrom<'_> {
     }
 }
 
-/// The first members of the list over the engine's last version that start at an address or behind it.
-fn page_from(
+/// The first members of the list over a pass that start at an address or behind it.
+fn page_on(
     alloc: Global,
-    engine: &Engine,
+    pass: &Pass,
     expr: &Expr,
     from: u64,
     most: u64,
 ) -> Result<IntervalList, AllocError>
     requires well_formed { IsWellFormed (form_of expr.now) }
     requires below { from < far }
-    ensures { IfOk result (λ page. page ≡ first_members_from (version_text engine.now.version) (form_of expr.now) from most) }
+    ensures { IfOk result (λ page. page ≡ first_members_from (version_text (last_of pass.now.history)) (form_of expr.now) from most) }
 {
-    // by it the history is known to end with the engine's version
-    let _version = engine.version();
-    let pass = engine.pass()?;
+    // by it the history is known to have a last version
+    let _version = pass.version();
     let page = uncounted(&MembersFrom {
         alloc,
-        pass: &pass,
+        pass,
         expr,
         from,
         limit: most,
@@ -77,34 +79,59 @@ fn page_from(
     Ok(page)
 }
 
+/// The same of the list over the text that a query is asked over.
+fn page_from(
+    alloc: Global,
+    engine: &Engine,
+    own: &Option<Pass>,
+    expr: &Expr,
+    from: u64,
+    most: u64,
+) -> Result<IntervalList, AllocError>
+    requires well_formed { IsWellFormed (form_of expr.now) }
+    requires below { from < far }
+    ensures { IfOk result (λ page. page ≡ first_members_from (text_asked own.now (version_text engine.now.version)) (form_of expr.now) from most) }
+{
+    if let Some(pass) = own {
+        let page = page_on(alloc, pass, expr, from, most)?;
+        return Ok(page);
+    }
+    // by it the history is known to end with the engine's version
+    let _version = engine.version();
+    let pass = engine.pass()?;
+    let page = page_on(alloc, &pass, expr, from, most)?;
+    Ok(page)
+}
+
 /// The address behind the start of a member: the next member starts there at the earliest.
-fn next_start(engine: &Engine, expr: &Expr, last: Interval) -> u64
-    requires member { (before : List Extent) × (rest : List Extent) × (concordance (version_text engine.now.version) (form_of expr.now) ≡ before ++ last ∷ rest) }
+fn next_start(engine: &Engine, own: &Option<Pass>, expr: &Expr, last: Interval) -> u64
+    requires member { (before : List Extent) × (rest : List Extent) × (concordance (text_asked own.now (version_text engine.now.version)) (form_of expr.now) ≡ before ++ last ∷ rest) }
     ensures value { result ≡ last.start + 1 }
     ensures below { result < far }
 {
     // by it addresses are known to end
-    let _version = engine.version();
+    let _end = text_end(engine, own);
     last.start + 1
 }
 
-/// The members of a list behind one of them, and no more than `most` of these, on the engine's own pass. Each is found by leaping from
-/// there on, so a page takes the look-ups of its own members alone. At `Err` memory was wanted.
+/// The members of a list behind one of them, and no more than `most` of these, on the query's own pass or else on the engine's. Each is
+/// found by leaping from there on, so a page takes the look-ups of its own members alone. At `Err` memory was wanted.
 ///
 /// Over `to be or not to be` from address 0 on, of the list of `"to"` behind the interval from 1 to 1 there is the one from 5 to 5, and
 /// behind this there is none.
 pub fn page_behind(
     alloc: Global,
     engine: &Engine,
+    own: &Option<Pass>,
     expr: &Expr,
     last: Interval,
     most: u64,
 ) -> Result<IntervalList, AllocError>
     requires well_formed { IsWellFormed (form_of expr.now) }
-    requires member { (before : List Extent) × (rest : List Extent) × (concordance (version_text engine.now.version) (form_of expr.now) ≡ before ++ last ∷ rest) }
-    ensures { IfOk result (λ page. (before rest : List Extent) → concordance (version_text engine.now.version) (form_of expr.now) ≡ before ++ last ∷ rest → page ≡ take most rest) }
+    requires member { (before : List Extent) × (rest : List Extent) × (concordance (text_asked own.now (version_text engine.now.version)) (form_of expr.now) ≡ before ++ last ∷ rest) }
+    ensures { IfOk result (λ page. (before rest : List Extent) → concordance (text_asked own.now (version_text engine.now.version)) (form_of expr.now) ≡ before ++ last ∷ rest → page ≡ take most rest) }
 {
-    let from = next_start(engine, expr, last);
-    let page = page_from(alloc, engine, expr, from, most)?;
+    let from = next_start(engine, own, expr, last);
+    let page = page_from(alloc, engine, own, expr, from, most)?;
     Ok(page)
 }

@@ -17,11 +17,11 @@ use std::test::Fail;
 use std::thread::Threads;
 
 /// No test goes on from a greater number.
-const MOST: u64 = 1 << 61;
+pub(crate) const MOST: u64 = 1 << 61;
 
 /// Queries over `to be or not to be` from address 0 on, and what each finds: the first and last address of each member, their number, or the place of a
 /// fault.
-const TABLE: [(Asked, &[u8], &[u64]); 7] = [
+pub(crate) const TABLE: [(Asked, &[u8], &[u64]); 7] = [
     (Asked::All, b"\"to\"", &[1, 1, 5, 5]),
     (Asked::Number, b"\"be\"", &[2]),
     (Asked::First(1), b"\"to be\"", &[1, 2]),
@@ -42,7 +42,7 @@ pub(crate) fn query(alloc: Global, text: &[u8]) -> Result<Result<Expr, QueryFaul
 }
 
 /// The queries of the table, numbered from 1.
-fn asks(alloc: Global) -> Result<Vec<Ask>, AllocError> {
+pub(crate) fn asks(alloc: Global) -> Result<Vec<Ask>, AllocError> {
     let mut asks = Vec::new(alloc);
     for (i, (asked, text, _)) in TABLE.iter().enumerate() {
         let query = query(alloc, text)?;
@@ -50,6 +50,7 @@ fn asks(alloc: Global) -> Result<Vec<Ask>, AllocError> {
             number: i as u64 + 1,
             asked: *asked,
             query,
+            pass: None,
         })?;
     }
     Ok(asks)
@@ -83,7 +84,7 @@ pub(crate) fn opened<R: Wait>(rt: &R, alloc: Global, readers: usize) -> Result<O
     Ok(opened)
 }
 
-fn added<R: Wait>(rt: &R, engine: &mut Engine) -> bool
+pub(crate) fn added<R: Wait>(rt: &R, engine: &mut Engine) -> bool
     ensures { engine.new.publisher ≡ engine.old.publisher }
 {
     is_name(b"a") && engine.add(rt, b"a", b"to be or not to be").is_ok()
@@ -123,7 +124,7 @@ fn answered<R: Threads + Wait + Sync, G: Gate + Sync>(
 }
 
 /// Whether these are the answers that the table has to so many queries from the first on.
-fn are_those_of_the_table(
+pub(crate) fn are_those_of_the_table(
     alloc: Global,
     count: usize,
     answers: &[Found],

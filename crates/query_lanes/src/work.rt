@@ -3,10 +3,10 @@ ghost use Rattle.std.specs.Prelude.{◌≡◌, length, IfOk};
 use crate::asks::Found;
 use std::alloc::{AllocError, Global};
 
-/// An answer, and the number of the version that it was made on.
+/// An answer, and the number of the version that it was made on: None where that is the query's own, so that the answer counts as it is.
 #[derive(Drop)]
 pub(crate) struct Made {
-    pub number: u64,
+    pub number: Option<u64>,
     pub found: Found,
 }
 

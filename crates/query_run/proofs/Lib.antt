@@ -11,4 +11,5 @@ pub mod PageSteps
 pub mod PutLemmas
 pub mod StreamLemmas
 pub mod Told
+pub mod WindowLemmas
 mod Worked

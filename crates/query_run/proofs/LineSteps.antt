@@ -1,22 +1,14 @@
 -- From the first of some lines on to the others.
-use Rattle.std.proofs.Common.{◌≡◌, ℕ, ◌+◌, ◌-◌, ◌≤◌, Bool, List, [], ◌∷◌, ◌++◌, length, take, drop, refl, sym, ap, ◌∙◌, subst, arith, append_assoc, append-nil, Option, Some, length-append, take-add}
+use Rattle.std.proofs.Common.{◌≡◌, ℕ, ◌+◌, ◌≤◌, Bool, List, [], ◌++◌, length, drop, sym, ap, ◌∙◌, arith, append_assoc, append-nil, Option, length-append}
 use Rattle.std.specs.Prelude.{flat_map}
-use Rattle.std.proofs.lemmas.List.{take-append-le}
 use Rattle.std.proofs.lemmas.Grind.{flat_map-append}
 use Rattle.outside.specs.Contents.{Contents}
 use Rattle.live_version.proofs.PartLaws.{both_empty}
 use Rattle.collection.specs.Engines.{EngineContent}
-use Rattle.script_lang.specs.Lines.{Line, lines}
-use Rattle.query_lanes.specs.declared.asks.Ask.{Ask}
-use Rattle.query_run.specs.Answers.{after_reply, answer, state_after}
-use Rattle.query_run.specs.Batches.{AreAsked}
-use Rattle.query_run.specs.Progress.{ComesOn, GoesOn, HoldsFrom, StopsFrom, WhoseLines}
-use Rattle.query_run.specs.Runs.{HoldsExactly}
-use Rattle.query_run.specs.States.{State}
+use Rattle.script_lang.specs.Lines.{Line}
+use Rattle.query_run.specs.Progress.{ComesOn, GoesOn, StopsFrom, WhoseLines}
 use Rattle.query_run.specs.declared.limits.Limits.{Limits}
-use Rattle.query_run.proofs.BatchLemmas.{batch_length, batch_state}
-use Rattle.query_run.proofs.BatchSteps.{asked_front}
-use Rattle.query_run.proofs.Scripts.{drop_more, more_within, state_after-append, take_more}
+use Rattle.query_run.proofs.Scripts.{drop_more, more_within, stopped_as}
 
 -- no line was completed yet
 pub goes_none : (ahead left : List Line) (n : ℕ) → ahead ≡ left → GoesOn ahead left n n
@@ -57,37 +49,8 @@ module _ (limits : Limits) (ahead left : List Line) (n k m : ℕ) (a b c : Optio
       let there = behind ahead left all rest n k goes within cut in
       step all rest there.0 there.1 start from read (come all rest within cut start from read here)
 
-  -- it stopped among them
-  pub stops_more : WhoseLines left k (λ all. StopsFrom limits all k m b c f h x s mid new) → WhoseLines ahead n (λ all. StopsFrom limits all n m a c e h w r old new)
-  stops_more step = λ all rest within cut start from read here.
+  -- it stopped among them; each keep succeeded among them if it did from the first on
+  pub stops_more : (kept kept' : Type 0) → (kept' → kept) → WhoseLines left k (λ all. StopsFrom limits all k m kept b c f h x s mid new) → WhoseLines ahead n (λ all. StopsFrom limits all n m kept' a c e h w r old new)
+  stops_more kept kept' so step = λ all rest within cut start from read here.
       let there = behind ahead left all rest n k goes within cut in
-      step all rest there.0 there.1 start from read (come all rest within cut start from read here)
-
-  pub holds_more : WhoseLines left k (λ all. HoldsFrom limits all k m b c f x s mid) → WhoseLines ahead n (λ all. HoldsFrom limits all n m a c e w r old)
-  holds_more step = λ all rest within cut start from read here.
-      let there = behind ahead left all rest n k goes within cut in
-      step all rest there.0 there.1 start from read (come all rest within cut start from read here)
-
--- a batch leaves the files as they were, wherever it stopped
-pub holds_batch : (limits : Limits) (start : State) (all batch rest : List Line) (asks : List Ask) (n m : ℕ) (held : Option Contents) → drop n all ≡ batch ++ rest → AreAsked asks batch → n ≤ m → m ≤ n + length asks →
-    held ≡ Some (state_after limits start (take n all)).files → HoldsExactly limits start all m held
-holds_batch limits start all batch rest asks n m held cut are from upto is =
-    let i : ℕ = m - n in
-    let long : length batch ≡ length asks = batch_length asks batch are in
-    let some : i ≤ length batch = omega (arith, long, upto) in
-    let count : m ≡ n + i = omega (arith, from) in
-    let front : take m all ≡ take n all ++ take i batch =
-    ap (λ (k : ℕ). take k all) count ∙ take-add n i all ∙ ap (λ l. take n all ++ take i l) cut ∙ ap (λ l. take n all ++ l) (take-append-le i batch rest some) in
-    let same : state_after limits start (take m all) ≡ state_after limits start (take n all) =
-    ap (state_after limits start) front ∙ state_after-append limits start (take n all) (take i batch)
-    ∙ batch_state limits (state_after limits start (take n all)) (take i asks) (take i batch) (asked_front i asks batch are) in
-    is ∙ ap (λ (s : State). Some s.files) (sym same)
-
--- a line leaves what its reply does
-pub holds_line : (limits : Limits) (start : State) (all rest : List Line) (line : Line) (n m : ℕ) (held : Option Contents) → drop n all ≡ line ∷ rest → m ≡ n + 1 →
-    held ≡ Some (after_reply (state_after limits start (take n all)) (answer limits (state_after limits start (take n all)) line)).files → HoldsExactly limits start all m held
-holds_line limits start all rest line n m held cut count is =
-    let front : take m all ≡ take n all ++ line ∷ [] = ap (λ (k : ℕ). take k all) count ∙ take_more n all (line ∷ []) rest cut in
-    let now : state_after limits start (take m all) ≡ after_reply (state_after limits start (take n all)) (answer limits (state_after limits start (take n all)) line) =
-    ap (state_after limits start) front ∙ state_after-append limits start (take n all) (line ∷ []) in
-    is ∙ ap (λ (s : State). Some s.files) (sym now)
+      stopped_as limits start all m h.version kept kept' c from new so (step all rest there.0 there.1 start from read (come all rest within cut start from read here))

@@ -1,5 +1,5 @@
 -- The pages of a list, and the member that a page ends with.
-use Rattle.std.proofs.Common.{◌≡◌, ℕ, ◌+◌, ◌-◌, ◌≤◌, ◌<◌, zero, suc, min, Bool, leb, List, [], ◌∷◌, ◌++◌, length, take, drop, get_or, refl, sym, ap, ◌∙◌, subst, arith, append_assoc, take-add, take_all, length-append, inl, inr}
+use Rattle.std.proofs.Common.{◌≡◌, ℕ, ◌+◌, ◌-◌, ◌≤◌, ◌<◌, zero, suc, min, leb, List, [], ◌∷◌, ◌++◌, length, take, drop, get_or, refl, sym, ap, ◌∙◌, arith, append_assoc, take-add, take_all, length-append, inl, inr}
 use Rattle.std.specs.Prelude.{◌⊎◌}
 use Rattle.std.specs.List.{AllByRecursion}
 use Rattle.std.proofs.lemmas.Bool.{leb-true, leb-false, cases_Bool}
@@ -11,9 +11,6 @@ use Rattle.gcl_model.specs.Forms.{Form}
 use Rattle.gcl_model.specs.Limits.{address_end}
 use Rattle.gcl_model.specs.Meaning.{concordance, denotes}
 use Rattle.gcl_model.proofs.Meanings.{IsOf, each_of_text, concordance_rises}
-use Rattle.live_version.specs.Contents.{version_text}
-use Rattle.manifest_publish.proofs.Stands.{latest-stands}
-use Rattle.collection.specs.Engines.{EngineContent, IsEngine}
 use Rattle.query_lanes.specs.Answers.{page_size}
 use Rattle.query_lanes.specs.declared.asks.Asked.{Asked}
 use Rattle.query_lanes.specs.declared.asks.Asked.TheVariants.{All, First, Number}
@@ -147,15 +144,11 @@ few next low (a ∷ list) r all =
     let rest = few next (a.start + 1) list r.1 (later low next a list r.0 all.1) in
     omega arith
 
--- so no list has more members than there are addresses
-pub list_few : (e : EngineContent) (form : Form) → IsEngine e → length (concordance (version_text e.version) form) ≤ address_end
-list_few e form is =
-    let text = version_text e.version in
-    let stands = latest-stands e.history e.version is.ends.0 is.ends.1 in
-    let next : e.version.next ≡ stands.0.next = stands.1.next in
-    let within : stands.0.next ≤ address_end = (is.sound stands.0 stands.1).in_range in
+-- so no list over a text within the addresses has more members than these are
+pub list_few : (text : Text) (form : Form) → text.next ≤ address_end → length (concordance text form) ≤ address_end
+list_few text form within =
     let some = few text.next text.first (concordance text form) (concordance_rises text form) (of_text text (concordance text form) (each_of_text text (denotes text form))) in
-    omega (arith, some, next, within)
+    omega (arith, some, within)
 
 taken_few : {T : Type 0} (n : ℕ) (xs : List T) → length (take n xs) ≤ length xs
 taken_few zero xs = omega arith

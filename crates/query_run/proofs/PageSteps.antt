@@ -1,5 +1,5 @@
 -- The text of a list that is put page by page.
-use Rattle.std.proofs.Common.{◌≡◌, ℕ, ◌+◌, ◌≤◌, List, [], ◌∷◌, ◌++◌, length, map, take, drop, refl, sym, ap, ◌∙◌, take_all, Option, append-nil, append_assoc}
+use Rattle.std.proofs.Common.{◌≡◌, ℕ, ◌+◌, List, [], ◌∷◌, ◌++◌, length, map, take, drop, refl, sym, ap, ◌∙◌, take_all, Option, append-nil}
 use Rattle.std.proofs.lemmas.List.{take-append-drop, map-append}
 use Rattle.std.proofs.lemmas.Grind.{flat_map-append}
 use Rattle.std.specs.Prelude.{Ok}
@@ -10,16 +10,16 @@ use Rattle.gcl_model.specs.Meaning.{concordance}
 use Rattle.gcl_model.specs.declared.expr.Expr.{Expr}
 use Rattle.script_lang.specs.Answers.{interval_line, total_line}
 use Rattle.script_lang.specs.Lines.{text_of_lines}
-use Rattle.query_lanes.specs.Answers.{answer_by, answer_in, found_in}
+use Rattle.query_lanes.specs.Answers.{answer_by, answer_in, found_in, text_asked}
 use Rattle.query_lanes.specs.declared.asks.Ask.{Ask}
 use Rattle.query_lanes.specs.declared.asks.Asked.{Asked}
 use Rattle.query_lanes.specs.declared.asks.Asked.TheVariants.{All, First, Number}
 use Rattle.query_lanes.specs.declared.asks.Found.TheVariants.{List as Members}
 use Rattle.query_run.specs.Answers.{asked_lines, list_lines}
 use Rattle.query_run.specs.Batches.{ask_lines, expr_lines}
-use Rattle.query_run.specs.Pages.{Puts, PutsPart, members_asked, page_from}
+use Rattle.query_run.specs.Pages.{PutsPart, members_asked, page_from}
 use Rattle.query_run.proofs.PageLists.{first_page, next_page}
-use Rattle.query_run.proofs.PutLemmas.{part_as, part_on, puts_as}
+use Rattle.query_run.proofs.PutLemmas.{part_as, part_on}
 use Rattle.query_run.proofs.Scripts.{none_after}
 
 -- the text of the lines of some members
@@ -54,9 +54,10 @@ list_asked (First most) list first is = refl
 list_asked Number list first is = absurd cc
 
 pub list_answer : (text : Text) (ask : Ask) (expr : Expr) (first : List Extent) → ask.query ≡ Ok expr → Members first ≡ answer_in text ask →
-    ask_lines text ask ≡ list_lines (members_asked ask.asked (concordance text (form_of expr)))
+    ask_lines text ask ≡ list_lines (members_asked ask.asked (concordance (text_asked ask.pass text) (form_of expr)))
 list_answer text ask expr first is found =
-    ap (expr_lines ask.asked text) is ∙ list_asked ask.asked (concordance text (form_of expr)) first (sym (found ∙ ap (answer_by ask.asked text) is))
+    let there = text_asked ask.pass text in
+    ap (expr_lines ask.asked there) is ∙ list_asked ask.asked (concordance there (form_of expr)) first (sym (found ∙ ap (answer_by ask.asked there) is))
 
 -- its text is that of its members, and then their number
 pub list_text : (list : List Extent) → text_of_lines (list_lines list) ≡ members_text list ++ (total_line (length list) ++ 10 ∷ [])

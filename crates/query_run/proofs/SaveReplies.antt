@@ -88,17 +88,19 @@ refused_held limits state name bytes engine before now image over at same =
     same ∙ at.files ∙ sym (ap (λ (o : Option Reply). Some (after_reply state o).files) is)
 
 -- files that did not change hold what they held
-pub held_before : (state : State) (told : Option Reply) (names : List (List ℕ)) (n m : ℕ) (engine : EngineContent) (wanted : Bool) (before now : Option Contents) → IsAt before engine wanted state → now ≡ before → m ≡ n →
-    HoldsWithin state told names n m now
-held_before state told names n m engine wanted before now at same stays = record {
+pub held_before : (state : State) (told : Option Reply) (names : List (List ℕ)) (n m : ℕ) (kept : Type 0) (engine : EngineContent) (wanted : Bool) (before now : Option Contents) → IsAt before engine wanted state → now ≡ before → m ≡ n →
+    HoldsWithin state told names n m kept now
+held_before state told names n m kept engine wanted before now at same stays = record {
   early = λ is. record { contents = state.files; is = same ∙ at.files; same = λ name. inl refl };
+  exact = λ all_kept is. same ∙ at.files;
   late = λ is. absurd (omega (arith, is, stays));
 }
 
 -- and after a keep that failed, all names but one
-pub held_but_one : (state : State) (told : Option Reply) (name : List ℕ) (n m : ℕ) (engine : EngineContent) (wanted : Bool) (before now : Option Contents) → IsAt before engine wanted state → ChangesOnly name before now → m ≡ n →
-    HoldsWithin state told (name ∷ []) n m now
-held_but_one state told name n m engine wanted before now at changes stays = record {
+pub held_but_one : (state : State) (told : Option Reply) (name : List ℕ) (n m failed failed' : ℕ) (engine : EngineContent) (wanted : Bool) (before now : Option Contents) → IsAt before engine wanted state → ChangesOnly name before now →
+    failed' ≡ failed + 1 → m ≡ n → HoldsWithin state told (name ∷ []) n m (failed' ≡ failed) now
+held_but_one state told name n m failed failed' engine wanted before now at changes one stays = record {
+  exact = λ none is. absurd (omega (arith, one, none));
   early = λ is. record {
     contents = changed_at name changes.content state.files;
     is = changes.is ∙ ap (option_map (changed_at name changes.content)) at.files;
@@ -111,8 +113,8 @@ held_but_one state told name n m engine wanted before now at changes stays = rec
 }
 
 -- a line that is completed leaves what it says
-pub held_late : (state : State) (told : Option Reply) (names : List (List ℕ)) (n m : ℕ) (now : Option Contents) → now ≡ Some (after_reply state told).files → m ≡ n + 1 → HoldsWithin state told names n m now
-held_late state told names n m now is more = record { early = λ stays. absurd (omega (arith, stays, more)); late = λ late. is }
+pub held_late : (state : State) (told : Option Reply) (names : List (List ℕ)) (n m : ℕ) (kept : Type 0) (now : Option Contents) → now ≡ Some (after_reply state told).files → m ≡ n + 1 → HoldsWithin state told names n m kept now
+held_late state told names n m kept now is more = record { early = λ stays. absurd (omega (arith, stays, more)); exact = λ all_kept stays. absurd (omega (arith, stays, more)); late = λ late. is }
 
 -- once a file was added nothing is opened
 has_files : (limits : Limits) (state : State) (name : List ℕ) → 0 < state.collection.next_id → reply limits state (Load name) ≡ Some (unchanged state (refusal_lines NotEmpty))
@@ -217,9 +219,9 @@ pub stops_after_opening : (state : State) (bytes : List ℕ) (old opened : Versi
 stops_after_opening state bytes old opened new n m image adopts reading more = inr (more, (kept_by_opening state bytes old opened new image adopts reading).stands)
 
 -- the same of another reply and other names that are equal
-pub holds_as : (state : State) (told now : Option Reply) (names names' : List (List ℕ)) (n m : ℕ) (held : Option Contents) → now ≡ told → names' ≡ names → HoldsWithin state told names n m held → HoldsWithin state now names' n m held
-holds_as state told now names names' n m held is same holds =
-    subst (λ (o : Option Reply). HoldsWithin state o names' n m held) (sym is) (subst (λ (l : List (List ℕ)). HoldsWithin state told l n m held) (sym same) holds)
+pub holds_as : (state : State) (told now : Option Reply) (names names' : List (List ℕ)) (n m : ℕ) (kept : Type 0) (held : Option Contents) → now ≡ told → names' ≡ names → HoldsWithin state told names n m kept held → HoldsWithin state now names' n m kept held
+holds_as state told now names names' n m kept held is same holds =
+    subst (λ (o : Option Reply). HoldsWithin state o names' n m kept held) (sym is) (subst (λ (l : List (List ℕ)). HoldsWithin state told l n m kept held) (sym same) holds)
 
 -- what holds anyhow holds of an error
 pub on_err : {T E : Type 0} (P : Type 0) (result : Result T E) → P → OnErr result P

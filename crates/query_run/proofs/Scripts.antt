@@ -1,6 +1,6 @@
 -- Answers to lists of lines that are put together, and how far a script has come.
-use Rattle.std.proofs.Common.{◌≡◌, ℕ, ◌+◌, ◌-◌, ◌≤◌, ◌<◌, inl, inr, Bool, true, false, nat_lt, List, [], ◌∷◌, ◌++◌, length, take, drop, zero, suc, refl, sym, ap, ◌∙◌, append_assoc, append-nil, Option, Some, None, IsSome, IfSome, IsSomeAnd, length-append, subst, arith, take-add, take_all}
-use Rattle.std.proofs.lemmas.List.{take-take, take-append-drop, length-drop, drop-drop, take-append-le, drop-append-le}
+use Rattle.std.proofs.Common.{◌≡◌, ℕ, ◌+◌, ◌-◌, ◌≤◌, ◌<◌, inl, inr, Bool, true, false, nat_lt, List, [], ◌∷◌, ◌++◌, length, take, drop, zero, suc, refl, sym, ap, ◌∙◌, append_assoc, append-nil, Option, Some, None, IsSome, IsSomeAnd, length-append, subst, arith, take-add, take_all}
+use Rattle.std.proofs.lemmas.List.{take-append-drop, length-drop, drop-drop, take-append-le, drop-append-le}
 use Rattle.std.proofs.lemmas.List.Elements.{Contains-append_left}
 use Rattle.std.proofs.Math.Seq.{take-append_seam, drop-append_seam}
 use Rattle.std.specs.List.{list_any}
@@ -27,7 +27,7 @@ use Rattle.live_version.specs.StandsFor.{StandsFor}
 use Rattle.collection.specs.Engines.{EngineContent}
 use Rattle.query_run.specs.States.{State, opening, Keeps, IsFresh}
 use Rattle.query_run.specs.Images.{Images}
-use Rattle.query_run.specs.Answers.{Reply, answer, after_reply, state_after, with_later, answers, AllAnswered, AreRead, IsRead, names_of, names_of_line, names_kept, names_kept_of, names_kept_of_line, unchanged, refusal_lines, content_reply, add_reply, image_reply, open_reply, reading_reply, last_address, state_with_file, state_without_file, reply}
+use Rattle.query_run.specs.Answers.{Reply, answer, after_reply, state_after, with_later, answers, AllAnswered, AreRead, names_kept, names_kept_of, names_kept_of_line, unchanged, refusal_lines, content_reply, add_reply, image_reply, open_reply, reading_reply, last_address, state_with_file, state_without_file, reply}
 use Rattle.query_run.specs.Progress.{lines_of, answer_text, AreAnswered, ComesOn, HasCome, HasWritten, HoldsSaved, HoldsWithin, IsAt, StopsFrom, StopsWithin}
 use Rattle.query_run.specs.Runs.{GetsPart, HasAnswered, HoldsBut, IsLeftBy, IsStopped, HandsOverMore}
 use Rattle.query_run.specs.declared.limits.Limits.{Limits}
@@ -66,7 +66,7 @@ place_within n all rest line is =
     omega (arith, left)
 
 -- the first of some lines and others
-take_first : {T : Type 0} (k : ℕ) (xs ys : List T) → (more : List T) × (take k (xs ++ ys) ≡ take k xs ++ more)
+pub take_first : {T : Type 0} (k : ℕ) (xs ys : List T) → (more : List T) × (take k (xs ++ ys) ≡ take k xs ++ more)
 take_first zero xs ys = ([], refl)
 take_first (suc k) [] ys = (take (suc k) ys, refl)
 take_first (suc k) (x ∷ xs) ys =
@@ -136,16 +136,16 @@ module _ (limits : Limits) where
   begins start held engine w old at = record { are = record { answered = tt; refusal_is = refl; written = Appends-nil old }; at = at }
 
   -- the answers to a line that comes after others
-  one_more : (s : State) (line : Line) → answers limits s (line ∷ []) ≡ lines_of (answer limits s line)
+  pub one_more : (s : State) (line : Line) → answers limits s (line ∷ []) ≡ lines_of (answer limits s line)
   one_more s line = later_none (answer limits s line)
 
-  reply_lines : (o : Option Reply) (reply : Reply) → o ≡ Some reply → lines_of o ≡ reply.lines
+  pub reply_lines : (o : Option Reply) (reply : Reply) → o ≡ Some reply → lines_of o ≡ reply.lines
   reply_lines o reply is = ap lines_of is
 
-  reply_after : (s : State) (o : Option Reply) (reply : Reply) → o ≡ Some reply → after_reply s o ≡ reply.after
+  pub reply_after : (s : State) (o : Option Reply) (reply : Reply) → o ≡ Some reply → after_reply s o ≡ reply.after
   reply_after s o reply is = ap (after_reply s) is
 
-  is_some : (o : Option Reply) (reply : Reply) → o ≡ Some reply → IsSome o
+  pub is_some : (o : Option Reply) (reply : Reply) → o ≡ Some reply → IsSome o
   is_some o reply is = subst IsSome (sym is) refl
 
   -- a line was answered and written
@@ -182,7 +182,7 @@ module _ (limits : Limits) where
   read_behind start [] ys read = read
   read_behind start (x ∷ xs) ys read = read_behind (after_reply start (answer limits start x)) xs ys read.1
 
-  read_next : (start : State) (n : ℕ) (all rest : List Line) → AreRead limits start all → drop n all ≡ rest → AreRead limits (state_after limits start (take n all)) rest
+  pub read_next : (start : State) (n : ℕ) (all rest : List Line) → AreRead limits start all → drop n all ≡ rest → AreRead limits (state_after limits start (take n all)) rest
   read_next start n all rest read is =
       subst (AreRead limits (state_after limits start (take n all))) is (read_behind start (take n all) (drop n all) (subst (AreRead limits start) (sym (take-append-drop n all)) read))
 
@@ -196,16 +196,22 @@ module _ (limits : Limits) where
       (goes_on start (take n all) batch held held' before after w w' a b old mid new come (step (state_after limits start (take n all)) come.at (read_next start n all (batch ++ rest) read cut)))
 
   -- a stop where the first lines are completed, and their answers written
-  pub stopped_here : (start : State) (all : List Line) (n : ℕ) (held : Option Contents) (engine : EngineContent) (version : VersionContent) (w a : Bool) (old new : Option (List ℕ)) →
-      n ≤ length all → HasCome limits start (take n all) held engine w a old new → StandsFor version (state_after limits start (take n all)).collection → IsStopped limits start all n version held old new
-  stopped_here start all n held engine version w a old new within come stands =
+  pub stopped_here : (start : State) (all : List Line) (n : ℕ) (kept : Type 0) (held : Option Contents) (engine : EngineContent) (version : VersionContent) (w a : Bool) (old new : Option (List ℕ)) →
+      n ≤ length all → HasCome limits start (take n all) held engine w a old new → StandsFor version (state_after limits start (take n all)).collection → IsStopped limits start all n version kept held old new
+  stopped_here start all n kept held engine version w a old new within come stands =
       let first : GetsPart old new (text_of_lines (answers limits start (take n all))) = record { part = _; rest = []; whole = sym (append-nil _); written = come.are.written } in
       record {
         within = within;
         stands = stands;
         part = subst (λ (l : List Line). GetsPart old new (text_of_lines (answers limits start l))) (sym (take-add n 1 all)) (part_of_more start (take n all) (take 1 (drop n all)) old new first);
         files = all_held _ _ held come.at.files;
+        exact = λ all_kept. come.at.files;
       }
+
+  -- a stop where each keep succeeded if these did
+  pub stopped_as : (start : State) (all : List Line) (n : ℕ) (version : VersionContent) (kept kept' : Type 0) (held : Option Contents) (old new : Option (List ℕ)) → (kept' → kept) →
+      IsStopped limits start all n version kept held old new → IsStopped limits start all n version kept' held old new
+  stopped_as start all n version kept kept' held old new so stop = record { within = stop.within; stands = stop.stands; part = stop.part; files = stop.files; exact = λ all_kept. stop.exact (so all_kept) }
 
   -- a line is completed or not
   stops_further : (s : State) (o : Option Reply) (n now : ℕ) (after : EngineContent) → StopsWithin s o n now after → n ≤ now
@@ -213,14 +219,14 @@ module _ (limits : Limits) where
   stops_further s o n now after (inr after_it) = let same = after_it.0 in omega (arith, same)
 
   -- a stop within a line, or behind it
-  pub line_stops : (s : State) (line : Line) (n now : ℕ) (held : Option Contents) (after : EngineContent) (mid new : Option (List ℕ)) → StopsWithin s (answer limits s line) n now after →
-      HoldsWithin s (answer limits s line) (names_kept_of_line line) n now held → GetsPart mid new (answer_text limits s line) → (n ≤ now) × IsStopped limits s (line ∷ []) (now - n) after.version held mid new
-  line_stops s line n now held after mid new stop holds part = (stops_further s (answer limits s line) n now after stop, by_case stop (subst (λ l. GetsPart mid new (text_of_lines l)) (sym (one_more s line)) part))
+  pub line_stops : (s : State) (line : Line) (n now : ℕ) (kept : Type 0) (held : Option Contents) (after : EngineContent) (mid new : Option (List ℕ)) → StopsWithin s (answer limits s line) n now after →
+      HoldsWithin s (answer limits s line) (names_kept_of_line line) n now kept held → GetsPart mid new (answer_text limits s line) → (n ≤ now) × IsStopped limits s (line ∷ []) (now - n) after.version kept held mid new
+  line_stops s line n now kept held after mid new stop holds part = (stops_further s (answer limits s line) n now after stop, by_case stop (subst (λ l. GetsPart mid new (text_of_lines l)) (sym (one_more s line)) part))
     where
       Stopped : ℕ → Type 0
-      Stopped m = IsStopped limits s (line ∷ []) m after.version held mid new
+      Stopped m = IsStopped limits s (line ∷ []) m after.version kept held mid new
 
-      by_case : StopsWithin s (answer limits s line) n now after → GetsPart mid new (text_of_lines (answers limits s (line ∷ []))) → IsStopped limits s (line ∷ []) (now - n) after.version held mid new
+      by_case : StopsWithin s (answer limits s line) n now after → GetsPart mid new (text_of_lines (answers limits s (line ∷ []))) → IsStopped limits s (line ∷ []) (now - n) after.version kept held mid new
       by_case (inl before_it) first =
           let none : now - n ≡ 0 = let same = before_it.0 in omega (arith, same) in
           subst Stopped (sym none) (record {
@@ -228,6 +234,7 @@ module _ (limits : Limits) where
             stands = before_it.1;
             part = first;
             files = subst (λ (l : List (List ℕ)). HoldsBut l s.files held) (sym (append-nil (names_kept_of_line line))) (holds.early before_it.0);
+            exact = λ all_kept. holds.exact all_kept before_it.0;
           })
       by_case (inr after_it) first =
           let one : now - n ≡ 1 = let same = after_it.0 in omega (arith, same) in
@@ -236,13 +243,14 @@ module _ (limits : Limits) where
             stands = after_it.1;
             part = first;
             files = all_held _ _ held (holds.late after_it.0);
+            exact = λ all_kept. holds.late after_it.0;
           })
 
   -- a stop within a batch behind the first lines of a script
-  pub stopped : (start : State) (all batch rest : List Line) (n i : ℕ) (held held' : Option Contents) (before : EngineContent) (version : VersionContent) (w a : Bool) (old mid new : Option (List ℕ)) → n ≤ length all →
-      drop n all ≡ batch ++ rest → HasCome limits start (take n all) held before w a old mid → IsStopped limits (state_after limits start (take n all)) batch i version held' mid new →
-      IsStopped limits start all (n + i) version held' old new
-  stopped start all batch rest n i held held' before version w a old mid new within cut come stop =
+  pub stopped : (start : State) (all batch rest : List Line) (n i : ℕ) (kept : Type 0) (held held' : Option Contents) (before : EngineContent) (version : VersionContent) (w a : Bool) (old mid new : Option (List ℕ)) → n ≤ length all →
+      drop n all ≡ batch ++ rest → HasCome limits start (take n all) held before w a old mid → IsStopped limits (state_after limits start (take n all)) batch i version kept held' mid new →
+      IsStopped limits start all (n + i) version kept held' old new
+  stopped start all batch rest n i kept held held' before version w a old mid new within cut come stop =
       let done : List Line = take n all in
       let s : State = state_after limits start done in
       let some : i ≤ length batch = stop.within in
@@ -273,27 +281,28 @@ module _ (limits : Limits) where
         part = subst (λ (l : List Line). GetsPart old new (text_of_lines (answers limits start l))) (sym next) (part_of_more start (done ++ here) begin.0 old new first);
         files = subst (λ (l : List (List ℕ)). HoldsBut l (state_after limits start (take (n + i) all)).files held') (sym names)
             (subst (λ (u : State). HoldsBut (names_kept_of (take 1 (drop i batch)) ++ names_kept_of head.0) u.files held') (sym state) (held_more _ _ _ held' stop.files));
+        exact = λ all_kept. stop.exact all_kept ∙ ap (λ (u : State). Some u.files) (sym state);
       }
 
   -- the first lines of a script, and a stop within the batch behind them
-  pub stops_from : (all batch rest : List Line) (n m : ℕ) (held held' : Option Contents) (before after : EngineContent) (w a : Bool) (mid new : Option (List ℕ)) → n ≤ length all → drop n all ≡ batch ++ rest →
-      ((s : State) → IsAt held before w s → AreRead limits s (batch ++ rest) → (n ≤ m) × IsStopped limits s batch (m - n) after.version held' mid new) → StopsFrom limits all n m held held' before after w a mid new
-  stops_from all batch rest n m held held' before after w a mid new within cut stop = λ start old read come.
+  pub stops_from : (all batch rest : List Line) (n m : ℕ) (kept : Type 0) (held held' : Option Contents) (before after : EngineContent) (w a : Bool) (mid new : Option (List ℕ)) → n ≤ length all → drop n all ≡ batch ++ rest →
+      ((s : State) → IsAt held before w s → AreRead limits s (batch ++ rest) → (n ≤ m) × IsStopped limits s batch (m - n) after.version kept held' mid new) → StopsFrom limits all n m kept held held' before after w a mid new
+  stops_from all batch rest n m kept held held' before after w a mid new within cut stop = λ start old read come.
       let here = stop (state_after limits start (take n all)) come.at (read_next start n all (batch ++ rest) read cut) in
       let further : n ≤ m = here.0 in
       let count : n + (m - n) ≡ m = omega (arith, further) in
-      subst (λ (k : ℕ). IsStopped limits start all k after.version held' old new) count (stopped start all batch rest n (m - n) held held' before after.version w a old mid new within cut come here.1)
+      subst (λ (k : ℕ). IsStopped limits start all k after.version kept held' old new) count (stopped start all batch rest n (m - n) kept held held' before after.version w a old mid new within cut come here.1)
 
   -- a stop where as many lines are completed as were answered
-  pub stops_on : (all : List Line) (n m : ℕ) (held held' : Option Contents) (before after : EngineContent) (w w' a b : Bool) (mid new : Option (List ℕ)) → m ≤ length all →
-      ComesOn limits all n m held held' before after w w' a b mid new → StopsFrom limits all n m held held' before after w a mid new
-  stops_on all n m held held' before after w w' a b mid new within further = λ start old read come.
+  pub stops_on : (all : List Line) (n m : ℕ) (kept : Type 0) (held held' : Option Contents) (before after : EngineContent) (w w' a b : Bool) (mid new : Option (List ℕ)) → m ≤ length all →
+      ComesOn limits all n m held held' before after w w' a b mid new → StopsFrom limits all n m kept held held' before after w a mid new
+  stops_on all n m kept held held' before after w w' a b mid new within further = λ start old read come.
       let here = further start old read come in
-      stopped_here start all m held' after after.version w' b old new within here here.at.keeps.stands
+      stopped_here start all m kept held' after after.version w' b old new within here here.at.keeps.stands
 
   -- a stop where nothing came behind the first lines of a script
-  pub stays : (all : List Line) (n : ℕ) (held : Option Contents) (engine : EngineContent) (w a : Bool) (mid : Option (List ℕ)) → n ≤ length all → StopsFrom limits all n n held held engine engine w a mid mid
-  stays all n held engine w a mid within = λ start old read come. stopped_here start all n held engine engine.version w a old mid within come come.at.keeps.stands
+  pub stays : (all : List Line) (n : ℕ) (kept : Type 0) (held : Option Contents) (engine : EngineContent) (w a : Bool) (mid : Option (List ℕ)) → n ≤ length all → StopsFrom limits all n n kept held held engine engine w a mid mid
+  stays all n kept held engine w a mid within = λ start old read come. stopped_here start all n kept held engine engine.version w a old mid within come come.at.keeps.stands
 
 -- where no line has a name, neither has the one at a place
 pub no_name_at : (f : Line → List (List ℕ)) (n : ℕ) (all rest : List Line) (line : Line) → drop n all ≡ line ∷ rest → flat_map f all ≡ [] → f line ≡ []
@@ -378,30 +387,31 @@ module _ (limits : Limits) where
       by_command Wrong same saved = same refl
 
   -- after any command that was not answered
-  pub command_held_err : (s : State) (command : Command) (n m : ℕ) (before now : Option Contents) (engine : EngineContent) (w : Bool) (fault : FileError) → IsAt before engine w s → (names_kept command ≡ [] → now ≡ before) →
-      HoldsSaved {T = Bool} {E = FileError} limits s command n m now (Err fault) → HoldsWithin s (reply limits s command) (names_kept command) n m now
-  command_held_err s command n m before now engine w fault at same saved =
-      by_command command (λ none. kept_all command none (same none)) saved
+  pub command_held_err : (s : State) (command : Command) (n m : ℕ) (kept : Type 0) (before now : Option Contents) (engine : EngineContent) (w : Bool) (fault : FileError) → IsAt before engine w s → (names_kept command ≡ [] → now ≡ before) →
+      HoldsSaved {T = Bool} {E = FileError} limits s command n m kept now (Err fault) → HoldsWithin s (reply limits s command) (names_kept command) n m kept now
+  command_held_err s command n m kept before now engine w fault at same saved =
+      by_command command (λ none. unchanged_by command none (same none)) saved
     where
-      kept_all : (c : Command) → names_kept c ≡ [] → now ≡ before → HoldsWithin s (reply limits s c) (names_kept c) n m now
-      kept_all c none is = record {
+      unchanged_by : (c : Command) → names_kept c ≡ [] → now ≡ before → HoldsWithin s (reply limits s c) (names_kept c) n m kept now
+      unchanged_by c none is = record {
         early = λ stays. record { contents = s.files; is = is ∙ at.files; same = λ name. inl refl };
+        exact = λ all_kept stays. is ∙ at.files;
         late = λ more. is ∙ at.files ∙ ap Some (sym (reply_files s c none));
       }
 
-      by_command : (c : Command) → (names_kept c ≡ [] → HoldsWithin s (reply limits s c) (names_kept c) n m now) → HoldsSaved {T = Bool} {E = FileError} limits s c n m now (Err fault) → HoldsWithin s (reply limits s c) (names_kept c) n m now
-      by_command Blank kept saved = kept refl
-      by_command (Add name) kept saved = kept refl
-      by_command (Del id) kept saved = kept refl
-      by_command (Find query) kept saved = kept refl
-      by_command (Count query) kept saved = kept refl
-      by_command (Top n query) kept saved = kept refl
-      by_command Files kept saved = kept refl
-      by_command Merge kept saved = kept refl
-      by_command Shards kept saved = kept refl
-      by_command (Save name) kept saved = saved
-      by_command (Load name) kept saved = kept refl
-      by_command Wrong kept saved = kept refl
+      by_command : (c : Command) → (names_kept c ≡ [] → HoldsWithin s (reply limits s c) (names_kept c) n m kept now) → HoldsSaved {T = Bool} {E = FileError} limits s c n m kept now (Err fault) → HoldsWithin s (reply limits s c) (names_kept c) n m kept now
+      by_command Blank same saved = same refl
+      by_command (Add name) same saved = same refl
+      by_command (Del id) same saved = same refl
+      by_command (Find query) same saved = same refl
+      by_command (Count query) same saved = same refl
+      by_command (Top n query) same saved = same refl
+      by_command Files same saved = same refl
+      by_command Merge same saved = same refl
+      by_command Shards same saved = same refl
+      by_command (Save name) same saved = saved
+      by_command (Load name) same saved = same refl
+      by_command Wrong same saved = same refl
 
   -- a line that is not long is answered by its command
   pub line_answered : (s : State) (long : Bool) (bytes : List ℕ) (command : Command) → long ≡ false → command ≡ command_of bytes → answer limits s (record { long = long; bytes = bytes }) ≡ reply limits s command

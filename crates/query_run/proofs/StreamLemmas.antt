@@ -15,7 +15,6 @@ use Rattle.script_lang.specs.Feeds.{Feed, has_newline}
 use Rattle.script_lang.proofs.FeedLemmas.{is_newline}
 use Rattle.script_lang.proofs.EndedLemmas.{lines_of_ended, done_is_ended, ended_begins}
 use Rattle.query_run.specs.States.{State, opening, IsFresh}
-use Rattle.query_run.specs.Images.{Images}
 use Rattle.query_run.specs.Answers.{answers, AreRead, output_by}
 use Rattle.query_run.specs.Progress.{FeedsPiece, IsFed, HasCome, IsSure}
 use Rattle.query_run.specs.Runs.{GetsPart, HandsOver, TakesWithin, WhereTold, within}

@@ -4,18 +4,18 @@ use Rattle.std.specs.Io.KnownBytes.{Consumes, IsAtEnd}
 use Rattle.outside.specs.Contents.{Contents}
 use Rattle.collection.specs.Engines.{EngineContent}
 use Rattle.live_version.specs.Contents.{VersionContent}
-use Rattle.script_lang.specs.Lines.{Line, lines, text_of_lines}
+use Rattle.script_lang.specs.Lines.{lines, text_of_lines}
 use Rattle.query_run.specs.Images.{Images}
 use Rattle.query_run.specs.States.{State, opening, IsFresh}
-use Rattle.query_run.specs.Answers.{answers, output_by, AreRead, names_kept_of, state_after}
-use Rattle.query_run.specs.Runs.{WhereTold, WhereMade, WhereMadeBy, GetsPart, HasAnswered, HasStopped, HoldsExactly, IsAnsweredBy, IsStopped, made_opening, made_summary, no_names}
+use Rattle.query_run.specs.Answers.{answers, output_by, AreRead}
+use Rattle.query_run.specs.Runs.{WhereTold, WhereMade, WhereMadeBy, GetsPart, HasAnswered, HasStopped, IsAnsweredBy, IsStopped, made_opening, made_summary}
 use Rattle.query_run.specs.Statuses.{IsFinished, IsMadeEnd}
 use Rattle.query_run.specs.declared.status.Status.{Status}
 use Rattle.query_run.specs.declared.status.Status.TheVariants.{Done, DoneWithRefusals, Usage, ReadFault, WriteFault, FileFault, NoMemory, ScriptTooLong}
 use Rattle.query_run.specs.declared.limits.Limits.{Limits}
 use Rattle.command_words.specs.declared.options.Made.{Made}
 use Rattle.command_words.specs.declared.options.Options.{Options}
-use Rattle.query_run.proofs.Scripts.{all_held, fresh_keeps, part_of_all, all_read}
+use Rattle.query_run.proofs.Scripts.{fresh_keeps, part_of_all, all_read}
 use Rattle.std.proofs.KnownBytes.{Appends-nil}
 
 -- at a script, contents and readings that are known
@@ -46,16 +46,17 @@ told_read limits first (Some script) after (Some contents) bytes P from end p =
     subst (λ (l : List ℕ). P (opening first contents images) l) same (p contents images refl here)
 
 -- no line is completed, nothing was written, and the files are as they were
-pub stopped_before : (limits : Limits) (engine : EngineContent) (completed : ℕ) (left : Option (List ℕ)) (held : Option Contents) (sink : Option (List ℕ)) → IsFresh engine completed →
-    WhereTold limits (Some engine.version.first) left held (λ start script. IsStopped limits start (lines limits.line script) completed engine.version held sink sink)
-stopped_before limits engine completed left held sink fresh = told limits engine.version.first left held
-    (λ start script. IsStopped limits start (lines limits.line script) completed engine.version held sink sink) (λ script contents images is_left is_held.
-    subst (λ (n : ℕ). IsStopped limits (opening engine.version.first contents images) (lines limits.line script) n engine.version held sink sink) (sym fresh.none)
+pub stopped_before : (limits : Limits) (engine : EngineContent) (completed : ℕ) (kept : Type 0) (left : Option (List ℕ)) (held : Option Contents) (sink : Option (List ℕ)) → IsFresh engine completed →
+    WhereTold limits (Some engine.version.first) left held (λ start script. IsStopped limits start (lines limits.line script) completed engine.version kept held sink sink)
+stopped_before limits engine completed kept left held sink fresh = told limits engine.version.first left held
+    (λ start script. IsStopped limits start (lines limits.line script) completed engine.version kept held sink sink) (λ script contents images is_left is_held.
+    subst (λ (n : ℕ). IsStopped limits (opening engine.version.first contents images) (lines limits.line script) n engine.version kept held sink sink) (sym fresh.none)
     (record {
       within = omega arith;
       stands = (fresh_keeps engine completed contents images fresh).stands;
       part = record { part = []; rest = text_of_lines (answers limits (opening engine.version.first contents images) (take 1 (lines limits.line script))); whole = refl; written = Appends-nil sink };
       files = record { contents = contents; is = is_held; same = λ name. inl refl };
+      exact = λ all_kept. is_held;
     }))
 
 -- nothing is a part of each text
@@ -70,29 +71,30 @@ nothing_of limits None left held sink text = tt
 nothing_of limits (Some first) left held sink text = part_before limits first left held sink text
 
 -- no line is completed, nothing was written, and the files are as they were
-pub none_stopped : (limits : Limits) (first : Option ℕ) (left : Option (List ℕ)) (held : Option Contents) (sink : Option (List ℕ)) (unsure : List Line → List (List ℕ)) →
-    WhereTold limits first left held (λ start script. HasStopped limits start (lines limits.line script) unsure held sink sink)
-none_stopped limits None left held sink unsure = tt
-none_stopped limits (Some first) left held sink unsure = told limits first left held (λ start script. HasStopped limits start (lines limits.line script) unsure held sink sink) (λ script contents images is_left is_held.
+pub none_stopped : (limits : Limits) (first : Option ℕ) (kept : Type 0) (left : Option (List ℕ)) (held : Option Contents) (sink : Option (List ℕ)) →
+    WhereTold limits first left held (λ start script. HasStopped limits start (lines limits.line script) kept held sink sink)
+none_stopped limits None kept left held sink = tt
+none_stopped limits (Some first) kept left held sink = told limits first left held (λ start script. HasStopped limits start (lines limits.line script) kept held sink sink) (λ script contents images is_left is_held.
     record {
       completed = 0;
       within = omega arith;
       part = record { part = []; rest = text_of_lines (answers limits (opening first contents images) (take 1 (lines limits.line script))); whole = refl; written = Appends-nil sink };
       files = record { contents = contents; is = is_held; same = λ name. inl refl };
+      exact = λ all_kept. is_held;
     })
 
 -- a stop after so many lines is one after some
-pub some_stopped : (limits : Limits) (first : ℕ) (left : Option (List ℕ)) (held held' : Option Contents) (old new : Option (List ℕ)) (completed : ℕ) (version : VersionContent) →
-    WhereTold limits (Some first) left held (λ start script. IsStopped limits start (lines limits.line script) completed version held' old new) →
-    WhereTold limits (Some first) left held (λ start script. HasStopped limits start (lines limits.line script) names_kept_of held' old new)
-some_stopped limits first left held held' old new completed version = told_as limits first left held
-    (λ start script. IsStopped limits start (lines limits.line script) completed version held' old new) (λ start script. HasStopped limits start (lines limits.line script) names_kept_of held' old new)
-    (λ start script stop. record { completed = completed; within = stop.within; part = stop.part; files = stop.files })
+pub some_stopped : (limits : Limits) (first : ℕ) (kept : Type 0) (left : Option (List ℕ)) (held held' : Option Contents) (old new : Option (List ℕ)) (completed : ℕ) (version : VersionContent) →
+    WhereTold limits (Some first) left held (λ start script. IsStopped limits start (lines limits.line script) completed version kept held' old new) →
+    WhereTold limits (Some first) left held (λ start script. HasStopped limits start (lines limits.line script) kept held' old new)
+some_stopped limits first kept left held held' old new completed version = told_as limits first left held
+    (λ start script. IsStopped limits start (lines limits.line script) completed version kept held' old new) (λ start script. HasStopped limits start (lines limits.line script) kept held' old new)
+    (λ start script stop. record { completed = completed; within = stop.within; part = stop.part; files = stop.files; exact = stop.exact })
 
 -- a stop within a script is a part of its output
-pub part_stopped : (limits : Limits) (start : State) (script : List ℕ) (completed : ℕ) (engine : EngineContent) (held : Option Contents) (old new : Option (List ℕ)) →
-    IsStopped limits start (lines limits.line script) completed engine.version held old new → GetsPart old new (output_by limits start script)
-part_stopped limits start script completed engine held old new stop = part_of_all limits start (lines limits.line script) (completed + 1) old new stop.part
+pub part_stopped : (limits : Limits) (start : State) (script : List ℕ) (completed : ℕ) (version : VersionContent) (kept : Type 0) (held : Option Contents) (old new : Option (List ℕ)) →
+    IsStopped limits start (lines limits.line script) completed version kept held old new → GetsPart old new (output_by limits start script)
+part_stopped limits start script completed version kept held old new stop = part_of_all limits start (lines limits.line script) (completed + 1) old new stop.part
 
 -- what was answered was read to its end
 pub answered_read : (limits : Limits) (start : State) (script : List ℕ) (refusal : Bool) (after : Option (List ℕ)) (held : Option Contents) (old new : Option (List ℕ)) → length script ≤ limits.script → IsAtEnd after →
@@ -136,20 +138,9 @@ made_at None Calm s h = tt
 made_at (Some options) Calm s h = λ made calm. h calm
 
 -- a stop where the script is told is a part of its output
-pub told_part : (limits : Limits) (first : ℕ) (left : Option (List ℕ)) (held held' : Option Contents) (old new : Option (List ℕ)) (completed : ℕ) (engine : EngineContent) →
-    WhereTold limits (Some first) left held (λ start script. IsStopped limits start (lines limits.line script) completed engine.version held' old new) →
+pub told_part : (limits : Limits) (first : ℕ) (kept : Type 0) (left : Option (List ℕ)) (held held' : Option Contents) (old new : Option (List ℕ)) (completed : ℕ) (engine : EngineContent) →
+    WhereTold limits (Some first) left held (λ start script. IsStopped limits start (lines limits.line script) completed engine.version kept held' old new) →
     WhereTold limits (Some first) left held (λ start script. GetsPart old new (output_by limits start script))
-told_part limits first left held held' old new completed engine = told_as limits first left held
-    (λ start script. IsStopped limits start (lines limits.line script) completed engine.version held' old new) (λ start script. GetsPart old new (output_by limits start script))
-    (λ start script stop. part_stopped limits start script completed engine held' old new stop)
-
--- a stop where it is sure what the files hold
-pub sure_stopped : (limits : Limits) (first : ℕ) (left : Option (List ℕ)) (held held' : Option Contents) (old new : Option (List ℕ)) (completed : ℕ) (version : VersionContent) →
-    WhereTold limits (Some first) left held (λ start script. IsStopped limits start (lines limits.line script) completed version held' old new) →
-    WhereTold limits (Some first) left held (λ start script. HoldsExactly limits start (lines limits.line script) completed held') →
-    WhereTold limits (Some first) left held (λ start script. HasStopped limits start (lines limits.line script) no_names held' old new)
-sure_stopped limits first None held held' old new completed version stop exact = tt
-sure_stopped limits first (Some script) None held' old new completed version stop exact = tt
-sure_stopped limits first (Some script) (Some contents) held' old new completed version stop exact = λ images read.
-    let here = stop images read in
-    record { completed = completed; within = here.within; part = here.part; files = all_held [] (state_after limits (opening first contents images) (take completed (lines limits.line script))).files held' (exact images read) }
+told_part limits first kept left held held' old new completed engine = told_as limits first left held
+    (λ start script. IsStopped limits start (lines limits.line script) completed engine.version kept held' old new) (λ start script. GetsPart old new (output_by limits start script))
+    (λ start script stop. part_stopped limits start script completed engine.version kept held' old new stop)

@@ -13,6 +13,7 @@ use Rattle.script_lang.specs.declared.commands.Command.TheVariants.{Find, Count,
 use Rattle.query_lanes.specs.declared.asks.Asked.{Asked}
 use Rattle.query_lanes.specs.declared.asks.Asked.TheVariants.{All, First, Number}
 use Rattle.query_lanes.specs.declared.asks.Ask.{Ask}
+use Rattle.query_lanes.specs.Answers.{text_asked}
 use Rattle.query_run.specs.Answers.{asked_lines, query_lines, refusal_lines}
 use Rattle.query_run.specs.declared.batches.NextAsk.{NextAsk}
 
@@ -21,9 +22,9 @@ abbrev pub expr_lines : Asked → Text → Result Expr QueryFault → List (List
 expr_lines asked text (Ok expr) = asked_lines asked (concordance text (form_of expr))
 expr_lines asked text (Err fault) = refusal_lines (Query fault)
 
--- the lines that answer a query of a batch over a text
+-- the lines that answer a query over a text, where it has no pass of its own
 abbrev pub ask_lines : Text → Ask → List (List ℕ)
-ask_lines text ask = expr_lines ask.asked text ask.query
+ask_lines text ask = expr_lines ask.asked (text_asked ask.pass text) ask.query
 
 -- a query of a batch is the one that these bytes are: over each text it has the lines that answer them
 pub record IsAskOf (asked : Asked) (query : List ℕ) (ask : Ask) : Type 0 where

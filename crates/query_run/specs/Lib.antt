@@ -7,4 +7,5 @@ pub mod Progress
 pub mod Runs
 pub mod States
 pub mod Statuses
+pub mod Windows
 pub mod Words

@@ -1,5 +1,5 @@
 -- For proofs alone: what the functions under `serve` say of a line and of some lines. No clause of `serve` or `run` speaks of these.
-use Rattle.std.specs.Prelude.{◌≡◌, Bool, ℕ, ◌+◌, ◌-◌, ◌||◌, ◌≤◌, List, [], ◌∷◌, ◌++◌, length, take, drop, Option, None, Some, Result, Ok, Err, IsErrOf, ◌⊎◌, ⊤, if◌then◌else◌}
+use Rattle.std.specs.Prelude.{◌≡◌, Bool, ℕ, ◌+◌, ◌≤◌, List, [], ◌∷◌, ◌++◌, length, take, drop, Option, None, Some, Result, Ok, Err, IsErrOf, ◌⊎◌, ⊤, if◌then◌else◌}
 use Rattle.std.specs.List.{list_any}
 use Rattle.std.specs.Io.KnownBytes.{Appends, Consumes}
 use Rattle.outside.specs.Causes.{Rose}
@@ -11,11 +11,9 @@ use Rattle.script_lang.specs.Feeds.{Feed}
 use Rattle.script_lang.specs.Answers.{is_refusal}
 use Rattle.script_lang.specs.declared.commands.Command.{Command}
 use Rattle.script_lang.specs.declared.commands.Command.TheVariants.{Save}
-use Rattle.query_lanes.specs.declared.asks.Ask.{Ask}
 use Rattle.query_run.specs.States.{State, Keeps}
 use Rattle.query_run.specs.Answers.{Reply, answer, answers, reply, after_reply, state_after, AllAnswered, AreRead}
-use Rattle.query_run.specs.Batches.{AreAsked}
-use Rattle.query_run.specs.Runs.{HoldsBut, HoldsExactly, IsStopped}
+use Rattle.query_run.specs.Runs.{HoldsBut, IsStopped}
 use Rattle.query_run.specs.declared.limits.Limits.{Limits}
 use Rattle.query_run.specs.declared.run_fault.RunFault.{RunFault}
 use Rattle.query_run.specs.declared.run_fault.RunFault.TheVariants.{Write, Files}
@@ -48,21 +46,22 @@ abbrev pub StopsWithin : State → Option Reply → ℕ → ℕ → EngineConten
 StopsWithin state told before now engine =
     ((now ≡ before) × StandsFor engine.version state.collection) ⊎ ((now ≡ before + 1) × StandsFor engine.version (after_reply state told).collection)
 
--- what the files hold where a line ended early: what they held before it, but for the names that it keeps, or, and then the line is
--- completed, what it leaves
-pub record HoldsWithin (state : State) (told : Option Reply) (names : List (List ℕ)) (before now : ℕ) (held : Option Contents) : Type 0 where
+-- what the files hold where a line ended early: what they held before it, but for the names that it keeps, and where each keep succeeded
+-- exactly that; or, and then the line is completed, what it leaves
+pub record HoldsWithin (state : State) (told : Option Reply) (names : List (List ℕ)) (before now : ℕ) (kept : Type 0) (held : Option Contents) : Type 0 where
   pub early : now ≡ before → HoldsBut names state.files held
+  pub exact : kept → now ≡ before → held ≡ Some state.files
   pub late : now ≡ before + 1 → held ≡ Some (after_reply state told).files
 
 -- what the files hold after a line: what it leaves, and where it ended early what is said above
-abbrev pub HoldsAfter : {T E : Type 0} → State → Option Reply → List (List ℕ) → ℕ → ℕ → Option Contents → Result T E → Type 0
-HoldsAfter state told names before now held (Ok _) = held ≡ Some (after_reply state told).files
-HoldsAfter state told names before now held (Err _) = HoldsWithin state told names before now held
+abbrev pub HoldsAfter : {T E : Type 0} → State → Option Reply → List (List ℕ) → ℕ → ℕ → Type 0 → Option Contents → Result T E → Type 0
+HoldsAfter state told names before now kept held (Ok _) = held ≡ Some (after_reply state told).files
+HoldsAfter state told names before now kept held (Err _) = HoldsWithin state told names before now kept held
 
 -- the same of a command that saves, and nothing of another
-abbrev pub HoldsSaved : {T E : Type 0} → Limits → State → Command → ℕ → ℕ → Option Contents → Result T E → Type 0
-HoldsSaved limits state (Save name) before now held result = HoldsAfter state (reply limits state (Save name)) (name ∷ []) before now held result
-HoldsSaved limits state _ before now held result = ⊤
+abbrev pub HoldsSaved : {T E : Type 0} → Limits → State → Command → ℕ → ℕ → Type 0 → Option Contents → Result T E → Type 0
+HoldsSaved limits state (Save name) before now kept held result = HoldsAfter state (reply limits state (Save name)) (name ∷ []) before now kept held result
+HoldsSaved limits state _ before now kept held result = ⊤
 
 -- how many merges are wanted
 abbrev pub wish : Bool → ℕ
@@ -96,30 +95,15 @@ pub record HasCome (limits : Limits) (start : State) (lines : List Line) (held :
   pub are : AreAnswered limits start lines refusal old new
   pub at : IsAt held engine wanted (state_after limits start lines)
 
--- the lines that ask a batch are answered, and the files are as they were
-abbrev pub AnswersBatch : List Ask → EngineContent → EngineContent → Bool → Bool → Bool → Option (List ℕ) → Option (List ℕ) → Type 0
-AnswersBatch asks before after w w' refusal old new = (limits : Limits) (held : Option Contents) (state : State) (batch : List Line) → AreAsked asks batch → IsAt held before w state →
-    HasCome limits state batch held after w' refusal old new
-
--- it ended within a batch or behind it, when so many of its lines were completed
-abbrev pub StopsBatch : List Ask → ℕ → EngineContent → EngineContent → Bool → Option (List ℕ) → Option (List ℕ) → Type 0
-StopsBatch asks completed before after w old new = (limits : Limits) (held : Option Contents) (state : State) (batch : List Line) → AreAsked asks batch → IsAt held before w state →
-    IsStopped limits state batch completed after.version held old new
-
 -- where the first `n` lines of a script were answered from the start on, the first `m` lines now are
 abbrev pub ComesOn : Limits → List Line → ℕ → ℕ → Option Contents → Option Contents → EngineContent → EngineContent → Bool → Bool → Bool → Bool → Option (List ℕ) → Option (List ℕ) → Type 0
 ComesOn limits all n m held held' before after w w' a b mid new = (start : State) (old : Option (List ℕ)) → AreRead limits start all → HasCome limits start (take n all) held before w a old mid →
     HasCome limits start (take m all) held' after w' b old new
 
 -- where the first `n` lines of a script were answered from the start on, `m` of them are completed now
-abbrev pub StopsFrom : Limits → List Line → ℕ → ℕ → Option Contents → Option Contents → EngineContent → EngineContent → Bool → Bool → Option (List ℕ) → Option (List ℕ) → Type 0
-StopsFrom limits all n m held held' before after w a mid new = (start : State) (old : Option (List ℕ)) → AreRead limits start all → HasCome limits start (take n all) held before w a old mid →
-    IsStopped limits start all m after.version held' old new
-
--- where the first `n` lines of a script were answered from the start on, the files hold what the first `m` lines leave
-abbrev pub HoldsFrom : Limits → List Line → ℕ → ℕ → Option Contents → Option Contents → EngineContent → Bool → Bool → Option (List ℕ) → Type 0
-HoldsFrom limits all n m held held' before w a mid = (start : State) (old : Option (List ℕ)) → AreRead limits start all → HasCome limits start (take n all) held before w a old mid →
-    HoldsExactly limits start all m held'
+abbrev pub StopsFrom : Limits → List Line → ℕ → ℕ → Type 0 → Option Contents → Option Contents → EngineContent → EngineContent → Bool → Bool → Option (List ℕ) → Option (List ℕ) → Type 0
+StopsFrom limits all n m kept held held' before after w a mid new = (start : State) (old : Option (List ℕ)) → AreRead limits start all → HasCome limits start (take n all) held before w a old mid →
+    IsStopped limits start all m after.version kept held' old new
 
 -- it holds of every script whose lines from the `n`-th on begin with these
 abbrev pub WhoseLines : List Line → ℕ → (List Line → Type 0) → Type 0

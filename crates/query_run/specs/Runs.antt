@@ -1,5 +1,5 @@
 -- What a run says of its source, its files and its sink.
-use Rattle.std.specs.Prelude.{◌≡◌, Bool, false, ℕ, ◌+◌, ◌≤◌, ◌==◌, List, [], ◌∷◌, ◌++◌, length, take, drop, Contains, Option, Some, IfSome, ◌⊎◌, if◌then◌else◌}
+use Rattle.std.specs.Prelude.{◌≡◌, Bool, false, ℕ, ◌+◌, ◌≤◌, List, ◌++◌, length, take, drop, Contains, Option, Some, IfSome, ◌⊎◌}
 use Rattle.std.specs.Io.KnownBytes.{Appends, Consumes, IsAtEnd}
 use Rattle.outside.specs.Contents.{Contents}
 use Rattle.script_lang.specs.Lines.{Line, lines, ended, text_of_lines}
@@ -60,28 +60,23 @@ pub record IsLeftBy (limits : Limits) (start : State) (script : List ℕ) (engin
   pub each : completed ≡ length (lines limits.line script)
 
 -- The first so many lines are completed: the version stands for the collection after them, the sink got the beginning of the answers to
--- them and the line after them, and the files hold what they leave, but for the name that the line after them saves
-pub record IsStopped (limits : Limits) (start : State) (script : List Line) (completed : ℕ) (version : VersionContent) (held : Option Contents) (old new : Option (List ℕ)) : Type 0 where
+-- them and the line after them, and the files hold what they leave, but for the name that the line after them saves, and where each keep
+-- succeeded exactly that
+pub record IsStopped (limits : Limits) (start : State) (script : List Line) (completed : ℕ) (version : VersionContent) (kept : Type 0) (held : Option Contents) (old new : Option (List ℕ)) : Type 0 where
   pub within : completed ≤ length script
   pub stands : StandsFor version (state_after limits start (take completed script)).collection
   pub part : GetsPart old new (text_of_lines (answers limits start (take (completed + 1) script)))
   pub files : HoldsBut (names_kept_of (take 1 (drop completed script))) (state_after limits start (take completed script)).files held
-
--- the files hold exactly what the first so many lines leave
-abbrev pub HoldsExactly : Limits → State → List Line → ℕ → Option Contents → Type 0
-HoldsExactly limits start script completed held = held ≡ Some (state_after limits start (take completed script)).files
-
--- none of the names that lines save
-abbrev pub no_names : List Line → List (List ℕ)
-no_names next = []
+  pub exact : kept → held ≡ Some (state_after limits start (take completed script)).files
 
 -- Some lines are completed: the sink got the beginning of the answers to them and the line after them, and the files hold what they leave,
--- but for these names of the line after them
-pub record HasStopped (limits : Limits) (start : State) (script : List Line) (unsure : List Line → List (List ℕ)) (held : Option Contents) (old new : Option (List ℕ)) : Type 0 where
+-- but for the name that the line after them saves, and where each keep succeeded exactly that
+pub record HasStopped (limits : Limits) (start : State) (script : List Line) (kept : Type 0) (held : Option Contents) (old new : Option (List ℕ)) : Type 0 where
   pub completed : ℕ
   pub within : completed ≤ length script
   pub part : GetsPart old new (text_of_lines (answers limits start (take (completed + 1) script)))
-  pub files : HoldsBut (unsure (take 1 (drop completed script))) (state_after limits start (take completed script)).files held
+  pub files : HoldsBut (names_kept_of (take 1 (drop completed script))) (state_after limits start (take completed script)).files held
+  pub exact : kept → held ≡ Some (state_after limits start (take completed script)).files
 
 -- the source handed over so many bytes
 pub record HandsOver (count : ℕ) (old new : Option (List ℕ)) : Type 0 where

@@ -60,10 +60,12 @@ fn answer_command<R: Wait, F: Files>(
     ensures publisher { engine.new.publisher ≡ engine.old.publisher }
     ensures quiet { names_asked command ≡ [] → files.new ≡ files.old }
     ensures unsaved { names_kept command ≡ [] → F.held files.new ≡ F.held files.old }
+    ensures untried { names_kept command ≡ [] → F.unkept files.new ≡ F.unkept files.old }
     ensures saved { (state : State) → IsAt (F.held files.old) engine.old false state →
-        HoldsSaved limits.now state command lines.old lines.new (F.held files.new) result }
+        HoldsSaved limits.now state command lines.old lines.new (F.unkept files.new ≡ F.unkept files.old) (F.held files.new) result }
     ensures cause { HasFileCause (F.faults files.old) (F.faults files.new) result }
     ensures calm { OnOk result (F.faults files.new ≡ F.faults files.old) }
+    ensures unkept { OnOk result (F.unkept files.new ≡ F.unkept files.old) }
 {
     match command {
         Command::Blank => Ok(false),
@@ -135,10 +137,13 @@ fn answer_any<R: Wait, F: Files, G: Gate>(
     ensures publisher { engine.new.publisher ≡ engine.old.publisher }
     ensures quiet { names_of_line (record { long = long; bytes = line.now }) ≡ [] → files.new ≡ files.old }
     ensures unsaved { names_kept_of_line (record { long = long; bytes = line.now }) ≡ [] → F.held files.new ≡ F.held files.old }
+    ensures untried { names_kept_of_line (record { long = long; bytes = line.now }) ≡ [] → F.unkept files.new ≡ F.unkept files.old }
     ensures files { (state : State) → IsAt (F.held files.old) engine.old wanted.old state →
-        HoldsAfter state (answer limits.now state (record { long = long; bytes = line.now })) (names_kept_of_line (record { long = long; bytes = line.now })) lines.old lines.new (F.held files.new) result }
+        HoldsAfter state (answer limits.now state (record { long = long; bytes = line.now })) (names_kept_of_line (record { long = long; bytes = line.now })) lines.old lines.new (F.unkept files.new ≡ F.unkept files.old)
+        (F.held files.new) result }
     ensures cause { HasFileCause (F.faults files.old) (F.faults files.new) result }
     ensures calm { OnOk result (F.faults files.new ≡ F.faults files.old) }
+    ensures unkept { OnOk result (F.unkept files.new ≡ F.unkept files.old) }
 {
     if !long && line.is_empty() {
         return Ok(false);
@@ -185,10 +190,13 @@ pub fn answer_line<R: Wait, F: Files, G: Gate>(
     ensures publisher { engine.new.publisher ≡ engine.old.publisher }
     ensures quiet { names_of_line (record { long = long; bytes = line.now }) ≡ [] → files.new ≡ files.old }
     ensures unsaved { names_kept_of_line (record { long = long; bytes = line.now }) ≡ [] → F.held files.new ≡ F.held files.old }
+    ensures untried { names_kept_of_line (record { long = long; bytes = line.now }) ≡ [] → F.unkept files.new ≡ F.unkept files.old }
     ensures files { (state : State) → IsAt (F.held files.old) engine.old wanted.old state →
-        HoldsAfter state (answer limits.now state (record { long = long; bytes = line.now })) (names_kept_of_line (record { long = long; bytes = line.now })) lines.old lines.new (F.held files.new) result }
+        HoldsAfter state (answer limits.now state (record { long = long; bytes = line.now })) (names_kept_of_line (record { long = long; bytes = line.now })) lines.old lines.new (F.unkept files.new ≡ F.unkept files.old)
+        (F.held files.new) result }
     ensures cause { HasFileCause (F.faults files.old) (F.faults files.new) result }
     ensures calm { OnOk result (F.faults files.new ≡ F.faults files.old) }
+    ensures unkept { OnOk result (F.unkept files.new ≡ F.unkept files.old) }
 {
     out.clear();
     let completed = *lines + 1;

@@ -77,6 +77,7 @@ pub fn add<R: Wait, F: Files>(
     ensures same { F.held files.new ≡ F.held files.old }
     ensures cause { HasFileCause (F.faults files.old) (F.faults files.new) result }
     ensures calm { OnOk result (F.faults files.new ≡ F.faults files.old) }
+    ensures unkept { F.unkept files.new ≡ F.unkept files.old }
 {
     let mut content = Vec::new(alloc);
     match files.load(name, limits.file, &mut content)? {

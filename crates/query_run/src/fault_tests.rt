@@ -1,5 +1,7 @@
 // What is left where something outside fails or wants memory, where a limit is reached, and where an image is damaged.
 ghost use Rattle.std.specs.Prelude.{◌≡◌, Some};
+ghost use Rattle.outside.specs.Causes.{HasFileCause, CountsFileFault};
+ghost use Rattle.outside.specs.Contents.{IsKept};
 ghost use Rattle.query_run.specs.States.{AreLimits};
 
 use crate::stream_tests::SlowSource;
@@ -8,8 +10,8 @@ use crate::{Limits, Status, run, serve};
 use collection::{Engine, Opened};
 use gcl_model::Bytes;
 use outside::{
-    FileError, Files, FreeGate, Loaded, MemFiles, MemSink, Sink, SureFiles, SureSink, SureSource,
-    WriteError,
+    FileError, Files, FreeGate, GhostCount, Loaded, MemFiles, MemSink, Sink, SureFiles, SureSink,
+    SureSource, WriteError,
 };
 use std::alloc::{AllocError, Global};
 use std::sync::Wait;
@@ -40,12 +42,13 @@ enum Part {
     Files,
 }
 
-/// How a run ended: its status, what was written, and whether the image was kept.
+/// How a run ended: its status, what was written, whether the image was kept, and whether each other name holds what it held.
 #[derive(Drop)]
 struct Ended {
     status: Status,
     written: Vec<u8>,
     kept: bool,
+    same: bool,
 }
 
 /// This call where it is of that object, and none else.
@@ -82,6 +85,8 @@ fn failing<R: Threads + Wait + Sync + AllocGlobal>(
         status,
         written: sink.written().to_vec(alloc)?,
         kept: files.content(b"i").is_some(),
+        same: held(alloc)?.iter().all(|entry| files.content(entry.0.as_slice())
+            == Some(entry.1.as_slice())),
     })
 }
 
@@ -135,6 +140,7 @@ fn whichever_call_fails_a_beginning_is_written_and_the_image_is_kept_or_not(
             let ended = failing(&rt, part, call)?;
             let written = ended.written.as_slice();
             assert!(rt; TEXT.starts_with(written), "{part:?} at {call}");
+            assert!(rt; ended.same, "{part:?} at {call}");
             if ended.status == Status::Done {
                 assert_eq!(rt; written, TEXT, "{part:?} at {call}");
                 is_whole = call > 2;
@@ -178,12 +184,34 @@ struct HungryFiles {
     inner: SureFiles,
     calls: u64,
     hungry: u64,
+    unkept: GhostCount,
+}
+
+impl HungryFiles {
+    /// Keeps the bytes; where this call wants memory, too, as an error may have changed what the name holds.
+    fn put(&mut self, name: &[u8], bytes: &[u8]) -> Result<(), FileError>
+        ensures kept { IsKept (⟦<SureFiles as Files>⟧.held self.old.inner) (⟦<SureFiles as Files>⟧.held self.new.inner) name.now bytes.now result }
+        ensures cause { HasFileCause 0 0 result }
+        ensures counts { CountsFileFault 0 0 result }
+        ensures unkept { self.new.unkept ≡ self.old.unkept }
+    {
+        self.calls = self.calls.saturating_add(1);
+        if self.calls != self.hungry {
+            return self.inner.keep(name, bytes);
+        }
+        match self.inner.keep(name, bytes) {
+            Ok(()) => Err(FileError::NoMemory),
+            Err(fault) => Err(fault),
+        }
+    }
 }
 
 impl Files for HungryFiles {
     ghost held = { λ f. ⟦<SureFiles as Files>⟧.held f.inner };
 
     ghost faults = { λ _. 0 };
+
+    ghost unkept = { λ f. f.unkept };
 
     fn load(&mut self, name: &[u8], most: u64, out: &mut Vec<u8>) -> Result<Loaded, FileError> {
         self.calls = self.calls.saturating_add(1);
@@ -194,14 +222,12 @@ impl Files for HungryFiles {
     }
 
     fn keep(&mut self, name: &[u8], bytes: &[u8]) -> Result<(), FileError> {
-        self.calls = self.calls.saturating_add(1);
-        if self.calls != self.hungry {
-            return self.inner.keep(name, bytes);
-        }
-        // an error may have changed what the name holds
-        match self.inner.keep(name, bytes) {
-            Ok(()) => Err(FileError::NoMemory),
-            Err(fault) => Err(fault),
+        match self.put(name, bytes) {
+            Ok(()) => Ok(()),
+            Err(fault) => {
+                self.unkept.add_one();
+                Err(fault)
+            }
         }
     }
 }
@@ -223,6 +249,7 @@ fn hungry<R: Threads + Wait + Sync + AllocGlobal>(
         inner: SureFiles::new(alloc, held(alloc)?),
         calls: 0,
         hungry: files_call,
+        unkept: GhostCount::none(),
     };
     let status = run(
         rt,
@@ -237,11 +264,15 @@ fn hungry<R: Threads + Wait + Sync + AllocGlobal>(
         status,
         written: sink.taken,
         kept: files.inner.content(b"i").is_some(),
+        same: held(alloc)?.iter().all(|entry| files.inner.content(entry.0.as_slice())
+            == Some(entry.1.as_slice())),
     })
 }
 
 #[test]
-fn whichever_call_wants_memory_a_beginning_is_written(rt: HostRuntime) -> Result<(), Fail> {
+fn whichever_call_wants_memory_a_beginning_is_written_and_no_other_name_is_changed(
+    rt: HostRuntime,
+) -> Result<(), Fail> {
     for part in [Part::Sink, Part::Files] {
         let mut is_whole = false;
         for call in 1..MANY {
@@ -251,6 +282,13 @@ fn whichever_call_wants_memory_a_beginning_is_written(rt: HostRuntime) -> Result
             };
             let written = ended.written.as_slice();
             assert!(rt; TEXT.starts_with(written), "{part:?} at {call}");
+            assert!(rt; ended.same, "{part:?} at {call}");
+            // all that is left to write then is the answer to the save and to what follows it
+            assert_eq!(rt;
+                ended.kept,
+                written.len() >= BEFORE_SAVED.len(),
+                "{part:?} at {call}"
+            );
             if ended.status == Status::Done {
                 is_whole = call > 3 && written == TEXT && ended.kept;
                 break;

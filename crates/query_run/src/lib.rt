@@ -11,6 +11,7 @@
 //! `= 2`.
 #![tactic(auto)]
 
+mod answering;
 mod answers;
 mod batches;
 mod changes;
@@ -18,6 +19,7 @@ mod limits;
 mod listing;
 mod made_run;
 mod merging;
+mod over;
 mod pages;
 mod queries;
 mod read;
@@ -30,6 +32,7 @@ mod status;
 mod stream;
 mod stream_fault;
 mod top;
+mod window;
 mod write;
 
 pub use limits::{BATCH_MOST, IMAGE_MOST, Limits, SCRIPT_MOST};
@@ -47,3 +50,5 @@ mod plain_tests;
 mod stream_tests;
 #[cfg(test)]
 mod tests;
+#[cfg(test)]
+mod window_tests;

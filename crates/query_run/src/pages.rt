@@ -1,4 +1,4 @@
-ghost use Rattle.std.specs.Prelude.{◌≡◌, ◌≤◌, ◌<◌, [], ◌∷◌, ℕ, List, length, take, drop, map, true, false, Option, Ok, IfOk, IfSome, IsNone, OnOk, IsErrOf};
+ghost use Rattle.std.specs.Prelude.{◌≡◌, ◌≤◌, ◌<◌, [], ℕ, List, length, take, drop, map, false, Option, Ok, IfOk, IfSome, IsNone, OnOk};
 ghost use Rattle.std.specs.List.{list_any};
 ghost use Rattle.gcl_model.specs.Extents.{Extent};
 ghost use Rattle.gcl_model.specs.FormOf.{form_of};
@@ -8,10 +8,9 @@ ghost use Rattle.live_version.specs.Contents.{version_text};
 ghost use Rattle.outside.specs.Causes.{HasWriteCause};
 ghost use Rattle.script_lang.specs.Answers.{interval_line, is_refusal};
 ghost use Rattle.script_lang.specs.Lines.{text_of_lines};
-ghost use Rattle.query_lanes.specs.Answers.{answer_in, page_size};
-ghost use Rattle.query_run.specs.Answers.{asked_lines};
+ghost use Rattle.query_lanes.specs.Answers.{answer_in, page_size, text_asked};
 ghost use Rattle.query_run.specs.Batches.{ask_lines};
-ghost use Rattle.query_run.specs.Pages.{IsPage, IsPut, Puts, PutsPart, members_asked, page_from};
+ghost use Rattle.query_run.specs.Pages.{IsPage, Puts, PutsPart, members_asked, page_from};
 ghost use Rattle.query_run.specs.Progress.{HasCauses};
 
 use crate::queries::put_intervals;
@@ -20,8 +19,9 @@ use crate::run_fault::RunFault;
 use crate::write::{PIECE, write_all};
 use collection::Engine;
 use gcl_model::{Expr, IntervalList};
+use manifest_publish::Pass;
 use outside::{Sink, WriteError};
-use query_lanes::{Ask, Asked, Found, PAGE, page_behind};
+use query_lanes::{Ask, Asked, Found, PAGE, page_behind, text_end};
 use script_lang::{Refusal, put_total};
 use std::alloc::{AllocError, Global};
 
@@ -67,23 +67,24 @@ fn page_most(asked: Asked, put: u64) -> u64
 fn page_after(
     alloc: Global,
     engine: &Engine,
+    own: &Option<Pass>,
     expr: &Expr,
     asked: Asked,
     put: u64,
     page: &IntervalList,
 ) -> Result<Option<IntervalList>, AllocError>
     requires well_formed { IsWellFormed (form_of expr.now) }
-    requires page { IsPage (members_asked asked (concordance (version_text engine.now.version) (form_of expr.now))) put page.now }
-    ensures some { IfOk result (λ next. IfSome next (λ page. page ≡ page_from put (members_asked asked (concordance (version_text engine.now.version) (form_of expr.now))))) }
+    requires page { IsPage (members_asked asked (concordance (text_asked own.now (version_text engine.now.version)) (form_of expr.now))) put page.now }
+    ensures some { IfOk result (λ next. IfSome next (λ page. page ≡ page_from put (members_asked asked (concordance (text_asked own.now (version_text engine.now.version)) (form_of expr.now))))) }
     ensures full { IfOk result (λ next. IfSome next (λ _. page_size ≤ length page.now)) }
-    ensures none { IfOk result (λ next. IsNone next → drop put (members_asked asked (concordance (version_text engine.now.version) (form_of expr.now))) ≡ []) }
+    ensures none { IfOk result (λ next. IsNone next → drop put (members_asked asked (concordance (text_asked own.now (version_text engine.now.version)) (form_of expr.now))) ≡ []) }
 {
     let count = page.len();
     if (count as u64) < PAGE {
         return Ok(None);
     }
     let last = page.as_slice()[count - 1];
-    let next = page_behind(alloc, engine, expr, last, page_most(asked, put))?;
+    let next = page_behind(alloc, engine, own, expr, last, page_most(asked, put))?;
     Ok(Some(next))
 }
 
@@ -93,34 +94,35 @@ fn put_members<K: Sink>(
     out: &mut Vec<u8>,
     sink: &mut K,
     engine: &Engine,
+    own: &Option<Pass>,
     expr: &Expr,
     asked: Asked,
     first: IntervalList,
 ) -> Result<u64, RunFault>
     requires well_formed { IsWellFormed (form_of expr.now) }
-    requires first { first ≡ page_from 0 (members_asked asked (concordance (version_text engine.now.version) (form_of expr.now))) }
+    requires first { first ≡ page_from 0 (members_asked asked (concordance (text_asked own.now (version_text engine.now.version)) (form_of expr.now))) }
     ensures puts { OnOk result (Puts (K.written sink.old) (K.written sink.new) out.old.items out.new.items
-        (text_of_lines (map interval_line (members_asked asked (concordance (version_text engine.now.version) (form_of expr.now)))))) }
+        (text_of_lines (map interval_line (members_asked asked (concordance (text_asked own.now (version_text engine.now.version)) (form_of expr.now)))))) }
     ensures part { PutsPart (K.written sink.old) (K.written sink.new) out.old.items
-        (text_of_lines (map interval_line (members_asked asked (concordance (version_text engine.now.version) (form_of expr.now))))) }
-    ensures count { IfOk result (λ count. count ≡ length (members_asked asked (concordance (version_text engine.now.version) (form_of expr.now)))) }
+        (text_of_lines (map interval_line (members_asked asked (concordance (text_asked own.now (version_text engine.now.version)) (form_of expr.now))))) }
+    ensures count { IfOk result (λ count. count ≡ length (members_asked asked (concordance (text_asked own.now (version_text engine.now.version)) (form_of expr.now)))) }
     ensures causes { (n : ℕ) → HasCauses (K.faults sink.old) (K.faults sink.new) n n result }
     ensures calm { OnOk result (K.faults sink.new ≡ K.faults sink.old) }
 {
     // by it addresses are known to end, and so is every list
-    let _version = engine.version();
+    let _end = text_end(engine, own);
     let mut put = 0;
     let mut next = Some(first);
     while let Some(page) = next {
         put_page(sink, out, &page)?;
         put += page.len() as u64;
-        next = page_after(alloc, engine, expr, asked, put, &page)?;
+        next = page_after(alloc, engine, own, expr, asked, put, &page)?;
     }
     Ok(put)
 }
 
-/// Puts the answer to a query whose first page was found, and says whether it is a refusal. Each further page is looked for on the
-/// engine's own pass once the one before it is put.
+/// Puts the answer to a query whose first page was found, and says whether it is a refusal. Each further page is looked for once the one
+/// before it is put, on the query's own pass or else on the engine's.
 pub fn put_answer<K: Sink>(
     alloc: Global,
     out: &mut Vec<u8>,
@@ -138,7 +140,7 @@ pub fn put_answer<K: Sink>(
 {
     match (&ask.query, found) {
         (Ok(expr), Found::List(first)) => {
-            let count = put_members(alloc, out, sink, engine, expr, ask.asked, first)?;
+            let count = put_members(alloc, out, sink, engine, &ask.pass, expr, ask.asked, first)?;
             put_total(out, count)?;
             Ok(false)
         }

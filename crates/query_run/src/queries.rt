@@ -18,11 +18,13 @@ pub fn ask_of(alloc: Global, number: u64, asked: Asked, query: &Bytes) -> Result
             number,
             asked,
             query: Ok(expr),
+            pass: None,
         }),
         Err(ParseFault::Query(fault)) => Ok(Ask {
             number,
             asked,
             query: Err(fault),
+            pass: None,
         }),
         Err(ParseFault::NoMemory) => Err(AllocError),
     }

@@ -50,9 +50,10 @@ pub fn save<F: Files>(
     ensures stop { OnErr result ((state : State) → IsAt (F.held files.old) engine.now false state →
         StopsWithin state (reply limits.now state (Save name.now)) lines.old lines.new engine.now) }
     ensures saved { (state : State) → IsAt (F.held files.old) engine.now false state →
-        HoldsSaved limits.now state (Save name.now) lines.old lines.new (F.held files.new) result }
+        HoldsSaved limits.now state (Save name.now) lines.old lines.new (F.unkept files.new ≡ F.unkept files.old) (F.held files.new) result }
     ensures cause { HasFileCause (F.faults files.old) (F.faults files.new) result }
     ensures calm { OnOk result (F.faults files.new ≡ F.faults files.old) }
+    ensures unkept { OnOk result (F.unkept files.new ≡ F.unkept files.old) }
 {
     let bytes = image_now(alloc, engine)?;
     if bytes.len() as u64 > limits.image {
@@ -159,6 +160,7 @@ pub fn open<R: Wait, F: Files>(
     ensures same { F.held files.new ≡ F.held files.old }
     ensures cause { HasFileCause (F.faults files.old) (F.faults files.new) result }
     ensures calm { OnOk result (F.faults files.new ≡ F.faults files.old) }
+    ensures unkept { F.unkept files.new ≡ F.unkept files.old }
 {
     if engine.version().next_id() > 0 {
         let refused = refuse(out, &Refusal::NotEmpty)?;

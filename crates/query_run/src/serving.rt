@@ -1,30 +1,25 @@
-ghost use Rattle.std.specs.Prelude.{◌≡◌, ◌+◌, ◌-◌, ◌≤◌, ◌<◌, [], ◌∷◌, Some, false, ℕ, map, take, drop, flat_map, IfOk, OnOk, IsErrOf, length};
-ghost use Rattle.std.specs.List.{list_any};
+ghost use Rattle.std.specs.Prelude.{◌≡◌, ◌+◌, ◌-◌, ◌≤◌, ◌<◌, [], ◌∷◌, Some, false, drop, IfOk, OnOk, IsErrOf, length};
 ghost use Rattle.gcl_model.specs.Limits.{far, most_readers, most_script};
 ghost use Rattle.image_file.specs.Images.{CanBeSaved};
-ghost use Rattle.live_version.specs.Contents.{version_text};
 ghost use Rattle.collection.specs.Engines.{merge_end};
-ghost use Rattle.script_lang.specs.Answers.{is_refusal};
-ghost use Rattle.script_lang.specs.Lines.{Line, lines, line_of_cut, text_of_lines, IsCut};
-ghost use Rattle.query_lanes.specs.Answers.{answer_in};
+ghost use Rattle.script_lang.specs.Lines.{lines, line_of_cut, IsCut};
 ghost use Rattle.query_lanes.specs.Readers.{AreOf};
 ghost use Rattle.query_run.specs.States.{State, AreLimits};
-ghost use Rattle.query_run.specs.Answers.{after_reply, answer, IsRead, names_kept_of, names_kept_of_line, names_of_line, names_of};
-ghost use Rattle.query_run.specs.Batches.{ask_lines, asks_query};
-ghost use Rattle.query_run.specs.Pages.{Puts, PutsPart};
-ghost use Rattle.query_run.specs.Progress.{AnswersBatch, ComesOn, GoesOn, HoldsFrom, IsAt, HasWritten, HoldsAfter, StopsBatch, StopsFrom, StopsWithin, HasCauses, WhoseLines, answer_text, wish};
+ghost use Rattle.query_run.specs.Answers.{answer, IsRead, names_kept_of, names_kept_of_line, names_of_line, names_of};
+ghost use Rattle.query_run.specs.Batches.{asks_query};
+ghost use Rattle.query_run.specs.Progress.{ComesOn, GoesOn, IsAt, HasWritten, HoldsAfter, StopsFrom, StopsWithin, HasCauses, WhoseLines, answer_text, wish};
 ghost use Rattle.query_run.specs.Runs.{GetsPart};
 
+use crate::answering::serve_queries;
 use crate::answers::answer_line;
 use crate::batches::take_batch;
 use crate::limits::Limits;
-use crate::pages::put_answer;
 use crate::run_fault::RunFault;
 use crate::write::write_all;
 use collection::Engine;
 use manifest_publish::Reader;
 use outside::{Files, Gate, Sink};
-use query_lanes::{Ask, Found, Work, answer_batch};
+use query_lanes::Work;
 use script_lang::{LineCut, line_at};
 use std::alloc::Global;
 use std::sync::Wait;
@@ -87,12 +82,13 @@ fn serve_line<R: Wait, F: Files, K: Sink, G: Gate>(
     ensures quiet { names_of_line (record { long = long; bytes = line.now }) ≡ [] → files.new ≡ files.old }
     ensures unsaved { names_kept_of_line (record { long = long; bytes = line.now }) ≡ [] → F.held files.new ≡ F.held files.old }
     ensures files { (state : State) → IsAt (F.held files.old) engine.old wanted.old state →
-        HoldsAfter state (answer limits.now state (record { long = long; bytes = line.now })) (names_kept_of_line (record { long = long; bytes = line.now })) completed.old completed.new (F.held files.new) result }
-    ensures kept { IsErrOf result RunFault.Write → (state : State) → IsAt (F.held files.old) engine.old wanted.old state →
-        (completed.new ≡ completed.old + 1) × (F.held files.new ≡ Some (after_reply state (answer limits.now state (record { long = long; bytes = line.now }))).files) }
+        HoldsAfter state (answer limits.now state (record { long = long; bytes = line.now })) (names_kept_of_line (record { long = long; bytes = line.now })) completed.old completed.new
+        (F.unkept files.new ≡ F.unkept files.old) (F.held files.new) result }
     ensures causes { HasCauses (K.faults sink.old) (K.faults sink.new) (F.faults files.old) (F.faults files.new) result }
     ensures sink_calm { OnOk result (K.faults sink.new ≡ K.faults sink.old) }
     ensures files_calm { OnOk result (F.faults files.new ≡ F.faults files.old) }
+    ensures unkept { OnOk result (F.unkept files.new ≡ F.unkept files.old) }
+    ensures kept { IsErrOf result RunFault.Write → F.unkept files.new ≡ F.unkept files.old }
 {
     let refused = answer_line(
         rt, alloc, gate, out, files, engine, completed, wanted, limits, long, line,
@@ -101,77 +97,7 @@ fn serve_line<R: Wait, F: Files, K: Sink, G: Gate>(
     Ok(refused)
 }
 
-/// Puts the answers to a batch in the order of its queries, and says whether a refusal is among them. Each line is completed once its answer is put.
-fn put_answers<K: Sink>(
-    alloc: Global,
-    out: &mut Vec<u8>,
-    sink: &mut K,
-    engine: &Engine,
-    completed: &mut u64,
-    asks: &[Ask],
-    answers: Vec<Found>,
-) -> Result<bool, RunFault>
-    requires answers { answers.items ≡ map (answer_in (version_text engine.now.version)) asks.now }
-    requires room { completed.old + length asks.now ≤ far }
-    ensures puts { OnOk result (Puts (K.written sink.old) (K.written sink.new) out.old.items out.new.items (text_of_lines (flat_map (ask_lines (version_text engine.now.version)) asks.now))) }
-    ensures part { PutsPart (K.written sink.old) (K.written sink.new) out.old.items (text_of_lines (flat_map (ask_lines (version_text engine.now.version)) (take (completed.new - completed.old + 1) asks.now))) }
-    ensures refusal { IfOk result (λ refusal. refusal ≡ list_any is_refusal (flat_map (ask_lines (version_text engine.now.version)) asks.now)) }
-    ensures completed { OnOk result (completed.new ≡ completed.old + length asks.now) }
-    ensures counted { (completed.old ≤ completed.new) × (completed.new ≤ completed.old + length asks.now) }
-    ensures causes { (n : ℕ) → HasCauses (K.faults sink.old) (K.faults sink.new) n n result }
-    ensures calm { OnOk result (K.faults sink.new ≡ K.faults sink.old) }
-{
-    let mut refused = false;
-    let mut i = 0;
-    for found in answers {
-        refused |= put_answer(alloc, out, sink, engine, &asks[i], found)?;
-        i += 1;
-        *completed += 1;
-    }
-    Ok(refused)
-}
-
-/// Answers a batch of queries, beside the merge that is wanted, if one is, and writes the answers.
-fn serve_batch<R: Threads + Wait + Sync, K: Sink, G: Gate + Sync>(
-    rt: &R,
-    alloc: Global,
-    gate: &G,
-    out: &mut Vec<u8>,
-    sink: &mut K,
-    engine: &mut Engine,
-    works: &mut [Work],
-    readers: &mut [Reader],
-    completed: &mut u64,
-    wanted: &mut bool,
-    asks: &[Ask],
-) -> Result<bool, RunFault>
-    requires same { length works.old ≡ length readers.old }
-    requires lanes { length readers.old ≤ most_readers }
-    requires of { AreOf engine.old.publisher readers.old }
-    requires savable { CanBeSaved engine.old.version }
-    requires number { engine.old.version.number + wish wanted.old < merge_end }
-    requires room { completed.old + length asks.now ≤ far }
-    ensures step { IfOk result (λ refusal. AnswersBatch asks.now engine.old engine.new wanted.old wanted.new refusal (K.written sink.old) (K.written sink.new)) }
-    ensures stop { StopsBatch asks.now (completed.new - completed.old) engine.old engine.new wanted.old (K.written sink.old) (K.written sink.new) }
-    ensures completed { OnOk result (completed.new ≡ completed.old + length asks.now) }
-    ensures counted { (completed.old ≤ completed.new) × (completed.new ≤ completed.old + length asks.now) }
-    ensures number { OnOk result (engine.new.version.number + wish wanted.new ≤ engine.old.version.number + wish wanted.old) }
-    ensures savable { OnOk result (CanBeSaved engine.new.version) }
-    ensures of { AreOf engine.new.publisher readers.new }
-    ensures same { length works.new ≡ length readers.new }
-    ensures lanes { length readers.new ≤ most_readers }
-    ensures causes { (n : ℕ) → HasCauses (K.faults sink.old) (K.faults sink.new) n n result }
-    ensures sink_calm { OnOk result (K.faults sink.new ≡ K.faults sink.old) }
-{
-    let answers = answer_batch(rt, alloc, gate, asks, *wanted, engine, works, readers)?;
-    *wanted = false;
-    out.clear();
-    let refused = put_answers(alloc, out, sink, engine, completed, asks, answers)?;
-    write_all(sink, out.as_slice())?;
-    Ok(refused)
-}
-
-/// Answers the batch of queries that the line at hand begins, or else this line alone.
+/// Answers the queries that begin with the line at hand, or else this line alone.
 fn serve_some<R: Threads + Wait + Sync, F: Files, K: Sink, G: Gate + Sync>(
     rt: &R,
     alloc: Global,
@@ -202,10 +128,8 @@ fn serve_some<R: Threads + Wait + Sync, F: Files, K: Sink, G: Gate + Sync>(
     ensures goes { OnOk result (GoesOn (lines limits.now.line (drop course.old.at script.now)) (lines limits.now.line (drop course.new.at script.now)) completed.old completed.new) }
     ensures come { OnOk result (WhoseLines (lines limits.now.line (drop course.old.at script.now)) completed.old (λ all. ComesOn limits.now all completed.old completed.new (F.held files.old) (F.held files.new)
         engine.old engine.new wanted.old wanted.new course.old.refused course.new.refused (K.written sink.old) (K.written sink.new))) }
-    ensures stopped { WhoseLines (lines limits.now.line (drop course.old.at script.now)) completed.old (λ all. StopsFrom limits.now all completed.old completed.new (F.held files.old) (F.held files.new)
-        engine.old engine.new wanted.old course.old.refused (K.written sink.old) (K.written sink.new)) }
-    ensures kept { IsErrOf result RunFault.Write → WhoseLines (lines limits.now.line (drop course.old.at script.now)) completed.old (λ all. HoldsFrom limits.now all completed.old completed.new (F.held files.old) (F.held files.new)
-        engine.old wanted.old course.old.refused (K.written sink.old)) }
+    ensures stopped { WhoseLines (lines limits.now.line (drop course.old.at script.now)) completed.old (λ all. StopsFrom limits.now all completed.old completed.new (F.unkept files.new ≡ F.unkept files.old)
+        (F.held files.old) (F.held files.new) engine.old engine.new wanted.old course.old.refused (K.written sink.old) (K.written sink.new)) }
     ensures further { OnOk result ((course.old.at < course.new.at) × (course.new.at ≤ length script.now)) }
     ensures counted { OnOk result ((completed.new + course.old.at ≤ completed.old + course.new.at) × (course.new.asked ≤ completed.new)) }
     ensures numbers { OnOk result (engine.new.version.number + wish wanted.new ≤ completed.new) }
@@ -218,6 +142,8 @@ fn serve_some<R: Threads + Wait + Sync, F: Files, K: Sink, G: Gate + Sync>(
     ensures causes { HasCauses (K.faults sink.old) (K.faults sink.new) (F.faults files.old) (F.faults files.new) result }
     ensures sink_calm { OnOk result (K.faults sink.new ≡ K.faults sink.old) }
     ensures files_calm { OnOk result (F.faults files.new ≡ F.faults files.old) }
+    ensures unkept { OnOk result (F.unkept files.new ≡ F.unkept files.old) }
+    ensures kept { IsErrOf result RunFault.Write → F.unkept files.new ≡ F.unkept files.old }
 {
     let batch = take_batch(
         alloc,
@@ -227,14 +153,11 @@ fn serve_some<R: Threads + Wait + Sync, F: Files, K: Sink, G: Gate + Sync>(
         limits.batch as usize,
         course.asked + 1,
     )?;
-    let asks = batch.asks.as_slice();
-    if !asks.is_empty() {
-        let refused = serve_batch(
-            rt, alloc, gate, out, sink, engine, works, readers, completed, wanted, asks,
+    if !batch.asks.is_empty() {
+        serve_queries(
+            rt, alloc, gate, out, files, sink, engine, works, readers, completed, wanted, course,
+            limits, script, batch,
         )?;
-        course.asked += asks.len() as u64;
-        course.refused |= refused;
-        course.at = batch.after;
         return Ok(());
     }
     let line = &script[cut.from..cut.to];
@@ -274,10 +197,8 @@ pub(crate) fn serve_held<R: Threads + Wait + Sync, F: Files, K: Sink, G: Gate + 
     ensures each { OnOk result (completed.new ≡ completed.old + length (lines limits.now.line script.now)) }
     ensures come { OnOk result (WhoseLines (lines limits.now.line script.now) completed.old (λ all. ComesOn limits.now all completed.old completed.new (F.held files.old) (F.held files.new)
         engine.old engine.new wanted.old wanted.new course.old.refused course.new.refused (K.written sink.old) (K.written sink.new))) }
-    ensures stopped { WhoseLines (lines limits.now.line script.now) completed.old (λ all. StopsFrom limits.now all completed.old completed.new (F.held files.old) (F.held files.new)
-        engine.old engine.new wanted.old course.old.refused (K.written sink.old) (K.written sink.new)) }
-    ensures kept { IsErrOf result RunFault.Write → WhoseLines (lines limits.now.line script.now) completed.old (λ all. HoldsFrom limits.now all completed.old completed.new (F.held files.old) (F.held files.new)
-        engine.old wanted.old course.old.refused (K.written sink.old)) }
+    ensures stopped { WhoseLines (lines limits.now.line script.now) completed.old (λ all. StopsFrom limits.now all completed.old completed.new (F.unkept files.new ≡ F.unkept files.old)
+        (F.held files.old) (F.held files.new) engine.old engine.new wanted.old course.old.refused (K.written sink.old) (K.written sink.new)) }
     ensures counted { OnOk result ((completed.new ≤ completed.old + length script.now) × (course.new.asked ≤ completed.new)) }
     ensures numbers { OnOk result (engine.new.version.number + wish wanted.new ≤ completed.new) }
     ensures savable { OnOk result (CanBeSaved engine.new.version) }
@@ -289,6 +210,8 @@ pub(crate) fn serve_held<R: Threads + Wait + Sync, F: Files, K: Sink, G: Gate + 
     ensures causes { HasCauses (K.faults sink.old) (K.faults sink.new) (F.faults files.old) (F.faults files.new) result }
     ensures sink_calm { OnOk result (K.faults sink.new ≡ K.faults sink.old) }
     ensures files_calm { OnOk result (F.faults files.new ≡ F.faults files.old) }
+    ensures unkept { OnOk result (F.unkept files.new ≡ F.unkept files.old) }
+    ensures kept { IsErrOf result RunFault.Write → F.unkept files.new ≡ F.unkept files.old }
 {
     course.at = 0;
     while let Some(cut) = line_at(script, course.at, limits.line as usize) {

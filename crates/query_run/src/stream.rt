@@ -7,7 +7,7 @@ ghost use Rattle.query_run.specs.States.{AreLimits, IsFresh};
 ghost use Rattle.query_run.specs.Statuses.{IsFinished, IsCutOff, IsAllAnswered, IsSureOfFiles};
 ghost use Rattle.query_run.specs.Progress.{HasStreamCauses, IsSure};
 ghost use Rattle.query_run.specs.Answers.{names_kept_of, names_of, output_by};
-ghost use Rattle.query_run.specs.Runs.{WhereTold, GetsPart, IsAnsweredBy, IsLeftBy, IsStopped, HoldsExactly, HandsOverMore, TakesWithin, within};
+ghost use Rattle.query_run.specs.Runs.{WhereTold, GetsPart, IsAnsweredBy, IsLeftBy, IsStopped, HandsOverMore, TakesWithin, within};
 
 use crate::limits::Limits;
 use crate::merging::merge_wanted;
@@ -46,9 +46,9 @@ fn serve_pieces<R: Threads + Wait + Sync, F: Files, S: Source, K: Sink, G: Gate 
     ensures left { OnOk result (WhereTold limits.now (Some engine.old.version.first) (S.left source.old) (F.held files.old) (λ start script.
         IsLeftBy limits.now start script engine.new completed.new)) }
     ensures stopped { WhereTold limits.now (Some engine.old.version.first) (S.left source.old) (F.held files.old) (λ start script.
-        IsStopped limits.now start (lines limits.now.line script) completed.new engine.new.version (F.held files.new) (K.written sink.old) (K.written sink.new)) }
-    ensures exact { IsSure result → WhereTold limits.now (Some engine.old.version.first) (S.left source.old) (F.held files.old) (λ start script.
-        HoldsExactly limits.now start (lines limits.now.line script) completed.new (F.held files.new)) }
+        IsStopped limits.now start (lines limits.now.line script) completed.new engine.new.version (F.unkept files.new ≡ F.unkept files.old)
+        (F.held files.new) (K.written sink.old) (K.written sink.new)) }
+    ensures sure { IsSure result → F.unkept files.new ≡ F.unkept files.old }
     ensures part_within { IsErrOf result StreamFault.TooLong → WhereTold limits.now (Some engine.old.version.first) (S.left source.old) (F.held files.old) (λ start script.
         GetsPart (K.written sink.old) (K.written sink.new) (output_by limits.now start (within limits.now.script script))) }
     ensures too_long { IsErrOf result StreamFault.TooLong → HandsOverMore limits.now.script (S.left source.old) (S.left source.new) }
@@ -110,8 +110,9 @@ fn serve_pieces<R: Threads + Wait + Sync, F: Files, S: Source, K: Sink, G: Gate 
 
 /// Answers the script that a source hands out, on an engine that was just opened. Before the source is asked for more, each whole line that it
 /// has handed out is answered, and the answer is handed to the sink: so whoever waits for an answer before the next line is sent is not left
-/// waiting. Queries that follow each other are answered in batches by the engine's readers, beside a merge that is wanted. `opened.lines` counts the lines
-/// that are completed: a query once its answer is put, any other line once its answer is made. It is not for this call to end the engine.
+/// waiting. Queries are answered in batches by the engine's readers, beside a merge that is wanted; before that other lines behind them may be done, but for those
+/// that save or open an image. `opened.lines` counts the lines that are completed: a query once its answer is put, or it is put off before such a line, any
+/// other line once its answer is made. It is not for this call to end the engine.
 pub fn serve<R: Threads + Wait + Sync, F: Files, S: Source, K: Sink, G: Gate + Sync>(
     rt: &R,
     alloc: Global,
@@ -136,12 +137,13 @@ pub fn serve<R: Threads + Wait + Sync, F: Files, S: Source, K: Sink, G: Gate + S
     ensures left { IsAllAnswered result → WhereTold limits.now (Some opened.old.engine.version.first) (S.left source.old) (F.held files.old) (λ start script.
         IsLeftBy limits.now start script opened.new.engine opened.new.lines) }
 
-    // Whatever the status, some lines are completed, the sink gets the beginning of the output, and the files hold what these lines leave, but
-    // where a file failed or memory was wanted for the name that the next line saves.
+    // Whatever the status, some lines are completed, the sink gets the beginning of the output, and the files hold exactly what these lines
+    // leave; but where a keep answered an error that is so of every name but the one that the next line saves. None did, unless the status
+    // names a fault of a file or want of memory.
     ensures stopped { WhereTold limits.now (Some opened.old.engine.version.first) (S.left source.old) (F.held files.old) (λ start script.
-        IsStopped limits.now start (lines limits.now.line script) opened.new.lines opened.new.engine.version (F.held files.new) (K.written sink.old) (K.written sink.new)) }
-    ensures exact { IsSureOfFiles result → WhereTold limits.now (Some opened.old.engine.version.first) (S.left source.old) (F.held files.old) (λ start script.
-        HoldsExactly limits.now start (lines limits.now.line script) opened.new.lines (F.held files.new)) }
+        IsStopped limits.now start (lines limits.now.line script) opened.new.lines opened.new.engine.version (F.unkept files.new ≡ F.unkept files.old)
+        (F.held files.new) (K.written sink.old) (K.written sink.new)) }
+    ensures sure { IsSureOfFiles result → F.unkept files.new ≡ F.unkept files.old }
     ensures part { WhereTold limits.now (Some opened.old.engine.version.first) (S.left source.old) (F.held files.old) (λ start script.
         GetsPart (K.written sink.old) (K.written sink.new) (output_by limits.now start script)) }
     ensures part_within { result ≡ Status.ScriptTooLong → WhereTold limits.now (Some opened.old.engine.version.first) (S.left source.old) (F.held files.old) (λ start script.

@@ -303,7 +303,7 @@ fn merges_all_along_give_the_same_bytes_with_any_readers(rt: HostRuntime) -> Res
 fn the_lines_of_a_batch_are_completed_before_their_answers_are_written(
     rt: HostRuntime,
 ) -> Result<(), Fail> {
-    let script = b"add a\nmerge\ncount \"to\"\ncount \"be\"\ncount \"or\"\nfiles\n";
+    let script = b"add a\nmerge\ncount \"to\"\ncount \"be\"\ncount \"or\"\n";
     let mut sink = MemSink::new(rt.alloc(), [3].to_vec(rt.alloc())?);
     let (status, lines) = served_into(&rt, 4, &Limits::greatest(), script, &mut sink)?;
     assert_eq!(rt; status, Status::WriteFault);

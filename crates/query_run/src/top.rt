@@ -7,7 +7,7 @@ ghost use Rattle.query_run.specs.Words.{first_of};
 ghost use Rattle.query_run.specs.Statuses.{IsSureOfFiles, IsFinished, IsCutOff, IsAllAnswered};
 ghost use Rattle.query_run.specs.States.{greatest_limits};
 ghost use Rattle.query_run.specs.Answers.{output, names_kept_of, names_of};
-ghost use Rattle.query_run.specs.Runs.{no_names, TakesWithin, WhereTold, WhereMadeBy, GetsPart, HasStopped, IsAnswered, IsSummed, HandsOverMore, made_summary, within};
+ghost use Rattle.query_run.specs.Runs.{TakesWithin, WhereTold, WhereMadeBy, GetsPart, HasStopped, IsAnswered, IsSummed, HandsOverMore, made_summary, within};
 
 use crate::made_run::run_made;
 use crate::script_run::run_script;
@@ -43,12 +43,12 @@ pub fn run<R: Threads + Wait + Sync, F: Files, S: Source, K: Sink, G: Gate + Syn
     ensures done_with_refusals { result ≡ Status.DoneWithRefusals → WhereTold greatest_limits (first_of words.now) (S.left source.old) (F.held files.old) (λ start script.
         IsAnswered start script true (S.left source.new) (F.held files.new) (K.written sink.old) (K.written sink.new)) }
 
-    // Whatever the status, some lines are completed, the sink gets the beginning of the output, and the files hold what these lines leave,
-    // but for the name that the next line saves; not even for that where no file failed and no memory was wanted.
+    // Whatever the status, some lines are completed, the sink gets the beginning of the output, and the files hold exactly what these lines
+    // leave; but where a keep answered an error that is so of every name but the one that the next line saves. None did, unless the status
+    // names a fault of a file or want of memory.
     ensures stopped { WhereTold greatest_limits (first_of words.now) (S.left source.old) (F.held files.old) (λ start script.
-        HasStopped greatest_limits start (lines most_line script) names_kept_of (F.held files.new) (K.written sink.old) (K.written sink.new)) }
-    ensures exact { IsSureOfFiles result → WhereTold greatest_limits (first_of words.now) (S.left source.old) (F.held files.old) (λ start script.
-        HasStopped greatest_limits start (lines most_line script) no_names (F.held files.new) (K.written sink.old) (K.written sink.new)) }
+        HasStopped greatest_limits start (lines most_line script) (F.unkept files.new ≡ F.unkept files.old) (F.held files.new) (K.written sink.old) (K.written sink.new)) }
+    ensures sure { IsSureOfFiles result → F.unkept files.new ≡ F.unkept files.old }
     ensures part { WhereTold greatest_limits (first_of words.now) (S.left source.old) (F.held files.old) (λ start script.
         GetsPart (K.written sink.old) (K.written sink.new) (output start script)) }
     ensures part_within { result ≡ Status.ScriptTooLong → WhereTold greatest_limits (first_of words.now) (S.left source.old) (F.held files.old) (λ start script.

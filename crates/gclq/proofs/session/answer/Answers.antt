@@ -59,5 +59,5 @@ returns-clause-complete_long g c some source sink files longer = cut_off_number 
 pub returns-clause-complete_made : goal.returns-clause-complete_made
 returns-clause-complete_made g c = made_finished (options_of c.args.words.now) c.run-status.result _ _ c.exit.ensures c.run-status.ensures.complete_made
 
-pub returns-clause-exact : goal.returns-clause-exact
-returns-clause-exact g c is = c.run-status.ensures.exact (sure_status c.run-status.result _ c.exit.ensures is)
+pub returns-clause-sure : goal.returns-clause-sure
+returns-clause-sure g c is = c.run-status.ensures.sure (sure_status c.run-status.result _ c.exit.ensures is)

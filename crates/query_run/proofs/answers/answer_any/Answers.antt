@@ -1,4 +1,4 @@
-use Rattle.std.proofs.Common.{Bool, false, subst, rules}
+use Rattle.std.proofs.Common.{◌≡◌, Bool, false, subst, rules}
 use Rattle.query_run.specs.States.{Keeps}
 use Rattle.query_run.specs.Answers.{answer, reply, names_kept, names_kept_of_line}
 use Rattle.query_run.specs.Progress.{IsAt}
@@ -13,12 +13,13 @@ returns-in_err-refused-2-clause-files g c = λ state at.
     let command = c.in_ok-command.command in
     let held = g.F.Files.held c.args.files.now in
     let engine = c.merge_wanted.new.engine in
+    let kept = g.F.Files.unkept c.answer_command.new.files ≡ g.F.Files.unkept c.args.files.now in
     let now : IsAt held engine false state = record {
       files = at.files;
       keeps = subst (λ (w : Bool). Keeps engine w state) c.in_ok-merge_wanted.ensures.made (c.in_ok-merge_wanted.ensures.keeps state at.keeps);
     } in
-    let holds = holds_as state (reply limits state command) (answer limits state record { long = c.args.long; bytes = bytes }) (names_kept command) (names_kept_of_line record { long = c.args.long; bytes = bytes }) c.args.lines.now c.answer_command.new.lines (g.F.Files.held c.answer_command.new.files)
+    let holds = holds_as state (reply limits state command) (answer limits state record { long = c.args.long; bytes = bytes }) (names_kept command) (names_kept_of_line record { long = c.args.long; bytes = bytes }) c.args.lines.now c.answer_command.new.lines kept (g.F.Files.held c.answer_command.new.files)
     (line_answered limits state c.args.long bytes command c.if-long.false c.in_ok-command.ensures.value) (line_kept c.args.long bytes command c.if-long.false c.in_ok-command.ensures.value)
-    (command_held_err limits state command c.args.lines.now c.answer_command.new.lines held (g.F.Files.held c.answer_command.new.files) engine false c.in_err-refused-2.field-0.0 now
+    (command_held_err limits state command c.args.lines.now c.answer_command.new.lines kept held (g.F.Files.held c.answer_command.new.files) engine false c.in_err-refused-2.field-0.0 now
     c.in_err-refused-2.ensures.unsaved (c.in_err-refused-2.ensures.saved state now)) in
     search rules

@@ -1,14 +1,13 @@
-use Rattle.std.proofs.Common.{◌≡◌, ℕ, List, [], ◌∷◌, ◌++◌, length, sym, ap, ◌∙◌, append_assoc, rules}
+use Rattle.std.proofs.Common.{◌≡◌, ℕ, [], ◌∷◌, ◌++◌, length, sym, ap, ◌∙◌, append_assoc, rules}
 use Rattle.std.specs.List.{list_any}
-use Rattle.gcl_model.specs.Extents.{Extent}
 use Rattle.gcl_model.specs.FormOf.{form_of}
 use Rattle.gcl_model.specs.Meaning.{concordance}
 use Rattle.live_version.specs.Contents.{version_text}
 use Rattle.script_lang.specs.Answers.{is_refusal, total_line}
 use Rattle.script_lang.specs.Lines.{text_of_lines}
-use Rattle.query_run.specs.Answers.{list_lines}
 use Rattle.query_run.specs.Batches.{ask_lines, expr_lines}
-use Rattle.query_run.specs.Pages.{Puts, PutsPart, members_asked}
+use Rattle.query_lanes.specs.Answers.{text_asked}
+use Rattle.query_run.specs.Pages.{members_asked}
 use Rattle.query_run.proofs.PageSteps.{list_answer, list_text, members_text}
 use Rattle.query_run.proofs.PutLemmas.{held_more, part_as, part_of_put, part_on, puts_as, puts_on}
 use Rattle.query_run.proofs.Replies.{list_plain}
@@ -17,7 +16,7 @@ use Rattle.query_run.proofs.pages.put_answer.Goals as goal
 pub returns-in_err-count-in-Ok-List-clause-part : goal.returns-in_err-count-in-Ok-List-clause-part
 returns-in_err-count-in-Ok-List-clause-part g c =
     let text = version_text c.args.engine.now.version in
-    let list = members_asked c.args.ask.now.asked (concordance text (form_of c.in-Ok-List.expr)) in
+    let list = members_asked c.args.ask.now.asked (concordance (text_asked c.args.ask.now.pass text) (form_of c.in-Ok-List.expr)) in
     let lines = list_answer text c.args.ask.now c.in-Ok-List.expr c.in-Ok-List.first c.in-Ok-List.is-0 (sym c.in-Ok-List.is-1 ∙ c.requires.found) in
     let last = total_line (length list) ++ 10 ∷ [] in
     part_as (g.K.Sink.written c.args.sink.now) (g.K.Sink.written c.put_members.new.sink) c.args.out.now.items (members_text list ++ last) (text_of_lines (ask_lines text c.args.ask.now)) (sym (ap text_of_lines lines ∙ list_text list))
@@ -31,7 +30,7 @@ returns-in_err-count-in-Ok-List-clause-causes g c = λ n.
 pub returns-in_err-put_total-in-Ok-List-clause-part : goal.returns-in_err-put_total-in-Ok-List-clause-part
 returns-in_err-put_total-in-Ok-List-clause-part g c =
     let text = version_text c.args.engine.now.version in
-    let list = members_asked c.args.ask.now.asked (concordance text (form_of c.in-Ok-List.expr)) in
+    let list = members_asked c.args.ask.now.asked (concordance (text_asked c.args.ask.now.pass text) (form_of c.in-Ok-List.expr)) in
     let lines = list_answer text c.args.ask.now c.in-Ok-List.expr c.in-Ok-List.first c.in-Ok-List.is-0 (sym c.in-Ok-List.is-1 ∙ c.requires.found) in
     let last = total_line (length list) ++ 10 ∷ [] in
     let old = g.K.Sink.written c.args.sink.now in
@@ -42,7 +41,7 @@ returns-in_err-put_total-in-Ok-List-clause-part g c =
 pub returns-in_ok-put_total-in-Ok-List-clause-puts : goal.returns-in_ok-put_total-in-Ok-List-clause-puts
 returns-in_ok-put_total-in-Ok-List-clause-puts g c =
     let text = version_text c.args.engine.now.version in
-    let list = members_asked c.args.ask.now.asked (concordance text (form_of c.in-Ok-List.expr)) in
+    let list = members_asked c.args.ask.now.asked (concordance (text_asked c.args.ask.now.pass text) (form_of c.in-Ok-List.expr)) in
     let lines = list_answer text c.args.ask.now c.in-Ok-List.expr c.in-Ok-List.first c.in-Ok-List.is-0 (sym c.in-Ok-List.is-1 ∙ c.requires.found) in
     let last = total_line (length list) ++ 10 ∷ [] in
     let old = g.K.Sink.written c.args.sink.now in
@@ -62,13 +61,13 @@ returns-in_ok-put_total-in-Ok-List-clause-part g c =
 pub returns-in_ok-put_total-in-Ok-List-clause-refusal : goal.returns-in_ok-put_total-in-Ok-List-clause-refusal
 returns-in_ok-put_total-in-Ok-List-clause-refusal g c =
     let text = version_text c.args.engine.now.version in
-    let list = members_asked c.args.ask.now.asked (concordance text (form_of c.in-Ok-List.expr)) in
+    let list = members_asked c.args.ask.now.asked (concordance (text_asked c.args.ask.now.pass text) (form_of c.in-Ok-List.expr)) in
     let lines = list_answer text c.args.ask.now c.in-Ok-List.expr c.in-Ok-List.first c.in-Ok-List.is-0 (sym c.in-Ok-List.is-1 ∙ c.requires.found) in
     sym (ap (list_any is_refusal) lines ∙ list_plain list)
 
 pub returns-in_ok-refused-in-Err-default-clause-puts : goal.returns-in_ok-refused-in-Err-default-clause-puts
 returns-in_ok-refused-in-Err-default-clause-puts g c =
     let text = version_text c.args.engine.now.version in
-    let lines = ap (expr_lines c.args.ask.now.asked text) c.in-Err-default.is-0 in
+    let lines = ap (expr_lines c.args.ask.now.asked (text_asked c.args.ask.now.pass text)) c.in-Err-default.is-0 in
     held_more (g.K.Sink.written c.args.sink.now) c.args.out.now.items c.refuse.new.out.items (text_of_lines (ask_lines text c.args.ask.now))
     (c.in_ok-refused-in-Err-default.ensures.text ∙ ap (λ l. c.args.out.now.items ++ text_of_lines l) (sym lines))

@@ -7,7 +7,8 @@ use Rattle.query_run.proofs.saving.save.Goals as goal
 
 pub returns-in_err-keep-clause-saved : goal.returns-in_err-keep-clause-saved
 returns-in_err-keep-clause-saved g c = λ state at.
-    let holds = held_but_one state (reply c.args.limits.now state (Save c.args.name.now)) c.args.name.now c.args.lines.now c.args.lines.now c.args.engine.now false (g.F.Files.held c.args.files.now) (g.F.Files.held c.keep.new.self) at c.in_err-keep.ensures.kept refl in
+    let holds = held_but_one state (reply c.args.limits.now state (Save c.args.name.now)) c.args.name.now c.args.lines.now c.args.lines.now (g.F.Files.unkept c.args.files.now) (g.F.Files.unkept c.keep.new.self)
+    c.args.engine.now false (g.F.Files.held c.args.files.now) (g.F.Files.held c.keep.new.self) at c.in_err-keep.ensures.kept c.in_err-keep.ensures.unkept refl in
     search rules
 
 pub returns-clause-reply : goal.returns-clause-reply

@@ -1,11 +1,11 @@
-use Rattle.std.proofs.Common.{◌≡◌, subst, ◌<◌, ◌≤◌, Some, refl, ap, ◌∙◌, arith}
+use Rattle.std.proofs.Common.{◌≡◌, subst, ◌<◌, ◌≤◌, Some, refl, ap, arith}
 use Rattle.gcl_model.specs.Limits.{address_end, most_script}
 use Rattle.collection.specs.Engines.{EngineContent}
 use Rattle.script_lang.specs.Lines.{lines}
 use Rattle.query_run.specs.States.{greatest_limits}
-use Rattle.query_run.specs.Answers.{names_kept_of, output_by}
-use Rattle.query_run.specs.Runs.{GetsPart, HasStopped, TakesWithin, no_names, within}
-use Rattle.query_run.proofs.Told.{by_words, none_stopped, some_stopped, sure_stopped}
+use Rattle.query_run.specs.Answers.{output_by}
+use Rattle.query_run.specs.Runs.{GetsPart, HasStopped, TakesWithin, within}
+use Rattle.query_run.proofs.Told.{by_words, none_stopped, some_stopped}
 use Rattle.query_run.proofs.StreamLemmas.{takes_none}
 use Rattle.query_run.specs.declared.limits.Limits.{Limits}
 use Rattle.query_run.proofs.script_run.run_script.Goals as goal
@@ -24,31 +24,20 @@ returns-clause-part_within g c = λ long.
     first c.greatest-limits.ensures (c.serve-status.ensures.part_within long)
 
 pub returns-in-Err-NoMemory-clause-stopped : goal.returns-in-Err-NoMemory-clause-stopped
-returns-in-Err-NoMemory-clause-stopped g c = none_stopped greatest_limits (Some c.args.first) (g.S.Source.left c.args.source.now) (g.F.Files.held c.args.files.now) (g.K.Sink.written c.args.sink.now) names_kept_of
+returns-in-Err-NoMemory-clause-stopped g c = none_stopped greatest_limits (Some c.args.first) (g.F.Files.unkept c.args.files.now ≡ g.F.Files.unkept c.args.files.now) (g.S.Source.left c.args.source.now) (g.F.Files.held c.args.files.now) (g.K.Sink.written c.args.sink.now)
 
 pub returns-clause-stopped : goal.returns-clause-stopped
 returns-clause-stopped g c =
     let first : Some c.in-Ok.opened.engine.version.first ≡ Some c.args.first = ap (λ (e : EngineContent). Some e.version.first) c.in-Ok.ensures.history in
     let left = g.S.Source.left c.args.source.now in
     let held = g.F.Files.held c.args.files.now in
+    let kept = g.F.Files.unkept c.serve-status.new.files ≡ g.F.Files.unkept c.args.files.now in
     let held' = g.F.Files.held c.serve-status.new.files in
     let old = g.K.Sink.written c.args.sink.now in
     let new = g.K.Sink.written c.serve-status.new.sink in
     by_words (Some c.args.first) c.greatest-limits.result greatest_limits c.in-Ok.opened.engine.version.first left held
-    (λ limits start script. HasStopped limits start (lines limits.line script) names_kept_of held' old new) first c.greatest-limits.ensures
-    (some_stopped c.greatest-limits.result c.in-Ok.opened.engine.version.first left held held' old new c.serve-status.new.opened.lines c.serve-status.new.opened.engine.version c.serve-status.ensures.stopped)
-
-pub returns-clause-exact : goal.returns-clause-exact
-returns-clause-exact g c = λ sure.
-    let first : Some c.in-Ok.opened.engine.version.first ≡ Some c.args.first = ap (λ (e : EngineContent). Some e.version.first) c.in-Ok.ensures.history in
-    let left = g.S.Source.left c.args.source.now in
-    let held = g.F.Files.held c.args.files.now in
-    let held' = g.F.Files.held c.serve-status.new.files in
-    let old = g.K.Sink.written c.args.sink.now in
-    let new = g.K.Sink.written c.serve-status.new.sink in
-    by_words (Some c.args.first) c.greatest-limits.result greatest_limits c.in-Ok.opened.engine.version.first left held
-    (λ limits start script. HasStopped limits start (lines limits.line script) no_names held' old new) first c.greatest-limits.ensures
-    (sure_stopped c.greatest-limits.result c.in-Ok.opened.engine.version.first left held held' old new c.serve-status.new.opened.lines c.serve-status.new.opened.engine.version c.serve-status.ensures.stopped (c.serve-status.ensures.exact sure))
+    (λ limits start script. HasStopped limits start (lines limits.line script) kept held' old new) first c.greatest-limits.ensures
+    (some_stopped c.greatest-limits.result c.in-Ok.opened.engine.version.first kept left held held' old new c.serve-status.new.opened.lines c.serve-status.new.opened.engine.version c.serve-status.ensures.stopped)
 
 pub returns-in-Err-NoMemory-clause-took : goal.returns-in-Err-NoMemory-clause-took
 returns-in-Err-NoMemory-clause-took g c = takes_none most_script (g.S.Source.left c.args.source.now)

@@ -1,7 +1,7 @@
-use Rattle.std.proofs.Common.{◌≡◌, ℕ, ◌+◌, ◌-◌, ◌≤◌, [], length, drop, refl, ap, ◌∙◌, arith, rules}
+use Rattle.std.proofs.Common.{◌≡◌, drop, sym, ◌∙◌, arith, rules}
 use Rattle.script_lang.specs.Lines.{lines}
 use Rattle.query_run.specs.Answers.{names_of_line, names_kept_of_line}
-use Rattle.query_run.proofs.LineSteps.{behind, comes_more, goes_more, holds_more, none_left, stops_more}
+use Rattle.query_run.proofs.LineSteps.{behind, comes_more, goes_more, none_left, stops_more}
 use Rattle.query_run.proofs.Scripts.{stops_on}
 use Rattle.query_run.proofs.serving.serve_held.Goals as goal
 
@@ -30,6 +30,7 @@ loop-cut-preserved g c =
       files_later = search rules;
       sink_calm = step.sink_calm ∙ inv.sink_calm;
       files_calm = step.files_calm ∙ inv.files_calm;
+      unkept = step.unkept ∙ inv.unkept;
       goes = goes_more ahead mid left c.args.completed.now c.loop-cut.completed c.serve_some.new.completed inv.goes step.goes;
       come = comes_more c.args.limits.now ahead mid c.args.completed.now c.loop-cut.completed c.serve_some.new.completed (g.F.Files.held c.args.files.now) (g.F.Files.held c.loop-cut.files) (g.F.Files.held c.serve_some.new.files)
           c.args.engine.now c.loop-cut.engine c.serve_some.new.engine c.args.wanted.now c.loop-cut.wanted c.serve_some.new.wanted c.args.course.now.refused c.loop-cut.course.refused c.serve_some.new.course.refused
@@ -41,14 +42,9 @@ returns-in_err-serve_some-clause-stopped g c =
     stops_more c.args.limits.now (lines c.args.limits.now.line c.args.script.now) (lines c.args.limits.now.line (drop c.loop-cut.course.at c.args.script.now)) c.args.completed.now c.loop-cut.completed c.serve_some.new.completed
     (g.F.Files.held c.args.files.now) (g.F.Files.held c.loop-cut.files) (g.F.Files.held c.serve_some.new.files)
     c.args.engine.now c.loop-cut.engine c.serve_some.new.engine c.args.wanted.now c.loop-cut.wanted c.serve_some.new.wanted c.args.course.now.refused c.loop-cut.course.refused c.serve_some.new.course.refused
-    (g.K.Sink.written c.args.sink.now) (g.K.Sink.written c.loop-cut.sink) (g.K.Sink.written c.serve_some.new.sink) c.loop-cut.invariant.goes c.loop-cut.invariant.come c.in_err-serve_some.ensures.stopped
-
-pub returns-in_err-serve_some-clause-kept : goal.returns-in_err-serve_some-clause-kept
-returns-in_err-serve_some-clause-kept g c = λ write.
-    holds_more c.args.limits.now (lines c.args.limits.now.line c.args.script.now) (lines c.args.limits.now.line (drop c.loop-cut.course.at c.args.script.now)) c.args.completed.now c.loop-cut.completed c.serve_some.new.completed
-    (g.F.Files.held c.args.files.now) (g.F.Files.held c.loop-cut.files) (g.F.Files.held c.serve_some.new.files)
-    c.args.engine.now c.loop-cut.engine c.serve_some.new.engine c.args.wanted.now c.loop-cut.wanted c.serve_some.new.wanted c.args.course.now.refused c.loop-cut.course.refused c.serve_some.new.course.refused
-    (g.K.Sink.written c.args.sink.now) (g.K.Sink.written c.loop-cut.sink) (g.K.Sink.written c.serve_some.new.sink) c.loop-cut.invariant.goes c.loop-cut.invariant.come (c.in_err-serve_some.ensures.kept (search rules))
+    (g.K.Sink.written c.args.sink.now) (g.K.Sink.written c.loop-cut.sink) (g.K.Sink.written c.serve_some.new.sink) c.loop-cut.invariant.goes c.loop-cut.invariant.come
+    (g.F.Files.unkept c.serve_some.new.files ≡ g.F.Files.unkept c.loop-cut.files) (g.F.Files.unkept c.serve_some.new.files ≡ g.F.Files.unkept c.args.files.now) (λ kept. kept ∙ sym c.loop-cut.invariant.unkept)
+    c.in_err-serve_some.ensures.stopped
 
 pub returns-in_err-serve_some-clause-quiet : goal.returns-in_err-serve_some-clause-quiet
 returns-in_err-serve_some-clause-quiet g c = λ none.
@@ -64,6 +60,6 @@ pub returns-clause-stopped : goal.returns-clause-stopped
 returns-clause-stopped g c = λ all rest within cut.
     let inv = c.loop-cut.invariant in
     let ends = behind (lines c.args.limits.now.line c.args.script.now) (lines c.args.limits.now.line (drop c.loop-cut.course.at c.args.script.now)) all rest c.args.completed.now c.loop-cut.completed inv.goes within cut in
-    stops_on c.args.limits.now all c.args.completed.now c.loop-cut.completed (g.F.Files.held c.args.files.now) (g.F.Files.held c.loop-cut.files) c.args.engine.now c.loop-cut.engine
+    stops_on c.args.limits.now all c.args.completed.now c.loop-cut.completed (g.F.Files.unkept c.loop-cut.files ≡ g.F.Files.unkept c.args.files.now) (g.F.Files.held c.args.files.now) (g.F.Files.held c.loop-cut.files) c.args.engine.now c.loop-cut.engine
     c.args.wanted.now c.loop-cut.wanted c.args.course.now.refused c.loop-cut.course.refused (g.K.Sink.written c.args.sink.now) (g.K.Sink.written c.loop-cut.sink)
     ends.0 (inv.come all rest within cut)

@@ -24,6 +24,7 @@ invariant-loop-cut g l = record {
   files_later : g.F.Files.faults l.initial.files ≤ g.F.Files.faults l.files;
   sink_calm : g.K.Sink.faults l.sink ≡ g.K.Sink.faults l.initial.sink;
   files_calm : g.F.Files.faults l.files ≡ g.F.Files.faults l.initial.files;
+  unkept : g.F.Files.unkept l.files ≡ g.F.Files.unkept l.initial.files;
   goes : GoesOn (lines l.limits.line l.script) (lines l.limits.line (drop l.course.at l.script)) l.initial.completed l.completed;
   come : WhoseLines (lines l.limits.line l.script) l.initial.completed (λ all. ComesOn l.limits all l.initial.completed l.completed (g.F.Files.held l.initial.files) (g.F.Files.held l.files)
       l.initial.engine l.engine l.initial.wanted l.wanted l.initial.course.refused l.course.refused (g.K.Sink.written l.initial.sink) (g.K.Sink.written l.sink));

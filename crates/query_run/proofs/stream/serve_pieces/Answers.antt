@@ -1,24 +1,23 @@
-use Rattle.std.proofs.Common.{◌≡◌, ℕ, ◌+◌, ◌-◌, ◌≤◌, Bool, false, List, [], ◌++◌, length, take, drop, refl, sym, ap, ◌∙◌, subst, arith, rules}
+use Rattle.std.proofs.Common.{◌≡◌, ℕ, ◌+◌, ◌≤◌, Bool, false, List, [], ◌++◌, length, take, refl, sym, ap, ◌∙◌, subst, arith, rules}
 use Rattle.std.specs.Prelude.{Err}
-use Rattle.std.specs.Io.KnownBytes.{IsAtEnd}
 use Rattle.live_version.specs.Contents.{VersionContent}
 use Rattle.live_version.specs.StandsFor.{StandsFor}
 use Rattle.collection.specs.Engines.{EngineContent}
-use Rattle.script_lang.specs.Lines.{Line, ended, lines}
+use Rattle.script_lang.specs.Lines.{ended, lines}
 use Rattle.script_lang.specs.Feeds.{Feed, has_newline}
 use Rattle.query_run.specs.States.{Keeps}
 use Rattle.query_run.specs.Answers.{names_kept_of, names_kept_of_line, names_of, names_of_line, output_by, state_after}
 use Rattle.query_run.specs.Progress.{HasCome, IsFed}
 use Rattle.query_run.specs.declared.serving.Course.{Course}
-use Rattle.query_run.specs.Runs.{GetsPart, HoldsExactly, IsAnsweredBy, IsLeftBy, IsStopped, within}
+use Rattle.query_run.specs.Runs.{GetsPart, IsAnsweredBy, IsLeftBy, IsStopped, within}
 use Rattle.query_run.proofs.SaveReplies.{fresh_savable}
-use Rattle.query_run.proofs.Scripts.{ends, left, stopped_here}
+use Rattle.query_run.proofs.Scripts.{ends, left, stopped_as, stopped_here}
 use Rattle.query_run.proofs.StreamLemmas.{all_done, at_script, come_last, come_next, ended_few, fed_none, fed_piece, fed_served, hands_all, hands_none, hands_over, hands_piece, none_among, part_of_within, read_long, run_write, takes_handed, takes_more, told_fresh}
 use Rattle.query_run.proofs.Told.{stopped_before}
 use Rattle.query_run.proofs.stream.serve_pieces.Goals as goal
 
 pub returns-in_err-works-clause-stopped : goal.returns-in_err-works-clause-stopped
-returns-in_err-works-clause-stopped g c = stopped_before c.args.limits.now c.args.engine.now c.args.completed.now (g.S.Source.left c.args.source.now) (g.F.Files.held c.args.files.now) (g.K.Sink.written c.args.sink.now) c.requires.opened
+returns-in_err-works-clause-stopped g c = stopped_before c.args.limits.now c.args.engine.now c.args.completed.now (g.F.Files.unkept c.args.files.now ≡ g.F.Files.unkept c.args.files.now) (g.S.Source.left c.args.source.now) (g.F.Files.held c.args.files.now) (g.K.Sink.written c.args.sink.now) c.requires.opened
 
 pub loop-feed-init : goal.loop-feed-init
 loop-feed-init g c =
@@ -40,6 +39,7 @@ loop-feed-init g c =
       source_calm = refl;
       sink_calm = refl;
       files_calm = refl;
+      unkept = refl;
       fed = λ script is. subst (λ (l : List ℕ). IsFed c.args.limits.now.line 0 c.args.completed.now l script) (sym empty) (fed_none c.args.limits.now.line c.args.completed.now script none);
       quiet = λ script is nothing. refl;
       unsaved = λ script is nothing. refl;
@@ -49,16 +49,10 @@ loop-feed-init g c =
 
 pub returns-in_err-read_piece-clause-stopped : goal.returns-in_err-read_piece-clause-stopped
 returns-in_err-read_piece-clause-stopped g c = told_fresh c.args.limits.now c.args.engine.now c.args.completed.now (g.S.Source.left c.args.source.now) (g.F.Files.held c.args.files.now) (g.K.Sink.written c.args.sink.now)
-    (λ start script. IsStopped c.args.limits.now start (lines c.args.limits.now.line script) c.loop-feed.completed c.loop-feed.engine.version (g.F.Files.held c.loop-feed.files) (g.K.Sink.written c.args.sink.now) (g.K.Sink.written c.loop-feed.sink)) c.requires.opened
+    (λ start script. IsStopped c.args.limits.now start (lines c.args.limits.now.line script) c.loop-feed.completed c.loop-feed.engine.version (g.F.Files.unkept c.loop-feed.files ≡ g.F.Files.unkept c.args.files.now) (g.F.Files.held c.loop-feed.files) (g.K.Sink.written c.args.sink.now) (g.K.Sink.written c.loop-feed.sink)) c.requires.opened
     (λ start script is read come.
     let far = c.loop-feed.invariant.come script is start (g.K.Sink.written c.args.sink.now) read come in
-    stopped_here c.args.limits.now start (lines c.args.limits.now.line script) c.loop-feed.completed (g.F.Files.held c.loop-feed.files) c.loop-feed.engine c.loop-feed.engine.version c.loop-feed.wanted c.loop-feed.course.refused (g.K.Sink.written c.args.sink.now) (g.K.Sink.written c.loop-feed.sink) (c.loop-feed.invariant.fed script is).few far far.at.keeps.stands)
-
-pub returns-in_err-read_piece-clause-exact : goal.returns-in_err-read_piece-clause-exact
-returns-in_err-read_piece-clause-exact g c = λ sure. told_fresh c.args.limits.now c.args.engine.now c.args.completed.now (g.S.Source.left c.args.source.now) (g.F.Files.held c.args.files.now) (g.K.Sink.written c.args.sink.now)
-    (λ start script. HoldsExactly c.args.limits.now start (lines c.args.limits.now.line script) c.loop-feed.completed (g.F.Files.held c.loop-feed.files)) c.requires.opened
-    (λ start script is read come.
-    (c.loop-feed.invariant.come script is start (g.K.Sink.written c.args.sink.now) read come).at.files)
+    stopped_here c.args.limits.now start (lines c.args.limits.now.line script) c.loop-feed.completed (g.F.Files.unkept c.loop-feed.files ≡ g.F.Files.unkept c.args.files.now) (g.F.Files.held c.loop-feed.files) c.loop-feed.engine c.loop-feed.engine.version c.loop-feed.wanted c.loop-feed.course.refused (g.K.Sink.written c.args.sink.now) (g.K.Sink.written c.loop-feed.sink) (c.loop-feed.invariant.fed script is).few far far.at.keeps.stands)
 
 pub returns-in_err-read_piece-clause-part_within : goal.returns-in_err-read_piece-clause-part_within
 returns-in_err-read_piece-clause-part_within g c = λ long. told_fresh c.args.limits.now c.args.engine.now c.args.completed.now (g.S.Source.left c.args.source.now) (g.F.Files.held c.args.files.now) (g.K.Sink.written c.args.sink.now)
@@ -83,20 +77,17 @@ serve_held-requires-2-clause-room g c κs within = omega (arith, ap length c.res
 pub returns-in_err-serve_held-clause-stopped : goal.returns-in_err-serve_held-clause-stopped
 returns-in_err-serve_held-clause-stopped g c =
     told_fresh c.args.limits.now c.args.engine.now c.args.completed.now (g.S.Source.left c.args.source.now) (g.F.Files.held c.args.files.now) (g.K.Sink.written c.args.sink.now)
-    (λ start script. IsStopped c.args.limits.now start (lines c.args.limits.now.line script) c.serve_held.new.completed c.serve_held.new.engine.version (g.F.Files.held c.serve_held.new.files) (g.K.Sink.written c.args.sink.now) (g.K.Sink.written c.serve_held.new.sink)) c.requires.opened
+    (λ start script. IsStopped c.args.limits.now start (lines c.args.limits.now.line script) c.serve_held.new.completed c.serve_held.new.engine.version (g.F.Files.unkept c.serve_held.new.files ≡ g.F.Files.unkept c.args.files.now) (g.F.Files.held c.serve_held.new.files) (g.K.Sink.written c.args.sink.now) (g.K.Sink.written c.serve_held.new.sink)) c.requires.opened
     (λ start script is read come.
     let far = c.loop-feed.invariant.come script is start (g.K.Sink.written c.args.sink.now) read come in
     let next = come_next c.args.limits.now.line c.loop-feed.read c.read_piece.new.read c.loop-feed.completed c.loop-feed.feed c.read_piece.new.feed (g.S.Source.left c.args.source.now) (g.S.Source.left c.loop-feed.source) (g.S.Source.left c.read_piece.new.source) script c.ready.result.now is c.loop-feed.invariant.most c.in_ok-read_piece.ensures.counted c.loop-feed.invariant.taken c.in_ok-read_piece.ensures.fed c.ready.ensures (c.loop-feed.invariant.fed script is) in
-    c.in_err-serve_held.ensures.stopped (lines c.args.limits.now.line script) next.0 (c.loop-feed.invariant.fed script is).few next.1 start (g.K.Sink.written c.args.sink.now) read far)
+    stopped_as c.args.limits.now start (lines c.args.limits.now.line script) c.serve_held.new.completed c.serve_held.new.engine.version (g.F.Files.unkept c.serve_held.new.files ≡ g.F.Files.unkept c.loop-feed.files) (g.F.Files.unkept c.serve_held.new.files ≡ g.F.Files.unkept c.args.files.now)
+    (g.F.Files.held c.serve_held.new.files) (g.K.Sink.written c.args.sink.now) (g.K.Sink.written c.serve_held.new.sink) (λ kept. kept ∙ sym c.loop-feed.invariant.unkept)
+    (c.in_err-serve_held.ensures.stopped (lines c.args.limits.now.line script) next.0 (c.loop-feed.invariant.fed script is).few next.1 start (g.K.Sink.written c.args.sink.now) read far))
 
-pub returns-in_err-serve_held-clause-exact : goal.returns-in_err-serve_held-clause-exact
-returns-in_err-serve_held-clause-exact g c =
-    λ sure. told_fresh c.args.limits.now c.args.engine.now c.args.completed.now (g.S.Source.left c.args.source.now) (g.F.Files.held c.args.files.now) (g.K.Sink.written c.args.sink.now)
-    (λ start script. HoldsExactly c.args.limits.now start (lines c.args.limits.now.line script) c.serve_held.new.completed (g.F.Files.held c.serve_held.new.files)) c.requires.opened
-    (λ start script is read come.
-    let far = c.loop-feed.invariant.come script is start (g.K.Sink.written c.args.sink.now) read come in
-    let next = come_next c.args.limits.now.line c.loop-feed.read c.read_piece.new.read c.loop-feed.completed c.loop-feed.feed c.read_piece.new.feed (g.S.Source.left c.args.source.now) (g.S.Source.left c.loop-feed.source) (g.S.Source.left c.read_piece.new.source) script c.ready.result.now is c.loop-feed.invariant.most c.in_ok-read_piece.ensures.counted c.loop-feed.invariant.taken c.in_ok-read_piece.ensures.fed c.ready.ensures (c.loop-feed.invariant.fed script is) in
-    c.in_err-serve_held.ensures.kept (ap Err (run_write c.from_residual-in_err-serve_held.result c.in_err-serve_held.field-0.0 c.from_residual-in_err-serve_held.ensures.1 sure)) (lines c.args.limits.now.line script) next.0 (c.loop-feed.invariant.fed script is).few next.1 start (g.K.Sink.written c.args.sink.now) read far)
+pub returns-in_err-serve_held-clause-sure : goal.returns-in_err-serve_held-clause-sure
+returns-in_err-serve_held-clause-sure g c = λ sure.
+    c.in_err-serve_held.ensures.kept (ap Err (run_write c.from_residual-in_err-serve_held.result c.in_err-serve_held.field-0.0 c.from_residual-in_err-serve_held.ensures.1 sure)) ∙ c.loop-feed.invariant.unkept
 
 pub returns-in_err-serve_held-clause-took : goal.returns-in_err-serve_held-clause-took
 returns-in_err-serve_held-clause-took g c = takes_handed c.read_piece.new.read c.args.limits.now.script (g.S.Source.left c.args.source.now) (g.S.Source.left c.read_piece.new.source) c.in_ok-read_piece.ensures.within (hands_piece c.loop-feed.read c.read_piece.new.read c.loop-feed.feed c.read_piece.new.feed (g.S.Source.left c.args.source.now) (g.S.Source.left c.loop-feed.source) (g.S.Source.left c.read_piece.new.source) c.in_ok-read_piece.ensures.counted c.loop-feed.invariant.taken c.in_ok-read_piece.ensures.fed)
@@ -117,21 +108,17 @@ pub returns-in_err-serve_held-2-clause-stopped : goal.returns-in_err-serve_held-
 returns-in_err-serve_held-2-clause-stopped g c =
     let no : c.in_ok-read_piece.field-0 ≡ false = search rules in
     told_fresh c.args.limits.now c.args.engine.now c.args.completed.now (g.S.Source.left c.args.source.now) (g.F.Files.held c.args.files.now) (g.K.Sink.written c.args.sink.now)
-    (λ start script. IsStopped c.args.limits.now start (lines c.args.limits.now.line script) c.serve_held-2.new.completed c.serve_held-2.new.engine.version (g.F.Files.held c.serve_held-2.new.files) (g.K.Sink.written c.args.sink.now) (g.K.Sink.written c.serve_held-2.new.sink)) c.requires.opened
+    (λ start script. IsStopped c.args.limits.now start (lines c.args.limits.now.line script) c.serve_held-2.new.completed c.serve_held-2.new.engine.version (g.F.Files.unkept c.serve_held-2.new.files ≡ g.F.Files.unkept c.args.files.now) (g.F.Files.held c.serve_held-2.new.files) (g.K.Sink.written c.args.sink.now) (g.K.Sink.written c.serve_held-2.new.sink)) c.requires.opened
     (λ start script is read come.
     let far = c.loop-feed.invariant.come script is start (g.K.Sink.written c.args.sink.now) read come in
     let last = come_last c.args.limits.now.line c.loop-feed.read c.read_piece.new.read c.loop-feed.completed c.loop-feed.feed c.read_piece.new.feed (g.S.Source.left c.args.source.now) (g.S.Source.left c.loop-feed.source) (g.S.Source.left c.read_piece.new.source) script c.rest.result.now is c.loop-feed.invariant.most c.in_ok-read_piece.ensures.counted c.loop-feed.invariant.taken c.in_ok-read_piece.ensures.fed (c.in_ok-read_piece.ensures.none no).0 c.rest.ensures (c.loop-feed.invariant.fed script is) in
-    c.in_err-serve_held-2.ensures.stopped (lines c.args.limits.now.line script) [] (c.loop-feed.invariant.fed script is).few last start (g.K.Sink.written c.args.sink.now) read far)
+    stopped_as c.args.limits.now start (lines c.args.limits.now.line script) c.serve_held-2.new.completed c.serve_held-2.new.engine.version (g.F.Files.unkept c.serve_held-2.new.files ≡ g.F.Files.unkept c.loop-feed.files) (g.F.Files.unkept c.serve_held-2.new.files ≡ g.F.Files.unkept c.args.files.now)
+    (g.F.Files.held c.serve_held-2.new.files) (g.K.Sink.written c.args.sink.now) (g.K.Sink.written c.serve_held-2.new.sink) (λ kept. kept ∙ sym c.loop-feed.invariant.unkept)
+    (c.in_err-serve_held-2.ensures.stopped (lines c.args.limits.now.line script) [] (c.loop-feed.invariant.fed script is).few last start (g.K.Sink.written c.args.sink.now) read far))
 
-pub returns-in_err-serve_held-2-clause-exact : goal.returns-in_err-serve_held-2-clause-exact
-returns-in_err-serve_held-2-clause-exact g c =
-    let no : c.in_ok-read_piece.field-0 ≡ false = search rules in
-    λ sure. told_fresh c.args.limits.now c.args.engine.now c.args.completed.now (g.S.Source.left c.args.source.now) (g.F.Files.held c.args.files.now) (g.K.Sink.written c.args.sink.now)
-    (λ start script. HoldsExactly c.args.limits.now start (lines c.args.limits.now.line script) c.serve_held-2.new.completed (g.F.Files.held c.serve_held-2.new.files)) c.requires.opened
-    (λ start script is read come.
-    let far = c.loop-feed.invariant.come script is start (g.K.Sink.written c.args.sink.now) read come in
-    let last = come_last c.args.limits.now.line c.loop-feed.read c.read_piece.new.read c.loop-feed.completed c.loop-feed.feed c.read_piece.new.feed (g.S.Source.left c.args.source.now) (g.S.Source.left c.loop-feed.source) (g.S.Source.left c.read_piece.new.source) script c.rest.result.now is c.loop-feed.invariant.most c.in_ok-read_piece.ensures.counted c.loop-feed.invariant.taken c.in_ok-read_piece.ensures.fed (c.in_ok-read_piece.ensures.none no).0 c.rest.ensures (c.loop-feed.invariant.fed script is) in
-    c.in_err-serve_held-2.ensures.kept (ap Err (run_write c.from_residual-in_err-serve_held-2.result c.in_err-serve_held-2.field-0.0 c.from_residual-in_err-serve_held-2.ensures.1 sure)) (lines c.args.limits.now.line script) [] (c.loop-feed.invariant.fed script is).few last start (g.K.Sink.written c.args.sink.now) read far)
+pub returns-in_err-serve_held-2-clause-sure : goal.returns-in_err-serve_held-2-clause-sure
+returns-in_err-serve_held-2-clause-sure g c = λ sure.
+    c.in_err-serve_held-2.ensures.kept (ap Err (run_write c.from_residual-in_err-serve_held-2.result c.in_err-serve_held-2.field-0.0 c.from_residual-in_err-serve_held-2.ensures.1 sure)) ∙ c.loop-feed.invariant.unkept
 
 pub returns-in_err-serve_held-2-clause-took : goal.returns-in_err-serve_held-2-clause-took
 returns-in_err-serve_held-2-clause-took g c = takes_handed c.read_piece.new.read c.args.limits.now.script (g.S.Source.left c.args.source.now) (g.S.Source.left c.read_piece.new.source) c.in_ok-read_piece.ensures.within (hands_piece c.loop-feed.read c.read_piece.new.read c.loop-feed.feed c.read_piece.new.feed (g.S.Source.left c.args.source.now) (g.S.Source.left c.loop-feed.source) (g.S.Source.left c.read_piece.new.source) c.in_ok-read_piece.ensures.counted c.loop-feed.invariant.taken c.in_ok-read_piece.ensures.fed)
@@ -201,6 +188,7 @@ loop-feed-preserved g c =
       source_calm = c.in_ok-read_piece.ensures.calm ∙ c.loop-feed.invariant.source_calm;
       sink_calm = c.in_ok-serve_held.ensures.sink_calm ∙ c.loop-feed.invariant.sink_calm;
       files_calm = c.in_ok-serve_held.ensures.files_calm ∙ c.loop-feed.invariant.files_calm;
+      unkept = c.in_ok-serve_held.ensures.unkept ∙ c.loop-feed.invariant.unkept;
       fed = λ script is.
           fed_served c.args.limits.now.line c.read_piece.new.read c.loop-feed.completed c.serve_held.new.completed c.read_piece.new.feed.held c.take_ready.new.self.held script (fed_piece c.args.limits.now.line c.loop-feed.read c.read_piece.new.read c.loop-feed.completed c.loop-feed.feed c.read_piece.new.feed (g.S.Source.left c.args.source.now) (g.S.Source.left c.loop-feed.source) (g.S.Source.left c.read_piece.new.source) script is c.loop-feed.invariant.most c.in_ok-read_piece.ensures.counted c.loop-feed.invariant.taken c.in_ok-read_piece.ensures.fed (c.loop-feed.invariant.fed script is))
           (subst (λ (most : ℕ). (later : List ℕ) → lines most (c.read_piece.new.feed.held ++ later) ≡ lines most (ended c.read_piece.new.feed.held) ++ lines most (c.take_ready.new.self.held ++ later)) (c.in_ok-read_piece.ensures.fed.most_is ∙ c.loop-feed.invariant.most) c.take_ready.ensures.lines)
@@ -218,13 +206,13 @@ loop-feed-preserved g c =
 
 pub returns-in_err-merge_wanted-clause-stopped : goal.returns-in_err-merge_wanted-clause-stopped
 returns-in_err-merge_wanted-clause-stopped g c = told_fresh c.args.limits.now c.args.engine.now c.args.completed.now (g.S.Source.left c.args.source.now) (g.F.Files.held c.args.files.now) (g.K.Sink.written c.args.sink.now)
-    (λ start script. IsStopped c.args.limits.now start (lines c.args.limits.now.line script) c.serve_held-2.new.completed c.merge_wanted.new.engine.version (g.F.Files.held c.serve_held-2.new.files) (g.K.Sink.written c.args.sink.now) (g.K.Sink.written c.serve_held-2.new.sink)) c.requires.opened
+    (λ start script. IsStopped c.args.limits.now start (lines c.args.limits.now.line script) c.serve_held-2.new.completed c.merge_wanted.new.engine.version (g.F.Files.unkept c.serve_held-2.new.files ≡ g.F.Files.unkept c.args.files.now) (g.F.Files.held c.serve_held-2.new.files) (g.K.Sink.written c.args.sink.now) (g.K.Sink.written c.serve_held-2.new.sink)) c.requires.opened
     (λ start script is read come.
     let no : c.in_ok-read_piece.field-0 ≡ false = search rules in
     let last = come_last c.args.limits.now.line c.loop-feed.read c.read_piece.new.read c.loop-feed.completed c.loop-feed.feed c.read_piece.new.feed (g.S.Source.left c.args.source.now) (g.S.Source.left c.loop-feed.source) (g.S.Source.left c.read_piece.new.source) script c.rest.result.now is c.loop-feed.invariant.most c.in_ok-read_piece.ensures.counted c.loop-feed.invariant.taken c.in_ok-read_piece.ensures.fed (c.in_ok-read_piece.ensures.none no).0 c.rest.ensures (c.loop-feed.invariant.fed script is) in
     let far = c.in_ok-serve_held-2.ensures.come (lines c.args.limits.now.line script) [] (c.loop-feed.invariant.fed script is).few last start (g.K.Sink.written c.args.sink.now) read (c.loop-feed.invariant.come script is start (g.K.Sink.written c.args.sink.now) read come) in
     let done : c.serve_held-2.new.completed ≡ length (lines c.args.limits.now.line script) = all_done c.loop-feed.completed c.serve_held-2.new.completed (lines c.args.limits.now.line script) (lines c.args.limits.now.line c.rest.result.now) (c.loop-feed.invariant.fed script is).few last c.in_ok-serve_held-2.ensures.each in
-    stopped_here c.args.limits.now start (lines c.args.limits.now.line script) c.serve_held-2.new.completed (g.F.Files.held c.serve_held-2.new.files) c.serve_held-2.new.engine c.merge_wanted.new.engine.version c.serve_held-2.new.wanted c.serve_held-2.new.course.refused (g.K.Sink.written c.args.sink.now) (g.K.Sink.written c.serve_held-2.new.sink) (omega (arith, done)) far
+    stopped_here c.args.limits.now start (lines c.args.limits.now.line script) c.serve_held-2.new.completed (g.F.Files.unkept c.serve_held-2.new.files ≡ g.F.Files.unkept c.args.files.now) (g.F.Files.held c.serve_held-2.new.files) c.serve_held-2.new.engine c.merge_wanted.new.engine.version c.serve_held-2.new.wanted c.serve_held-2.new.course.refused (g.K.Sink.written c.args.sink.now) (g.K.Sink.written c.serve_held-2.new.sink) (omega (arith, done)) far
     (subst (λ (e : EngineContent). StandsFor e.version (state_after c.args.limits.now start (take c.serve_held-2.new.completed (lines c.args.limits.now.line script))).collection) (sym c.in_err-merge_wanted.ensures.err) far.at.keeps.stands))
 
 pub returns-clause-answered : goal.returns-clause-answered
@@ -256,23 +244,13 @@ returns-clause-left g c = told_fresh c.args.limits.now c.args.engine.now c.args.
 
 pub returns-clause-stopped : goal.returns-clause-stopped
 returns-clause-stopped g c = told_fresh c.args.limits.now c.args.engine.now c.args.completed.now (g.S.Source.left c.args.source.now) (g.F.Files.held c.args.files.now) (g.K.Sink.written c.args.sink.now)
-    (λ start script. IsStopped c.args.limits.now start (lines c.args.limits.now.line script) c.serve_held-2.new.completed c.merge_wanted.new.engine.version (g.F.Files.held c.serve_held-2.new.files) (g.K.Sink.written c.args.sink.now) (g.K.Sink.written c.serve_held-2.new.sink)) c.requires.opened
+    (λ start script. IsStopped c.args.limits.now start (lines c.args.limits.now.line script) c.serve_held-2.new.completed c.merge_wanted.new.engine.version (g.F.Files.unkept c.serve_held-2.new.files ≡ g.F.Files.unkept c.args.files.now) (g.F.Files.held c.serve_held-2.new.files) (g.K.Sink.written c.args.sink.now) (g.K.Sink.written c.serve_held-2.new.sink)) c.requires.opened
     (λ start script is read come.
     let no : c.in_ok-read_piece.field-0 ≡ false = search rules in
     let last = come_last c.args.limits.now.line c.loop-feed.read c.read_piece.new.read c.loop-feed.completed c.loop-feed.feed c.read_piece.new.feed (g.S.Source.left c.args.source.now) (g.S.Source.left c.loop-feed.source) (g.S.Source.left c.read_piece.new.source) script c.rest.result.now is c.loop-feed.invariant.most c.in_ok-read_piece.ensures.counted c.loop-feed.invariant.taken c.in_ok-read_piece.ensures.fed (c.in_ok-read_piece.ensures.none no).0 c.rest.ensures (c.loop-feed.invariant.fed script is) in
     let far = c.in_ok-serve_held-2.ensures.come (lines c.args.limits.now.line script) [] (c.loop-feed.invariant.fed script is).few last start (g.K.Sink.written c.args.sink.now) read (c.loop-feed.invariant.come script is start (g.K.Sink.written c.args.sink.now) read come) in
     let done : c.serve_held-2.new.completed ≡ length (lines c.args.limits.now.line script) = all_done c.loop-feed.completed c.serve_held-2.new.completed (lines c.args.limits.now.line script) (lines c.args.limits.now.line c.rest.result.now) (c.loop-feed.invariant.fed script is).few last c.in_ok-serve_held-2.ensures.each in
-    stopped_here c.args.limits.now start (lines c.args.limits.now.line script) c.serve_held-2.new.completed (g.F.Files.held c.serve_held-2.new.files) c.serve_held-2.new.engine c.merge_wanted.new.engine.version c.serve_held-2.new.wanted c.serve_held-2.new.course.refused (g.K.Sink.written c.args.sink.now) (g.K.Sink.written c.serve_held-2.new.sink) (omega (arith, done)) far (c.in_ok-merge_wanted.ensures.keeps (state_after c.args.limits.now start (take c.serve_held-2.new.completed (lines c.args.limits.now.line script))) far.at.keeps).stands)
-
-pub returns-clause-exact : goal.returns-clause-exact
-returns-clause-exact g c = λ sure. told_fresh c.args.limits.now c.args.engine.now c.args.completed.now (g.S.Source.left c.args.source.now) (g.F.Files.held c.args.files.now) (g.K.Sink.written c.args.sink.now)
-    (λ start script. HoldsExactly c.args.limits.now start (lines c.args.limits.now.line script) c.serve_held-2.new.completed (g.F.Files.held c.serve_held-2.new.files)) c.requires.opened
-    (λ start script is read come.
-    let no : c.in_ok-read_piece.field-0 ≡ false = search rules in
-    let last = come_last c.args.limits.now.line c.loop-feed.read c.read_piece.new.read c.loop-feed.completed c.loop-feed.feed c.read_piece.new.feed (g.S.Source.left c.args.source.now) (g.S.Source.left c.loop-feed.source) (g.S.Source.left c.read_piece.new.source) script c.rest.result.now is c.loop-feed.invariant.most c.in_ok-read_piece.ensures.counted c.loop-feed.invariant.taken c.in_ok-read_piece.ensures.fed (c.in_ok-read_piece.ensures.none no).0 c.rest.ensures (c.loop-feed.invariant.fed script is) in
-    let far = c.in_ok-serve_held-2.ensures.come (lines c.args.limits.now.line script) [] (c.loop-feed.invariant.fed script is).few last start (g.K.Sink.written c.args.sink.now) read (c.loop-feed.invariant.come script is start (g.K.Sink.written c.args.sink.now) read come) in
-    let done : c.serve_held-2.new.completed ≡ length (lines c.args.limits.now.line script) = all_done c.loop-feed.completed c.serve_held-2.new.completed (lines c.args.limits.now.line script) (lines c.args.limits.now.line c.rest.result.now) (c.loop-feed.invariant.fed script is).few last c.in_ok-serve_held-2.ensures.each in
-    far.at.files)
+    stopped_here c.args.limits.now start (lines c.args.limits.now.line script) c.serve_held-2.new.completed (g.F.Files.unkept c.serve_held-2.new.files ≡ g.F.Files.unkept c.args.files.now) (g.F.Files.held c.serve_held-2.new.files) c.serve_held-2.new.engine c.merge_wanted.new.engine.version c.serve_held-2.new.wanted c.serve_held-2.new.course.refused (g.K.Sink.written c.args.sink.now) (g.K.Sink.written c.serve_held-2.new.sink) (omega (arith, done)) far (c.in_ok-merge_wanted.ensures.keeps (state_after c.args.limits.now start (take c.serve_held-2.new.completed (lines c.args.limits.now.line script))) far.at.keeps).stands)
 
 pub returns-clause-short : goal.returns-clause-short
 returns-clause-short g c =

@@ -26,6 +26,7 @@ invariant-loop-feed g l = record {
   source_calm : g.S.Source.faults l.source ≡ g.S.Source.faults l.initial.source;
   sink_calm : g.K.Sink.faults l.sink ≡ g.K.Sink.faults l.initial.sink;
   files_calm : g.F.Files.faults l.files ≡ g.F.Files.faults l.initial.files;
+  unkept : g.F.Files.unkept l.files ≡ g.F.Files.unkept l.initial.files;
   fed : (script : List ℕ) → g.S.Source.left l.initial.source ≡ Some script → IsFed l.limits.line l.read l.completed l.feed.held script;
   quiet : (script : List ℕ) → g.S.Source.left l.initial.source ≡ Some script → names_of (lines l.limits.line script) ≡ [] → l.files ≡ l.initial.files;
   unsaved : (script : List ℕ) → g.S.Source.left l.initial.source ≡ Some script → names_kept_of (lines l.limits.line script) ≡ [] → g.F.Files.held l.files ≡ g.F.Files.held l.initial.files;

@@ -8,7 +8,6 @@ use Rattle.query_run.specs.declared.status.Status.TheVariants.{NoMemory}
 use Rattle.query_run.specs.Words.{first_of}
 use Rattle.query_run.specs.Answers.{output, names_of, names_kept_of}
 use Rattle.query_run.proofs.Told.{nothing_of, nothing_of_made, none_stopped, kept_at, made_at, made_finishes}
-use Rattle.query_run.specs.Runs.{no_names}
 use Rattle.query_run.proofs.StreamLemmas.{takes_none}
 use Rattle.query_run.proofs.top.run.Goals as goal
 
@@ -16,7 +15,7 @@ pub returns-in-Err-clause-part : goal.returns-in-Err-clause-part
 returns-in-Err-clause-part g c = nothing_of greatest_limits (first_of c.args.words.now) (g.S.Source.left c.args.source.now) (g.F.Files.held c.args.files.now) (g.K.Sink.written c.args.sink.now) output
 
 pub returns-in-Err-clause-stopped : goal.returns-in-Err-clause-stopped
-returns-in-Err-clause-stopped g c = none_stopped greatest_limits (first_of c.args.words.now) (g.S.Source.left c.args.source.now) (g.F.Files.held c.args.files.now) (g.K.Sink.written c.args.sink.now) names_kept_of
+returns-in-Err-clause-stopped g c = none_stopped greatest_limits (first_of c.args.words.now) (g.F.Files.unkept c.args.files.now ≡ g.F.Files.unkept c.args.files.now) (g.S.Source.left c.args.source.now) (g.F.Files.held c.args.files.now) (g.K.Sink.written c.args.sink.now)
 
 pub returns-in-Err-clause-part_summed : goal.returns-in-Err-clause-part_summed
 returns-in-Err-clause-part_summed g c = nothing_of_made (options_of c.args.words.now) (g.K.Sink.written c.args.sink.now)

@@ -8,7 +8,7 @@ use Rattle.script_lang.specs.Lines.{text_of_lines}
 use Rattle.query_lanes.specs.Answers.{answer_in}
 use Rattle.query_run.specs.Batches.{ask_lines}
 use Rattle.query_run.specs.Pages.{Puts}
-use Rattle.query_run.proofs.serving.put_answers.Given as goal
+use Rattle.query_run.proofs.answering.put_answers.Given as goal
 
 -- the answers to so many queries were put, and those to the others are left
 abbrev pub invariant-loop-found : goal.invariant-loop-found

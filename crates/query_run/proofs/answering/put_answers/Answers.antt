@@ -4,9 +4,9 @@ use Rattle.query_lanes.specs.Answers.{answer_in}
 use Rattle.live_version.specs.Contents.{version_text}
 use Rattle.script_lang.specs.Lines.{text_of_lines}
 use Rattle.query_run.specs.Batches.{ask_lines}
-use Rattle.query_run.proofs.BatchSteps.{asks_text, later_part, next_text, some_left}
+use Rattle.query_run.proofs.BatchSteps.{front_text, later_part, next_text, some_left}
 use Rattle.query_run.proofs.PutLemmas.{part_as, part_of_put, puts_part}
-use Rattle.query_run.proofs.serving.put_answers.Goals as goal
+use Rattle.query_run.proofs.answering.put_answers.Goals as goal
 
 pub returns-in_err-refused-clause-part : goal.returns-in_err-refused-clause-part
 returns-in_err-refused-clause-part g c =
@@ -22,7 +22,7 @@ returns-in_err-refused-clause-part g c =
     let lt : i < length asks = some_left (answer_in text) asks i c.in-Some.found (into_iter_items c.next.new.self) (sym split ∙ c.loop-found.invariant.rest) in
     let is : c.index-asks-i.result ≡ get_or asks i c.index-asks-i.result = search rules in
     part_as old new c.args.out.now.items _ _ (next_text text asks i (c.loop-found.completed - c.args.completed.now + 1) c.index-asks-i.result lt is count)
-    (puts_part old mid new c.args.out.now.items c.loop-found.out.items (asks_text text asks i) (text_of_lines (ask_lines text c.index-asks-i.result)) c.loop-found.invariant.puts c.in_err-refused.ensures.part)
+    (puts_part old mid new c.args.out.now.items c.loop-found.out.items (front_text text asks i) (text_of_lines (ask_lines text c.index-asks-i.result)) c.loop-found.invariant.puts c.in_err-refused.ensures.part)
 
 pub returns-in_err-refused-clause-causes : goal.returns-in_err-refused-clause-causes
 returns-in_err-refused-clause-causes g c = λ n.
@@ -39,4 +39,4 @@ returns-clause-part g c =
     let completed : c.loop-found.completed ≡ c.args.completed.now + i = c.loop-found.invariant.completed in
     let count : c.loop-found.completed - c.args.completed.now + 1 ≡ i + 1 = omega (arith, completed) in
     later_part text old new c.args.out.now.items asks i (c.loop-found.completed - c.args.completed.now + 1) count
-    (part_of_put old new c.args.out.now.items c.loop-found.out.items (asks_text text asks i) c.loop-found.invariant.puts)
+    (part_of_put old new c.args.out.now.items c.loop-found.out.items (front_text text asks i) c.loop-found.invariant.puts)

@@ -1,0 +1,292 @@
+//! Queries that were put off are answered, and those behind them.
+ghost use Rattle.std.specs.Prelude.{◌≡◌, ◌+◌, ◌-◌, ◌≤◌, ◌<◌, ◌++◌, [], ◌∷◌, ℕ, false, map, take, drop, flat_map, IfOk, IfSome, OnOk, length};
+ghost use Rattle.std.specs.Io.KnownBytes.{Appends};
+ghost use Rattle.std.specs.List.{list_any};
+ghost use Rattle.gcl_model.specs.Limits.{far, most_readers, most_script};
+ghost use Rattle.image_file.specs.Images.{CanBeSaved};
+ghost use Rattle.live_version.specs.Contents.{version_text};
+ghost use Rattle.collection.specs.Engines.{merge_end};
+ghost use Rattle.script_lang.specs.Answers.{is_refusal};
+ghost use Rattle.script_lang.specs.Lines.{lines, line_of_cut, text_of_lines, IsCut};
+ghost use Rattle.query_lanes.specs.Answers.{answer_in};
+ghost use Rattle.query_lanes.specs.Readers.{AreOf};
+ghost use Rattle.query_run.specs.States.{AreLimits};
+ghost use Rattle.query_run.specs.Answers.{names_kept_of_line, names_of};
+ghost use Rattle.query_run.specs.Batches.{Begins, ask_lines, asks_query};
+ghost use Rattle.query_run.specs.Pages.{Puts, PutsPart};
+ghost use Rattle.query_run.specs.Progress.{ComesOn, GoesOn, HasCauses, WhoseLines, wish};
+ghost use Rattle.query_run.specs.Runs.{GetsPart};
+ghost use Rattle.query_run.specs.Windows.{AnswersWindow, HaltsFrom, IsPaired, StopsWindow, asks_refuse, asks_text, fronted};
+
+use crate::batches::Batch;
+use crate::limits::Limits;
+use crate::over::{go_on, line_over};
+use crate::pages::put_answer;
+use crate::run_fault::RunFault;
+use crate::serving::Course;
+use crate::window::Window;
+use crate::write::write_all;
+use collection::Engine;
+use gcl_model::Bytes;
+use manifest_publish::Reader;
+use outside::{Files, Gate, Sink};
+use query_lanes::{Ask, Found, Work, answer_batch};
+use script_lang::LineCut;
+use std::alloc::{AllocError, Global};
+use std::sync::Wait;
+use std::thread::Threads;
+
+/// Puts the answers to queries that were put off, each behind the text in front of it, and then the text behind the last. Their lines are
+/// completed already, and their refusals seen.
+fn put_window<K: Sink>(
+    alloc: Global,
+    out: &mut Vec<u8>,
+    sink: &mut K,
+    engine: &Engine,
+    fronts: &[Bytes],
+    tail: &[u8],
+    asks: &[Ask],
+    answers: Vec<Found>,
+) -> Result<(), RunFault>
+    requires answers { answers.items ≡ map (answer_in (version_text engine.now.version)) asks.now }
+    requires paired { length fronts.now ≡ length asks.now }
+    ensures puts { OnOk result (Puts (K.written sink.old) (K.written sink.new) out.old.items out.new.items (fronted (version_text engine.now.version) fronts.now asks.now ++ tail.now)) }
+    ensures part { PutsPart (K.written sink.old) (K.written sink.new) out.old.items (fronted (version_text engine.now.version) fronts.now asks.now ++ tail.now) }
+    ensures causes { (n : ℕ) → HasCauses (K.faults sink.old) (K.faults sink.new) n n result }
+    ensures calm { OnOk result (K.faults sink.new ≡ K.faults sink.old) }
+{
+    let mut i = 0;
+    for found in answers {
+        out.extend_from_slice(fronts[i].as_slice())?;
+        let _refused = put_answer(alloc, out, sink, engine, &asks[i], found)?;
+        i += 1;
+    }
+    out.extend_from_slice(tail)?;
+    Ok(())
+}
+
+/// Puts the answers to a batch in the order of its queries, and says whether a refusal is among them. Each line is completed once its answer is put.
+fn put_answers<K: Sink>(
+    alloc: Global,
+    out: &mut Vec<u8>,
+    sink: &mut K,
+    engine: &Engine,
+    completed: &mut u64,
+    asks: &[Ask],
+    answers: Vec<Found>,
+) -> Result<bool, RunFault>
+    requires answers { answers.items ≡ map (answer_in (version_text engine.now.version)) asks.now }
+    requires room { completed.old + length asks.now ≤ far }
+    ensures puts { OnOk result (Puts (K.written sink.old) (K.written sink.new) out.old.items out.new.items (text_of_lines (flat_map (ask_lines (version_text engine.now.version)) asks.now))) }
+    ensures part { PutsPart (K.written sink.old) (K.written sink.new) out.old.items (text_of_lines (flat_map (ask_lines (version_text engine.now.version)) (take (completed.new - completed.old + 1) asks.now))) }
+    ensures refusal { IfOk result (λ refusal. refusal ≡ list_any is_refusal (flat_map (ask_lines (version_text engine.now.version)) asks.now)) }
+    ensures completed { OnOk result (completed.new ≡ completed.old + length asks.now) }
+    ensures counted { (completed.old ≤ completed.new) × (completed.new ≤ completed.old + length asks.now) }
+    ensures causes { (n : ℕ) → HasCauses (K.faults sink.old) (K.faults sink.new) n n result }
+    ensures calm { OnOk result (K.faults sink.new ≡ K.faults sink.old) }
+{
+    let mut refused = false;
+    let mut i = 0;
+    for found in answers {
+        refused |= put_answer(alloc, out, sink, engine, &asks[i], found)?;
+        i += 1;
+        *completed += 1;
+    }
+    Ok(refused)
+}
+
+/// Writes the answers to the queries of a window, and then those to the batch behind it; says whether a refusal is among the latter.
+fn write_answers<K: Sink>(
+    alloc: Global,
+    out: &mut Vec<u8>,
+    sink: &mut K,
+    engine: &Engine,
+    completed: &mut u64,
+    window: &Window,
+    put_off: &[Ask],
+    asks: &[Ask],
+    answers: Vec<Found>,
+) -> Result<bool, RunFault>
+    requires answers { answers.items ≡ map (answer_in (version_text engine.now.version)) (put_off.now ++ asks.now) }
+    requires paired { length window.now.fronts.items ≡ length put_off.now }
+    requires room { completed.old + length asks.now ≤ far }
+    ensures written { OnOk result (Appends (K.written sink.old) (K.written sink.new)
+        ((fronted (version_text engine.now.version) window.now.fronts.items put_off.now ++ window.now.tail.items) ++ asks_text (version_text engine.now.version) asks.now)) }
+    ensures part { GetsPart (K.written sink.old) (K.written sink.new)
+        ((fronted (version_text engine.now.version) window.now.fronts.items put_off.now ++ window.now.tail.items)
+        ++ asks_text (version_text engine.now.version) (take (completed.new - completed.old + 1) asks.now)) }
+    ensures refusal { IfOk result (λ refusal. refusal ≡ asks_refuse (version_text engine.now.version) asks.now) }
+    ensures completed { OnOk result (completed.new ≡ completed.old + length asks.now) }
+    ensures counted { (completed.old ≤ completed.new) × (completed.new ≤ completed.old + length asks.now) }
+    ensures causes { (n : ℕ) → HasCauses (K.faults sink.old) (K.faults sink.new) n n result }
+    ensures calm { OnOk result (K.faults sink.new ≡ K.faults sink.old) }
+{
+    let mut answers = answers;
+    let later = answers.split_off(put_off.len())?;
+    out.clear();
+    put_window(
+        alloc,
+        out,
+        sink,
+        engine,
+        window.fronts.as_slice(),
+        window.tail.as_slice(),
+        put_off,
+        answers,
+    )?;
+    let refused = put_answers(alloc, out, sink, engine, completed, asks, later)?;
+    write_all(sink, out.as_slice())?;
+    Ok(refused)
+}
+
+/// Answers the queries of a window and those behind it, beside the merge that is wanted, if one is, and writes all that is to be written.
+fn serve_window<R: Threads + Wait + Sync, K: Sink, G: Gate + Sync>(
+    rt: &R,
+    alloc: Global,
+    gate: &G,
+    out: &mut Vec<u8>,
+    sink: &mut K,
+    engine: &mut Engine,
+    works: &mut [Work],
+    readers: &mut [Reader],
+    completed: &mut u64,
+    wanted: &mut bool,
+    window: Window,
+    asks: Vec<Ask>,
+) -> Result<bool, RunFault>
+    requires paired { IsPaired window }
+    requires same { length works.old ≡ length readers.old }
+    requires lanes { length readers.old ≤ most_readers }
+    requires of { AreOf engine.old.publisher readers.old }
+    requires savable { CanBeSaved engine.old.version }
+    requires number { engine.old.version.number + wish wanted.old < merge_end }
+    requires room { completed.old + length asks.items ≤ far }
+    ensures step { IfOk result (λ refusal. AnswersWindow window asks.items engine.old engine.new wanted.old wanted.new refusal (K.written sink.old) (K.written sink.new)) }
+    ensures stop { StopsWindow window asks.items (completed.new - completed.old) engine.old engine.new wanted.old (K.written sink.old) (K.written sink.new) }
+    ensures completed { OnOk result (completed.new ≡ completed.old + length asks.items) }
+    ensures counted { (completed.old ≤ completed.new) × (completed.new ≤ completed.old + length asks.items) }
+    ensures number { OnOk result (engine.new.version.number + wish wanted.new ≤ engine.old.version.number + wish wanted.old) }
+    ensures savable { OnOk result (CanBeSaved engine.new.version) }
+    ensures of { AreOf engine.new.publisher readers.new }
+    ensures same { length works.new ≡ length readers.new }
+    ensures lanes { length readers.new ≤ most_readers }
+    ensures causes { (n : ℕ) → HasCauses (K.faults sink.old) (K.faults sink.new) n n result }
+    ensures sink_calm { OnOk result (K.faults sink.new ≡ K.faults sink.old) }
+{
+    let mut window = window;
+    let mut asks = asks;
+    window.asks.append(&mut asks)?;
+    let all = window.asks.as_slice();
+    let answers = answer_batch(rt, alloc, gate, all, *wanted, engine, works, readers)?;
+    *wanted = false;
+    let (put_off, behind) = all.split_at(window.fronts.len());
+    let refused = write_answers(
+        alloc, out, sink, engine, completed, &window, put_off, behind, answers,
+    )?;
+    Ok(refused)
+}
+
+/// The line behind some queries at hand, where it may be done before they are answered, and there is room for that.
+fn next_over(
+    alloc: Global,
+    script: &[u8],
+    limits: &Limits,
+    engine: &Engine,
+    wanted: bool,
+    window: &Window,
+    batch: &Batch,
+) -> Result<Option<LineCut>, AllocError>
+    requires { batch.now.after ≤ length script.now }
+    ensures places { IfOk result (λ some. IfSome some (IsCut script.now batch.now.after)) }
+    ensures line { IfOk result (λ some. IfSome some (λ cut. lines limits.now.line (drop batch.now.after script.now) ≡ line_of_cut script.now cut ∷ lines limits.now.line (drop cut.after script.now))) }
+    ensures unasked { IfOk result (λ some. IfSome some (λ cut. asks_query (line_of_cut script.now cut) ≡ false)) }
+    ensures unsaved { IfOk result (λ some. IfSome some (λ cut. names_kept_of_line (line_of_cut script.now cut) ≡ [])) }
+{
+    let count = window.asks.len().saturating_add(batch.asks.len());
+    if count >= limits.batch as usize || !window.has_room(engine.version(), wanted) {
+        return Ok(None);
+    }
+    let cut = line_over(alloc, script, batch.after, limits)?;
+    Ok(cut)
+}
+
+/// Answers a batch that begins at the line at hand. Lines behind it that ask nothing are done first, where the queries can be put off, and those
+/// behind these are answered together with them.
+pub(crate) fn serve_queries<R: Threads + Wait + Sync, F: Files, K: Sink, G: Gate + Sync>(
+    rt: &R,
+    alloc: Global,
+    gate: &G,
+    out: &mut Vec<u8>,
+    files: &mut F,
+    sink: &mut K,
+    engine: &mut Engine,
+    works: &mut [Work],
+    readers: &mut [Reader],
+    completed: &mut u64,
+    wanted: &mut bool,
+    course: &mut Course,
+    limits: &Limits,
+    script: &[u8],
+    batch: Batch,
+) -> Result<(), RunFault>
+    requires some { 0 < length batch.asks.items }
+    requires begins { Begins batch.asks.items (lines limits.now.line (drop course.old.at script.now)) (lines limits.now.line (drop batch.after script.now)) }
+    requires counts { course.old.at + length batch.asks.items ≤ batch.after }
+    requires within { batch.after ≤ length script.now }
+    requires room { completed.old + (length script.now - course.old.at) ≤ most_script }
+    requires asked { course.old.asked ≤ completed.old }
+    requires limits { AreLimits limits.now }
+    requires savable { CanBeSaved engine.old.version }
+    requires numbers { engine.old.version.number + wish wanted.old ≤ completed.old }
+    requires same { length works.old ≡ length readers.old }
+    requires lanes { length readers.old ≤ most_readers }
+    requires of { AreOf engine.old.publisher readers.old }
+    ensures goes { OnOk result (GoesOn (lines limits.now.line (drop course.old.at script.now)) (lines limits.now.line (drop course.new.at script.now)) completed.old completed.new) }
+    ensures come { OnOk result (WhoseLines (lines limits.now.line (drop course.old.at script.now)) completed.old (λ all. ComesOn limits.now all completed.old completed.new (F.held files.old) (F.held files.new)
+        engine.old engine.new wanted.old wanted.new course.old.refused course.new.refused (K.written sink.old) (K.written sink.new))) }
+    ensures halted { WhoseLines (lines limits.now.line (drop course.old.at script.now)) completed.old (λ all. HaltsFrom limits.now all completed.old completed.new (F.held files.old)
+        engine.old engine.new wanted.old course.old.refused (K.written sink.old) (K.written sink.new)) }
+    ensures further { OnOk result ((course.old.at < course.new.at) × (course.new.at ≤ length script.now)) }
+    ensures counted { OnOk result ((completed.new + course.old.at ≤ completed.old + course.new.at) × (course.new.asked ≤ completed.new)) }
+    ensures numbers { OnOk result (engine.new.version.number + wish wanted.new ≤ completed.new) }
+    ensures savable { OnOk result (CanBeSaved engine.new.version) }
+    ensures of { AreOf engine.new.publisher readers.new }
+    ensures same { length works.new ≡ length readers.new }
+    ensures lanes { length readers.new ≤ most_readers }
+    ensures quiet { names_of (lines limits.now.line (drop course.old.at script.now)) ≡ [] → files.new ≡ files.old }
+    ensures unsaved { F.held files.new ≡ F.held files.old }
+    ensures causes { HasCauses (K.faults sink.old) (K.faults sink.new) (F.faults files.old) (F.faults files.new) result }
+    ensures sink_calm { OnOk result (K.faults sink.new ≡ K.faults sink.old) }
+    ensures files_calm { OnOk result (F.faults files.new ≡ F.faults files.old) }
+    ensures unkept { F.unkept files.new ≡ F.unkept files.old }
+{
+    let mut window = Window::new(alloc);
+    let mut batch = batch;
+    while let Some(cut) = next_over(alloc, script, limits, engine, *wanted, &window, &batch)? {
+        batch = go_on(
+            rt,
+            alloc,
+            gate,
+            out,
+            files,
+            engine,
+            completed,
+            wanted,
+            course,
+            limits,
+            script,
+            &mut window,
+            batch,
+            cut,
+        )?;
+    }
+    let Batch { asks, after } = batch;
+    let count = asks.len() as u64;
+    let refused = serve_window(
+        rt, alloc, gate, out, sink, engine, works, readers, completed, wanted, window, asks,
+    )?;
+    course.asked += count;
+    course.refused |= refused;
+    course.at = after;
+    Ok(())
+}
