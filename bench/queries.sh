@@ -21,19 +21,48 @@ for size in (5, 50):
             written += len(line)
 P
 cd "$work"
-run() { { printf 'add t%s\n' "$1"; for _ in $(seq 20); do printf '%s\n' "$2"; done; } > script; measure script "$program"; }
-: > rows
-for size in 5 50; do
-  read -r added kept <<< "$(run "$size" "")"
-  printf '%s MB, added in %.3f s\n' "$size" "$added"
-  for query in '"the" ^ "rare"' '("<l>".."</l>") > "of the"' '"the"' '("the" ^ "rare") < [5]'; do
-    counted=$("$counter" count "t$size" "$query")
-    read -r listed _ <<< "$(run "$size" "find $query")"
-    read -r number memory <<< "$(run "$size" "count $query")"
-    awk -v a="$added" -v f="$listed" -v n="$number" -v q="$query" -v c="$counted" 'BEGIN { printf "    %-28s %-40s find %.2f ms, count %.2f ms: %.4f of adding (target 0.01)\n", q, c, (f - a) * 50, (n - a) * 50, (n - a) / 20 / a }'
-    look_ups=$(grep -o '[0-9]*' <<< "$counted" | tail -1)
-    printf '%s|%s|%s\n' "$query" "$look_ups" "$(awk -v n="$number" -v a="$added" 'BEGIN { print n - a }')" >> rows
-  done
-done
-awk -F'|' '$1 in look { printf "    %-28s time grew %.1f times, look-ups %.1f times: ratio %.2f (target 1.5)\n", $1, $3 / time[$1], $2 / look[$1], $3 / time[$1] / ($2 / look[$1]) } { look[$1] = $2; time[$1] = $3 }' rows
-awk -v m="$memory" -v k="$kept" 'BEGIN { printf "memory of the last count to that of adding 50 MB: %.2f (target 1.05)\n", m / k }'
+# one run for each size: the text is added, and each query asked 20 times through the pipes, so that its seconds are its own
+python3 - "$program" "$counter" <<'P'
+import os, subprocess, sys, time
+program, counter = sys.argv[1:]
+queries = ['"the" ^ "rare"', '("<l>".."</l>") > "of the"', '"the"', '("the" ^ "rare") < [5]']
+def ask(run, line):
+    begin = time.perf_counter()
+    run.stdin.write(line.encode() + b"\n")
+    run.stdin.flush()
+    end = b""
+    # an answer ends with a line that begins with one of these
+    while not (end.endswith(b"\n") and end.splitlines()[-1].startswith((b"=", b"!", b"file "))):
+        piece = os.read(run.stdout.fileno(), 1 << 20)
+        if not piece:
+            sys.exit(f"no answer to: {line}")
+        end = (end + piece)[-100:]
+    return time.perf_counter() - begin
+def kept(run):
+    return next(int(line.split()[1]) for line in open(f"/proc/{run.pid}/status") if line.startswith("VmHWM"))
+took = {}
+for size in (5, 50):
+    adds = []
+    for _ in range(3):
+        run = subprocess.Popen([program], stdin=subprocess.PIPE, stdout=subprocess.PIPE)
+        adds.append(ask(run, f"add t{size}"))
+        if len(adds) < 3:
+            run.stdin.close()
+            run.wait()
+    added, before = min(adds), kept(run)
+    print(f"{size} MB, added in {added:.3f} s")
+    for query in queries:
+        counted = subprocess.run([counter, "count", f"t{size}", query], capture_output=True, text=True).stdout.strip()
+        listed = min(ask(run, f"find {query}") for _ in range(20))
+        number = min(ask(run, f"count {query}") for _ in range(20))
+        look_ups = int(counted.split()[-2])
+        print(f"    {query:<28} {counted:<40} find {listed * 1e3:.2f} ms, count {number * 1e3:.2f} ms: {number / added:.4f} of adding (target 0.01)")
+        if size == 5:
+            took[query] = number, look_ups
+        else:
+            less, fewer = took[query]
+            print(f"    {'':<28} time grew {number / less:.1f} times, look-ups {look_ups / fewer:.1f} times: ratio {number / less / (look_ups / fewer):.2f} (target 1.5)")
+    print(f"    memory after the queries to that before: {kept(run) / before:.2f} (target 1.05)")
+    run.stdin.close()
+    run.wait()
+P

@@ -17,8 +17,8 @@ P
 for query in '"the" ^ "w17"' '"of the"' '"the" < ("<l>".."</l>")'; do
   one=
   for times in 1 4 16; do
-    read -r look_ups took fingered <<< "$("$counter" slots "$work/text" "$times" "$query" | awk '{ print $5, $8, $12 }')"
+    read -r look_ups took fingered fewer <<< "$("$counter" slots "$work/text" "$times" "$query" | awk '{ print $5, $8, $12, $14 }')"
     one=${one:-$(awk -v l="$look_ups" -v t="$took" 'BEGIN { print t / l }')}
-    awk -v q="$query" -v n="$times" -v l="$look_ups" -v t="$took" -v o="$one" -v f="$fingered" 'BEGIN { printf "%-28s %2d slots: %d look-ups, %.0f ns each, ratio to one slot %.2f, by fingers %.0f ns\n", q, n, l, t / l, t / l / o, f / l }'
+    awk -v q="$query" -v n="$times" -v l="$look_ups" -v t="$took" -v o="$one" -v f="$fingered" -v g="$fewer" 'BEGIN { printf "%-28s %2d slots: %d look-ups, %.0f ns each, ratio to one slot %.2f, by fingers %d, %.0f ns each\n", q, n, l, t / l, t / l / o, g, f / g }'
   done
 done
