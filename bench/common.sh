@@ -2,6 +2,8 @@
 # GCLQ and MEASURE name programs to run in place of those of this checkout.
 set -eu
 here=$(cd "$(dirname "${BASH_SOURCE[0]}")/.." && pwd)
+# what asking.py has can be imported, and leaves nothing behind
+export PYTHONPATH=$here/bench PYTHONDONTWRITEBYTECODE=1
 work=$(mktemp -d)
 trap 'rm -rf "$work"' EXIT
 

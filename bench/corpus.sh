@@ -7,39 +7,24 @@ need_gclq
 [ $# -ge 1 ] || { echo "usage: bench/corpus.sh FOLDER [QUERIES]" >&2; exit 2; }
 python3 - "$program" "$1" "${2:-$here/bench/kjv.queries}" <<'P'
 import os, statistics, subprocess, sys, time
+from asking import ask, kept
 program, folder, queries = sys.argv[1:]
 chosen = os.path.join(folder, "LIST.txt")
 names = open(chosen).read().split() if os.path.exists(chosen) else sorted(os.listdir(folder))
 run = subprocess.Popen([program], cwd=folder, stdin=subprocess.PIPE, stdout=subprocess.PIPE)
-
-def ask(line):
-    """The last line of the answer, and the seconds that it took."""
-    begin = time.perf_counter()
-    run.stdin.write(line.encode() + b"\n")
-    run.stdin.flush()
-    end = b""
-    # an answer ends with a line that begins with one of these
-    while not (end.endswith(b"\n") and end.splitlines()[-1].startswith((b"=", b"!", b"file "))):
-        piece = os.read(run.stdout.fileno(), 1 << 20)
-        if not piece:
-            sys.exit(f"no answer to: {line}")
-        end = (end + piece)[-1000:]
-    return end.splitlines()[-1].decode(), time.perf_counter() - begin
-
 begin = time.perf_counter()
 for name in names:
-    ask(f"add {name}")
+    ask(run, f"add {name}")
 seconds = time.perf_counter() - begin
 size = sum(os.path.getsize(os.path.join(folder, name)) for name in names)
-kept = next(int(line.split()[1]) for line in open(f"/proc/{run.pid}/status") if line.startswith("VmHWM"))
-print(f"{len(names)} files, {size / 1e6:.1f} MB: added in {seconds:.3f} s, {kept / 1e3:.0f} MB of memory at most")
+print(f"{len(names)} files, {size / 1e6:.1f} MB: added in {seconds:.3f} s, {kept(run) / 1e3:.0f} MB of memory at most")
 # what a line and an answer take that ask nothing of the index
-empty = min(ask('count "zzxqq"')[1] for _ in range(100))
+empty = min(ask(run, 'count "zzxqq"')[1] for _ in range(100))
 print(f"a word that nothing holds: {empty * 1e6:.0f} us")
 for line in open(queries):
     line = line.strip()
     if line and not line.startswith("#"):
-        times = [ask(line) for _ in range(30)]
+        times = [ask(run, line) for _ in range(30)]
         took = sorted(seconds for _, seconds in times)
         print(f"{took[0] * 1e6:10.0f} {statistics.median(took) * 1e6:10.0f} us  {times[0][0]:>10}  {line}")
 run.stdin.close()

@@ -23,29 +23,16 @@ P
 cd "$work"
 # one run for each size: the text is added, and each query asked 20 times through the pipes, so that its seconds are its own
 python3 - "$program" "$counter" <<'P'
-import os, subprocess, sys, time
+import subprocess, sys
+from asking import ask, kept
 program, counter = sys.argv[1:]
 queries = ['"the" ^ "rare"', '("<l>".."</l>") > "of the"', '"the"', '("the" ^ "rare") < [5]']
-def ask(run, line):
-    begin = time.perf_counter()
-    run.stdin.write(line.encode() + b"\n")
-    run.stdin.flush()
-    end = b""
-    # an answer ends with a line that begins with one of these
-    while not (end.endswith(b"\n") and end.splitlines()[-1].startswith((b"=", b"!", b"file "))):
-        piece = os.read(run.stdout.fileno(), 1 << 20)
-        if not piece:
-            sys.exit(f"no answer to: {line}")
-        end = (end + piece)[-100:]
-    return time.perf_counter() - begin
-def kept(run):
-    return next(int(line.split()[1]) for line in open(f"/proc/{run.pid}/status") if line.startswith("VmHWM"))
 took = {}
 for size in (5, 50):
     adds = []
     for _ in range(3):
         run = subprocess.Popen([program], stdin=subprocess.PIPE, stdout=subprocess.PIPE)
-        adds.append(ask(run, f"add t{size}"))
+        adds.append(ask(run, f"add t{size}")[1])
         if len(adds) < 3:
             run.stdin.close()
             run.wait()
@@ -53,8 +40,8 @@ for size in (5, 50):
     print(f"{size} MB, added in {added:.3f} s")
     for query in queries:
         counted = subprocess.run([counter, "count", f"t{size}", query], capture_output=True, text=True).stdout.strip()
-        listed = min(ask(run, f"find {query}") for _ in range(20))
-        number = min(ask(run, f"count {query}") for _ in range(20))
+        listed = min(ask(run, f"find {query}")[1] for _ in range(20))
+        number = min(ask(run, f"count {query}")[1] for _ in range(20))
         look_ups = int(counted.split()[-2])
         print(f"    {query:<28} {counted:<40} find {listed * 1e3:.2f} ms, count {number * 1e3:.2f} ms: {number / added:.4f} of adding (target 0.01)")
         if size == 5:
