@@ -2,6 +2,7 @@ ghost use Rattle.std.specs.Prelude.{◌≡◌, ◌+◌, ◌*◌, ◌^◌, ◌<�
 ghost use Rattle.posting_code.specs.Postings.{ArePostings, RiseWithin, blocks_of, block_of};
 ghost use Rattle.posting_code.specs.Packed.{IsHead, IsKeptTo, kept, last_of, packed_of};
 ghost use Rattle.posting_code.specs.Cuts.{IsCut};
+ghost use Rattle.posting_code.specs.Numbers.{spelling};
 
 use crate::blocks::Blocks;
 use crate::head::{Head, head_of};
@@ -157,6 +158,20 @@ impl PostingList {
             last,
             blocks,
         })
+    }
+
+    /// Puts the members of a list behind the others, where all of them are one block.
+    pub(crate) fn join_short(&mut self, list: &Postings<'_>) -> Result<(), AllocError>
+        requires some { (0 < length self.old) × (0 < length list.now) }
+        requires few { length self.old + length list.now ≤ 64 }
+        requires rising { ArePostings (self.old ++ list.now) }
+        ensures ok { OnOk result (self.new ≡ self.old ++ list.now) }
+        ensures err { OnErr result (self.new ≡ self.old) }
+    {
+        put_differences(&mut self.packed, list.first - self.last, list.packed)?;
+        self.last = list.last;
+        self.blocks.count_more(list.count);
+        Ok(())
     }
 
     /// Gives back the memory that growing took and no address needs.
@@ -386,5 +401,22 @@ impl<'a> Postings<'a> {
         let behind = BLOCK.min(self.count - BLOCK * block) - 1;
         let head = head_of(self.first, self.heads, block);
         around_in(self.packed, head.first, head.at, behind, k)
+    }
+}
+
+/// Puts a difference behind others, and then those of a list.
+fn put_differences(packed: &mut Vec<u8>, step: u64, behind: &[u8]) -> Result<(), AllocError>
+    requires { step < 2 ^ 56 }
+    ensures ok { OnOk result (packed.new.items ≡ (packed.old.items ++ spelling step) ++ behind.now) }
+    ensures err { OnErr result (packed.new.items ≡ packed.old.items) }
+{
+    let before = packed.len();
+    put_number(packed, step)?;
+    match packed.extend_from_slice(behind) {
+        Ok(()) => Ok(()),
+        Err(fault) => {
+            packed.truncate(before);
+            Err(fault)
+        }
     }
 }

@@ -204,7 +204,7 @@ fn head_from(shard: &Shard, place: usize) -> u64
 }
 
 /// Puts the live ones of the postings behind the others. None of them is unpacked.
-fn append_live(
+pub(crate) fn append_live(
     list: &Postings<'_>,
     mask: &Mask,
     postings: &mut PostingMaker,
