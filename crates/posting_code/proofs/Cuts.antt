@@ -1,5 +1,5 @@
 -- Parts of a list that are lent as they are packed.
-use Rattle.std.proofs.Common.{◌≡◌, ℕ, zero, suc, ◌+◌, ◌-◌, ◌*◌, ◌^◌, ◌<◌, ◌≤◌, List, [], ◌∷◌, ◌++◌, length, length-drop, length-take, take, drop, drop-drop, get_or, append_assoc, length-append, refl, sym, ap, ◌∙◌, subst, arith}
+use Rattle.std.proofs.Common.{◌≡◌, ℕ, zero, suc, ◌+◌, ◌-◌, ◌*◌, ◌^◌, ◌<◌, ◌≤◌, List, [], ◌∷◌, ◌++◌, length, length-drop, length-take, take, drop, get_or, append_assoc, length-append, refl, sym, ap, ◌∙◌, subst, arith}
 use Rattle.std.proofs.Math.Seq.{take-append_seam}
 use Rattle.std.proofs.lemmas.List.{take-append-drop, take_all}
 use Rattle.posting_code.specs.Numbers.{spelling}
@@ -9,7 +9,7 @@ use Rattle.posting_code.specs.Cuts.{IsCut}
 use Rattle.posting_code.specs.declared.head.Head.{Head}
 use Rattle.posting_code.specs.declared.unpack.Cut.{Cut}
 use Rattle.posting_code.proofs.Rising.{rise_drop, rise_wider}
-use Rattle.posting_code.proofs.Around.{head_block, block_rises, take_rises}
+use Rattle.posting_code.proofs.Around.{head_block, take_rises}
 use Rattle.posting_code.proofs.Joining.{head_within, last_of-append}
 use Rattle.posting_code.proofs.Shorts.{short_of}
 

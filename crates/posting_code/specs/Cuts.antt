@@ -1,5 +1,5 @@
 -- Places between two members, for this crate alone.
-use Rattle.std.specs.Prelude.{ℕ, ◌+◌, ◌<◌, List, length}
+use Rattle.std.specs.Prelude.{ℕ, ◌+◌, List}
 use Rattle.posting_code.specs.Packed.{StandsAt}
 use Rattle.posting_code.specs.declared.unpack.Cut.{Cut}
 

@@ -1,4 +1,4 @@
-use Rattle.std.proofs.Common.{◌≡◌, ◌∷◌, ◌<◌, length-drop, length, take, ap, sym, ◌∙◌, subst, arith}
+use Rattle.std.proofs.Common.{◌≡◌, ◌∷◌, length-drop, length, take, ap, sym, ◌∙◌, arith}
 use Rattle.posting_code.specs.Packed.{last_of, members_behind}
 use Rattle.posting_code.proofs.Unpacking.{take_next}
 use Rattle.posting_code.proofs.Cuts.{stretch}

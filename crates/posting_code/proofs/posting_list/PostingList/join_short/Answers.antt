@@ -1,4 +1,4 @@
-use Rattle.std.proofs.Common.{◌+◌, ◌++◌, length, ap, sym, ◌∙◌, refl, subst, arith, length-append}
+use Rattle.std.proofs.Common.{◌++◌, length, ap, ◌∙◌, refl, arith}
 use Rattle.posting_code.specs.Packed.{last_of}
 use Rattle.posting_code.proofs.Packed.{blocks_list, blocks_kept_to}
 use Rattle.posting_code.proofs.Joining.{step_between, are_put, joined_list, heads_before, kept_joined, last_joined}
