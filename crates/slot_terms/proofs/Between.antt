@@ -1,5 +1,5 @@
 -- What stands between the dead ranges of rising postings.
-use Rattle.std.proofs.Common.{◌≡◌, ℕ, zero, suc, ◌+◌, ◌-◌, ◌*◌, ◌^◌, ◌<◌, ◌≤◌, true, false, not, cond, ◌||◌, List, [], ◌∷◌, ◌++◌, length, length-append, length-drop, take, drop, get_or, filter, append_assoc, ltb, refl, sym, ap, ◌∙◌, subst, arith}
+use Rattle.std.proofs.Common.{◌≡◌, ℕ, zero, suc, ◌+◌, ◌-◌, ◌*◌, ◌^◌, ◌<◌, ◌≤◌, true, false, not, cond, List, [], ◌∷◌, ◌++◌, length, length-append, length-drop, take, drop, get_or, append_assoc, ltb, refl, sym, ap, inl, inr, ◌∙◌, subst, arith}
 use Rattle.std.specs.List.{prefix_len}
 use Rattle.std.proofs.lemmas.Bool.{cases_Bool, or_from}
 use Rattle.std.proofs.lemmas.List.{append-nil, drop_more, take-append-drop, take_all, nil_from_length}

@@ -1,4 +1,4 @@
-use Rattle.std.proofs.Common.{◌≡◌, ◌++◌, [], ap, sym, subst, ◌∙◌, OnOk, arith}
+use Rattle.std.proofs.Common.{◌≡◌, sym, subst, OnOk}
 use Rattle.gcl_model.specs.Slots.{SlotRange, slot_range}
 use Rattle.posting_code.specs.Postings.{ArePostings, RiseWithin}
 use Rattle.slot_terms.proofs.Between.{IsParted, between_goes, between_rises, between_ends}

@@ -1,4 +1,4 @@
-use Rattle.std.proofs.Common.{◌≡◌, ◌++◌, ◌*◌, ◌∷◌, length, length-take, drop, ap, sym, subst, ◌∙◌, arith}
+use Rattle.std.proofs.Common.{◌≡◌, ◌++◌, ◌*◌, length, length-take, drop, ap, sym, subst, ◌∙◌, arith}
 use Rattle.posting_code.specs.Postings.{ArePostings, block_of}
 use Rattle.posting_code.proofs.Around.{block_rises}
 use Rattle.slot_terms.specs.Parts.{alive}

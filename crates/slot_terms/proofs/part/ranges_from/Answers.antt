@@ -1,4 +1,4 @@
-use Rattle.std.proofs.Common.{◌≡◌, ltb, ap, ◌∙◌, rules, subst, sym}
+use Rattle.std.proofs.Common.{◌≡◌, ltb, rules, subst, sym}
 use Rattle.std.specs.List.{prefix_len}
 use Rattle.std.proofs.lemmas.List.Sorted.{IsPartitionPoint-from_clause, IsPartitionedBy-ltb}
 use Rattle.gcl_model.specs.Limits.{address_end}
