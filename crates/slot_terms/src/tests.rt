@@ -112,7 +112,7 @@ fn evens(alloc: Global, count: u16) -> Result<Vec<u64>, AllocError>
 {
     let mut numbers = Vec::new(alloc);
     for i in 0..count {
-        numbers.push(2 * u64::from(i))?;
+        numbers.push(2 * (i as u64))?;
     }
     Ok(numbers)
 }
