@@ -5,7 +5,7 @@ use Rattle.std.proofs.Math.Seq.{drop-append-add}
 use Rattle.std.proofs.lemmas.List.{get_or_append_left, get_or-append-add, drop-append-le, drop_more}
 use Rattle.posting_code.specs.Numbers.{spelling, IsNumberAt}
 use Rattle.posting_code.specs.Postings.{RiseWithin, ArePostings}
-use Rattle.posting_code.specs.Packed.{unpacked, members_behind, kept, packed_from, packed_of, CanUnpack, IsHead, IsKept, head_at, last_of}
+use Rattle.posting_code.specs.Packed.{unpacked, members_behind, kept, packed_from, packed_of, CanUnpack, IsHead, IsKept, StandsAt, head_at, last_of}
 use Rattle.posting_code.specs.Blocks.{AreBlocks}
 use Rattle.posting_code.specs.declared.head.Head.{Head}
 use Rattle.posting_code.specs.declared.blocks.Blocks.{Blocks}
@@ -130,13 +130,8 @@ is_head list packed place head same is lt within can =
       rest = can.spelled ∙ ap (λ l. packed_from head.first (drop 1 l)) (sym split);
     }
 
--- a member that can be read on from, behind those before it
-pub record StandsAt (list packed : List ℕ) (place : ℕ) (head : Head) : Type 0 where
-  pub can : CanUnpack packed head.first head.at
-  pub within : head.at ≤ length packed
-  pub is : drop place list ≡ head.first ∷ members_behind packed head.first head.at
-
-head_within : (count first : ℕ) (packed : List ℕ) (heads : List Head) (block : ℕ) → IsKept count first packed heads → block ≤ length heads → (head_at first heads block).at ≤ length packed
+-- a head stands within the bytes
+pub head_within : (count first : ℕ) (packed : List ℕ) (heads : List Head) (block : ℕ) → IsKept count first packed heads → block ≤ length heads → (head_at first heads block).at ≤ length packed
 head_within count first packed heads zero k le = omega arith
 head_within count first packed heads (suc b) k le = (k.blocks b (record { first = first; at = 0 }) (omega (arith, le))).within
 

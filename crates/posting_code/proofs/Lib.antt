@@ -7,5 +7,6 @@ pub mod Shorts
 pub mod Steps
 pub mod Around
 pub mod Unpacking
+pub mod Cuts
 mod Worked
 mod WorkedNumbers

@@ -3,5 +3,6 @@ pub mod Laws
 pub mod Reader
 pub mod Postings
 pub mod Packed
+pub mod Cuts
 pub mod Joined
 pub mod Blocks

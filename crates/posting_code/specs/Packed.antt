@@ -35,6 +35,12 @@ pub record CanUnpack (packed : List ℕ) (before at : ℕ) : Type 0 where
   pub rising : RiseWithin (before + 1) (2 ^ 56) (members_behind packed before at)
   pub spelled : drop at packed ≡ packed_from before (members_behind packed before at)
 
+-- a member that can be read on from, behind those before it
+pub record StandsAt (list packed : List ℕ) (place : ℕ) (head : Head) : Type 0 where
+  pub can : CanUnpack packed head.first head.at
+  pub within : head.at ≤ length packed
+  pub is : drop place list ≡ head.first ∷ members_behind packed head.first head.at
+
 -- where the block stands whose first member has the place in the list
 pub record IsHead (list packed : List ℕ) (place : ℕ) (head : Head) : Type 0 where
   pub first : head.first ≡ get_or list place 0

@@ -112,6 +112,17 @@ impl Blocks {
         }
     }
 
+    /// Counts some members more, where all of them are one block.
+    pub(crate) fn count_more(&mut self, more: usize)
+        requires { count_in self.old + more ≤ 64 }
+        ensures { AreBlocks self.new (count_in self.old + more) (first_in self.old) (heads_in self.old) }
+    {
+        match self {
+            Blocks::One { count, .. } => *count += more as u8,
+            Blocks::Many(many) => many.count += more,
+        }
+    }
+
     /// The heads, which are handed over.
     pub(crate) fn into_heads(self, alloc: Global) -> Vec<Head>
         ensures { result.items ≡ heads_in self }

@@ -47,6 +47,11 @@ impl PostingMaker {
         if list.len() == 0 {
             return Ok(());
         }
+        let count = self.list.len();
+        // most lists stay short, and are not moved for it
+        if 0 < count && count <= BLOCK && list.len() <= BLOCK - count {
+            return self.list.join_short(list);
+        }
         let alloc = self.list.alloc();
         let front = mem::replace(&mut self.list, PostingList::new(alloc));
         self.list = both(front, list)?;

@@ -1,11 +1,13 @@
-ghost use Rattle.std.specs.Prelude.{◌≡◌, ◌+◌, ◌*◌, ◌<◌, ◌≤◌, ◌++◌, ◌∷◌, [], length, get_or, slice_index, take, reverse, find, nat_lt, nat_le, IfOk, OnOk, OnErr};
-ghost use Rattle.posting_code.specs.Postings.{ArePostings, blocks_of, block_of};
+ghost use Rattle.std.specs.Prelude.{◌≡◌, ◌+◌, ◌*◌, ◌^◌, ◌<◌, ◌≤◌, ◌++◌, ◌∷◌, [], length, get_or, slice_index, take, drop, reverse, find, nat_lt, nat_le, IfOk, OnOk, OnErr};
+ghost use Rattle.posting_code.specs.Postings.{ArePostings, RiseWithin, blocks_of, block_of};
 ghost use Rattle.posting_code.specs.Packed.{IsHead, IsKeptTo, kept, last_of, packed_of};
+ghost use Rattle.posting_code.specs.Cuts.{IsCut};
+ghost use Rattle.posting_code.specs.Numbers.{spelling};
 
 use crate::blocks::Blocks;
 use crate::head::{Head, head_of};
 use crate::number::{NUMBER_END, put_number};
-use crate::unpack::{around_in, unpack, walk};
+use crate::unpack::{Cut, around_in, cut_before, unpack, walk};
 use std::alloc::{AllocError, Global};
 use std::marker::Model;
 
@@ -158,6 +160,20 @@ impl PostingList {
         })
     }
 
+    /// Puts the members of a list behind the others, where all of them are one block.
+    pub(crate) fn join_short(&mut self, list: &Postings<'_>) -> Result<(), AllocError>
+        requires some { (0 < length self.old) × (0 < length list.now) }
+        requires few { length self.old + length list.now ≤ 64 }
+        requires rising { ArePostings (self.old ++ list.now) }
+        ensures ok { OnOk result (self.new ≡ self.old ++ list.now) }
+        ensures err { OnErr result (self.new ≡ self.old) }
+    {
+        put_differences(&mut self.packed, list.first - self.last, list.packed)?;
+        self.last = list.last;
+        self.blocks.count_more(list.count);
+        Ok(())
+    }
+
     /// Gives back the memory that growing took and no address needs.
     pub(crate) fn fit(&mut self)
         ensures { self.new ≡ self.old }
@@ -297,6 +313,84 @@ impl<'a> Postings<'a> {
         count
     }
 
+    /// A block by itself, which is lent as it is packed.
+    pub fn block(&self, block: usize) -> Postings<'a>
+        requires { block < blocks_of self.now }
+        ensures value { result ≡ block_of self.now block }
+        ensures rising { ArePostings self.now }
+    {
+        let head = head_of(self.first, self.heads, block);
+        let count = self.count - BLOCK * block;
+        // the last block ends with the list
+        if count <= BLOCK {
+            return Postings::of_block(&self.packed[head.at..], head.first, self.last, count);
+        }
+        let end = walk(self.packed, head, BLOCK - 1);
+        Postings::of_block(&self.packed[head.at..end.at], head.first, end.first, BLOCK)
+    }
+
+    /// The members of a list of one block that are below `k`, and those from `k` on. Both are lent as they are packed.
+    pub fn split(&self, k: u64) -> (Postings<'a>, Postings<'a>)
+        requires { length self.now ≤ 64 }
+        ensures whole { self.now ≡ result.0 ++ result.1 }
+        ensures below { RiseWithin 0 k result.0 }
+        ensures from { RiseWithin k (2 ^ 56) result.1 }
+    {
+        if self.count == 0 || k <= self.first {
+            return (Postings::none(), self.whole());
+        }
+        // most often all are below
+        if self.last < k {
+            return (self.whole(), Postings::none());
+        }
+        let first = Head {
+            first: self.first,
+            at: 0,
+        };
+        match cut_before(self.packed, first, self.count - 1, k) {
+            Some(cut) => self.cut_at(cut),
+            None => (self.whole(), Postings::none()),
+        }
+    }
+
+    /// The members of a list of one block up to a cut, and those behind it.
+    fn cut_at(&self, cut: Cut) -> (Postings<'a>, Postings<'a>)
+        requires few { length self.now ≤ 64 }
+        requires cut { IsCut self.now (packed_of self.now) cut }
+        ensures before { result.0 ≡ take (cut.steps + 1) self.now }
+        ensures behind { result.1 ≡ drop (cut.steps + 1) self.now }
+    {
+        let count = cut.steps + 1;
+        let before = Postings::of_block(
+            &self.packed[..cut.before.at],
+            self.first,
+            cut.before.first,
+            count,
+        );
+        let behind = Postings::of_block(
+            &self.packed[cut.behind.at..],
+            cut.behind.first,
+            self.last,
+            self.count - count,
+        );
+        (before, behind)
+    }
+
+    /// No members.
+    fn none() -> Postings<'a>
+        ensures { result ≡ [] }
+    {
+        Postings::of_block(&[], 0, 0, 0)
+    }
+
+    /// All members of a list of one block.
+    fn whole(&self) -> Postings<'a>
+        requires { length self.now ≤ 64 }
+        ensures { result ≡ self.now }
+    {
+        Postings::of_block(self.packed, self.first, self.last, self.count)
+    }
+
     /// The greatest member of a block before `k`, and the least from `k` on. It reads no further than the second.
     pub fn around(&self, block: usize, k: u64) -> (Option<u64>, Option<u64>)
         requires { block < blocks_of self.now }
@@ -307,5 +401,22 @@ impl<'a> Postings<'a> {
         let behind = BLOCK.min(self.count - BLOCK * block) - 1;
         let head = head_of(self.first, self.heads, block);
         around_in(self.packed, head.first, head.at, behind, k)
+    }
+}
+
+/// Puts a difference behind others, and then those of a list.
+fn put_differences(packed: &mut Vec<u8>, step: u64, behind: &[u8]) -> Result<(), AllocError>
+    requires { step < 2 ^ 56 }
+    ensures ok { OnOk result (packed.new.items ≡ (packed.old.items ++ spelling step) ++ behind.now) }
+    ensures err { OnErr result (packed.new.items ≡ packed.old.items) }
+{
+    let before = packed.len();
+    put_number(packed, step)?;
+    match packed.extend_from_slice(behind) {
+        Ok(()) => Ok(()),
+        Err(fault) => {
+            packed.truncate(before);
+            Err(fault)
+        }
     }
 }

@@ -3,7 +3,7 @@ ghost use Rattle.posting_code.specs.Postings.{ArePostings};
 
 use crate::maker::{PostingMaker, encode};
 use crate::number::{Number, get_number, put_number};
-use crate::posting_list::{ADDRESS_END, BLOCK, PostingList};
+use crate::posting_list::{ADDRESS_END, BLOCK, PostingList, Postings};
 use crate::row::put_joined;
 use std::alloc::{AllocError, Global};
 
@@ -97,6 +97,66 @@ fn the_blocks_of_a_list_are_the_chunks_of_its_slice(rt: HostRuntime) -> Result<(
                 }
             }
         }
+    }
+    Ok(())
+}
+
+/// The first and the last member, and their number.
+fn ends(list: &Postings<'_>) -> (u64, u64, usize) {
+    (list.first(), list.last(), list.len())
+}
+
+#[test]
+fn a_block_that_is_lent_by_itself_has_its_members_and_no_others(
+    rt: HostRuntime,
+) -> Result<(), AllocError> {
+    for count in [1, 63, 64, 65, 128, 129, 200] {
+        for gap in [1, 128, 1 << 40] {
+            let addresses = addresses(rt.alloc(), 3, count, gap)?;
+            let list = encode(rt.alloc(), &addresses)?;
+            let list = list.as_postings();
+            for (block, chunk) in addresses.chunks(BLOCK).enumerate() {
+                if block < list.block_count() {
+                    let lent = list.block(block);
+                    let mut members = [7; 64];
+                    assert_eq!(rt; lent.block_count(), 1);
+                    assert!(rt; 0 < lent.block_count());
+                    let found = lent.read_block(0, &mut members);
+                    assert!(rt;
+                        members.starts_with(chunk) && found == chunk.len(),
+                        "block {block} of {count} by {gap}"
+                    );
+                    assert!(rt;
+                        chunk.first() == Some(&lent.first()) && chunk.last() == Some(&lent.last()),
+                        "block {block} of {count} by {gap}"
+                    );
+                }
+            }
+        }
+    }
+    Ok(())
+}
+
+#[test]
+fn a_list_is_split_before_the_first_member_that_is_not_below(
+    rt: HostRuntime,
+) -> Result<(), AllocError> {
+    let list = encode(rt.alloc(), &[5, 8, 300, 301])?;
+    let list = list.as_postings();
+    let cases = [
+        (0, (0, 0, 0), (5, 301, 4)),
+        (5, (0, 0, 0), (5, 301, 4)),
+        (6, (5, 5, 1), (8, 301, 3)),
+        (8, (5, 5, 1), (8, 301, 3)),
+        (9, (5, 8, 2), (300, 301, 2)),
+        (301, (5, 300, 3), (301, 301, 1)),
+        (302, (5, 301, 4), (0, 0, 0)),
+    ];
+    assert!(rt; list.len() <= BLOCK);
+    for (k, below, from) in cases {
+        let parts = list.split(k);
+        assert_eq!(rt; ends(&parts.0), below, "below {k}");
+        assert_eq!(rt; ends(&parts.1), from, "from {k}");
     }
     Ok(())
 }

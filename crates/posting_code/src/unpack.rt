@@ -1,5 +1,6 @@
-ghost use Rattle.std.specs.Prelude.{◌≡◌, ◌+◌, ◌<◌, ◌≤◌, ◌^◌, ◌∷◌, length, take, drop, reverse, find, nat_lt, nat_le};
-ghost use Rattle.posting_code.specs.Packed.{CanUnpack, members_behind};
+ghost use Rattle.std.specs.Prelude.{◌≡◌, ◌+◌, ◌<◌, ◌≤◌, ◌^◌, ◌∷◌, length, take, drop, reverse, find, nat_lt, nat_le, IfSome, IsNone};
+ghost use Rattle.posting_code.specs.Packed.{CanUnpack, last_of, members_behind};
+ghost use Rattle.posting_code.specs.Cuts.{IsCut};
 
 use crate::head::Head;
 use crate::number::{Number, get_number};
@@ -60,6 +61,44 @@ pub(crate) fn walk(packed: &[u8], head: Head, steps: usize) -> Head
         };
     }
     member
+}
+
+/// A place between two members: the steps from the first to the last before it, and where that one and the one behind it stand.
+#[derive(Clone, Copy)]
+pub(crate) struct Cut {
+    pub(crate) steps: usize,
+    pub(crate) before: Head,
+    pub(crate) behind: Head,
+}
+
+/// Where the members from `k` on begin among the first, which is below it, and some behind it. None where all of them are below.
+pub(crate) fn cut_before(packed: &[u8], first: Head, behind: usize, k: u64) -> Option<Cut>
+    requires can { CanUnpack packed.now first.first first.at }
+    requires within { first.at ≤ length packed.now }
+    requires enough { behind ≤ length (members_behind packed.now first.first first.at) }
+    requires below { first.first < k }
+    ensures cut { IfSome result (IsCut (first.first ∷ members_behind packed.now first.first first.at) packed.now) }
+    ensures below { IfSome result (λ cut. cut.before.first < k) }
+    ensures from { IfSome result (λ cut. k ≤ cut.behind.first) }
+    ensures none { IsNone result → last_of (first.first ∷ take behind (members_behind packed.now first.first first.at)) < k }
+{
+    let mut before = first;
+    for steps in 0..behind {
+        let next = next_member(packed, before.first, before.at);
+        let next = Head {
+            first: next.value,
+            at: next.after,
+        };
+        if k <= next.first {
+            return Some(Cut {
+                steps,
+                before,
+                behind: next,
+            });
+        }
+        before = next;
+    }
+    None
 }
 
 /// Of the first member and some behind it the greatest before `k`, and the least from `k` on.

@@ -5,3 +5,4 @@ pub mod LivePostings
 pub mod Loops
 pub mod Passing
 pub mod Rising
+pub mod Between

@@ -1,9 +1,12 @@
-ghost use Rattle.std.specs.Prelude.{◌≡◌, ◌<◌, ◌≤◌, ◌++◌, ◌⊎◌, [], length, drop, IsTrue, IfSome, OnOk, option_map};
+ghost use Rattle.std.specs.Prelude.{◌≡◌, ◌<◌, ◌≤◌, ◌++◌, ◌⊎◌, ℕ, [], length, drop, nat_lt, IsTrue, IfSome, OnOk, option_map};
 ghost use Rattle.std.specs.List.{concat};
 ghost use Rattle.std.specs.Ordering.{nat_cmp};
 ghost use Rattle.std.specs.Cmp.Lexicographic.{slice_cmp};
+ghost use Rattle.gcl_model.specs.Limits.{address_end};
+ghost use Rattle.gcl_model.specs.Slots.{AreRangesWithin};
 ghost use Rattle.index_shard.specs.Kept.{AreBytes, leading};
 ghost use Rattle.index_shard.specs.Tables.{IsShard};
+ghost use Rattle.delete_mask.specs.Masks.{is_dead};
 ghost use Rattle.posting_code.specs.Postings.{ArePostings};
 ghost use Rattle.slot_terms.specs.Firsts.{IsFirst};
 ghost use Rattle.slot_terms.specs.Parts.{IsLed, IsNoLater, alive, head_term, head_postings, is_headed, past};
@@ -11,8 +14,8 @@ ghost use Rattle.slot_terms.specs.Parts.{IsLed, IsNoLater, alive, head_term, hea
 use address_space::Range;
 use delete_mask::Mask;
 use index_shard::{Room, Shard};
-use posting_code::{PostingMaker, Postings, encode};
-use std::alloc::{AllocError, Global};
+use posting_code::{PostingMaker, Postings};
+use std::alloc::AllocError;
 use std::cmp::Ordering;
 use std::marker::Model;
 
@@ -173,7 +176,6 @@ impl<'a> Part<'a> {
     /// The same, with the live postings put behind those of a list.
     pub(crate) fn take_packed(
         &mut self,
-        alloc: Global,
         term: &[u8],
         postings: &mut PostingMaker,
     ) -> Result<(), AllocError>
@@ -182,7 +184,7 @@ impl<'a> Part<'a> {
         ensures past { OnOk result (self.new ≡ past term.now self.old) }
     {
         if self.next < self.shard.term_count() && self.shard.term(self.next) == term {
-            append_live(alloc, &self.shard.postings(self.next), self.mask, postings)?;
+            append_live(&self.shard.postings(self.next), self.mask, postings)?;
             self.step();
         }
         Ok(())
@@ -201,9 +203,8 @@ fn head_from(shard: &Shard, place: usize) -> u64
     shard.head(place)
 }
 
-/// Puts the live ones of the postings behind the others. Where nothing is dead they are not unpacked.
-fn append_live(
-    alloc: Global,
+/// Puts the live ones of the postings behind the others. None of them is unpacked.
+pub(crate) fn append_live(
     list: &Postings<'_>,
     mask: &Mask,
     postings: &mut PostingMaker,
@@ -211,13 +212,65 @@ fn append_live(
     requires { ArePostings (postings.old ++ alive mask.now list.now) }
     ensures { OnOk result (postings.new ≡ postings.old ++ alive mask.now list.now) }
 {
-    if mask.range_count() == 0 {
+    if is_apart(list, mask) {
         return postings.append(list);
     }
-    let mut addresses = Vec::new(alloc);
-    put_live(list, mask, &mut addresses)?;
-    let live = encode(alloc, &addresses)?;
-    postings.append(&live.as_postings())
+    for block in 0..list.block_count() {
+        let block = list.block(block);
+        let ranges = ranges_from(mask, block.first());
+        append_between(block, ranges, postings)?;
+    }
+    Ok(())
+}
+
+/// Whether no dead range meets the stretch from the first of the postings to the last.
+fn is_apart(list: &Postings<'_>, mask: &Mask) -> bool
+    ensures { IsTrue result → alive mask.now list.now ≡ list.now }
+{
+    if list.len() == 0 {
+        return true;
+    }
+    mask.is_apart(Range {
+        first: list.first(),
+        last: list.last(),
+    })
+}
+
+/// The dead ranges that do not end before the address.
+fn ranges_from(mask: &Mask, p: u64) -> &[Range]
+    ensures dead { (q : ℕ) → p ≤ q → is_dead result.now q ≡ is_dead mask.now q }
+    ensures apart { AreRangesWithin 0 address_end result.now }
+{
+    let ranges = mask.ranges();
+    let before = ranges.partition_point(
+        |range: &Range| -> bool
+            ensures { result ≡ nat_lt range.now.last p }
+        { range.last < p },
+    );
+    &ranges[before..]
+}
+
+/// Puts the live ones of a block's postings behind the others: what stands between two dead ranges is copied as it is packed.
+fn append_between(
+    block: Postings<'_>,
+    ranges: &[Range],
+    postings: &mut PostingMaker,
+) -> Result<(), AllocError>
+    requires few { length block ≤ 64 }
+    requires apart { AreRangesWithin 0 address_end ranges.now }
+    requires rising { ArePostings (postings.old ++ alive ranges.now block) }
+    ensures { OnOk result (postings.new ≡ postings.old ++ alive ranges.now block.entry) }
+{
+    let mut rest = block;
+    for range in ranges {
+        if rest.len() == 0 {
+            return Ok(());
+        }
+        let (live, others) = rest.split(range.first);
+        postings.append(&live)?;
+        rest = others.split(range.last + 1).1;
+    }
+    postings.append(&rest)
 }
 
 /// Puts the live ones of the postings behind the addresses. Each block is read once.

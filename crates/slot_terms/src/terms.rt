@@ -157,16 +157,14 @@ impl<'a> SlotTerms<'a> {
         ensures postings { IfOk result (λ postings. postings ≡ flat_map (λ part. alive part.mask (head_postings part.left term.now)) self.old) }
         ensures past { OnOk result (self.new ≡ map (past term.now) self.old) }
     {
-        let alloc = *self.parts.allocator();
         self.postings.clear();
-        take_term_packed(alloc, self.parts.as_mut_slice(), term, &mut self.postings)?;
+        take_term_packed(self.parts.as_mut_slice(), term, &mut self.postings)?;
         self.postings.copy()
     }
 }
 
 /// Goes past the term in each part, and puts its live postings behind those of a list.
 fn take_term_packed(
-    alloc: Global,
     parts: &mut [Part<'_>],
     term: &[u8],
     postings: &mut PostingMaker,
@@ -176,7 +174,7 @@ fn take_term_packed(
     ensures past { OnOk result (parts.new ≡ map (past term.now) parts.old) }
 {
     for part in parts.iter_mut() {
-        part.take_packed(alloc, term, postings)?;
+        part.take_packed(term, postings)?;
     }
     Ok(())
 }

@@ -1,12 +1,16 @@
 ghost use Rattle.std.specs.Prelude.{◌≡◌, ◌+◌, ◌≤◌, IfOk};
 ghost use Rattle.gcl_model.specs.Limits.{address_end};
 ghost use Rattle.gcl_model.specs.Slots.{slot_range};
+ghost use Rattle.posting_code.specs.Postings.{ArePostings};
 
+use crate::part::append_live;
 use crate::terms::SlotTerms;
 use address_space::{FileId, FileRecord, Range};
-use gcl_model::Bytes;
+use delete_mask::Mask;
+use gcl_model::{ADDRESS_END, Bytes};
 use index_shard::{Shard, ShardMaker};
 use live_version::Version;
+use posting_code::{PostingMaker, Postings, encode};
 use std::alloc::{AllocError, Global};
 use std::process::Abort;
 use std::test::Fail;
@@ -99,5 +103,110 @@ fn terms_come_in_byte_order_with_their_live_postings(rt: HostRuntime) -> Result<
         assert_eq!(rt; addresses.as_slice(), postings, "of {term}");
     }
     assert!(rt; terms.next(&mut addresses)?.is_none());
+    Ok(())
+}
+
+/// Every second address from 0 on, so many of them.
+fn evens(alloc: Global, count: u16) -> Result<Vec<u64>, AllocError>
+    ensures { IfOk result (λ numbers. ArePostings numbers.items) }
+{
+    let mut numbers = Vec::new(alloc);
+    for i in 0..count {
+        numbers.push(2 * (i as u64))?;
+    }
+    Ok(numbers)
+}
+
+/// The mask of the ranges from a first address to a last.
+fn mask_of(alloc: Global, dead: &[(u64, u64)]) -> Result<Mask, AllocError> {
+    let mut mask = Mask::new(alloc);
+    for (first, last) in dead {
+        if *first <= *last && *last < ADDRESS_END {
+            let range = Range {
+                first: *first,
+                last: *last,
+            };
+            if mask.is_apart(range) {
+                mask = mask.with(range)?;
+            }
+        }
+    }
+    Ok(mask)
+}
+
+/// The addresses in none of the ranges, by a look at each.
+fn plain_live(
+    alloc: Global,
+    addresses: &[u64],
+    dead: &[(u64, u64)],
+) -> Result<Vec<u64>, AllocError> {
+    let mut live = Vec::new(alloc);
+    for address in addresses {
+        if !dead.iter().any(|r| r.0 <= *address && *address <= r.1) {
+            live.push(*address)?;
+        }
+    }
+    Ok(live)
+}
+
+/// All members of a list.
+fn unpacked(alloc: Global, list: &Postings<'_>) -> Result<Vec<u64>, AllocError> {
+    let mut all = Vec::new(alloc);
+    let mut members = [0; 64];
+    for block in 0..list.block_count() {
+        let count = list.read_block(block, &mut members);
+        all.extend_from_slice(&members[..count])?;
+    }
+    Ok(all)
+}
+
+/// The live ones of the addresses, as they are put behind no others.
+fn appended(alloc: Global, addresses: &[u64], mask: &Mask) -> Result<Vec<u64>, AllocError>
+    requires { ArePostings addresses.now }
+{
+    let list = encode(alloc, addresses)?;
+    let mut postings = PostingMaker::new(alloc);
+    append_live(&list.as_postings(), mask, &mut postings)?;
+    unpacked(alloc, &postings.as_postings())
+}
+
+#[test]
+fn of_a_list_in_blocks_all_but_what_dead_ranges_have_is_put(
+    rt: HostRuntime,
+) -> Result<(), AllocError> {
+    let cases: [(&str, &[(u64, u64)]); 14] = [
+        ("nothing is dead", &[]),
+        ("the first of a block", &[(128, 128)]),
+        ("the last of a block", &[(126, 126)]),
+        ("the ends of two blocks", &[(126, 128)]),
+        ("what lies between two blocks", &[(127, 127)]),
+        ("a whole block", &[(128, 254)]),
+        ("a block but its ends", &[(130, 252)]),
+        (
+            "three parts of a block",
+            &[(140, 150), (161, 171), (200, 200)],
+        ),
+        (
+            "nothing of a block between ranges",
+            &[(141, 141), (143, 143)],
+        ),
+        ("the first", &[(0, 0)]),
+        ("the last", &[(398, 900)]),
+        ("all but the ends", &[(1, 397)]),
+        ("all", &[(0, 398)]),
+        (
+            "all, by several ranges",
+            &[(0, 140), (142, 200), (202, 400)],
+        ),
+    ];
+    for count in [1, 64, 65, 128, 200] {
+        let addresses = evens(rt.alloc(), count)?;
+        for (name, dead) in cases {
+            let mask = mask_of(rt.alloc(), dead)?;
+            let live = plain_live(rt.alloc(), &addresses, dead)?;
+            let put = appended(rt.alloc(), &addresses, &mask)?;
+            assert_eq!(rt; put.as_slice(), live.as_slice(), "{name}, of {count}");
+        }
+    }
     Ok(())
 }

@@ -1,33 +1,34 @@
-use Rattle.std.proofs.Common.{◌≡◌, ◌++◌, sym, ap, ◌∙◌, subst, OnOk}
-use Rattle.posting_code.specs.Postings.{ArePostings}
+use Rattle.std.proofs.Common.{◌≡◌, ◌++◌, ◌*◌, length, length-take, drop, ap, sym, subst, ◌∙◌, arith}
+use Rattle.posting_code.specs.Postings.{ArePostings, block_of}
+use Rattle.posting_code.proofs.Around.{block_rises}
 use Rattle.slot_terms.specs.Parts.{alive}
-use Rattle.slot_terms.proofs.Rising.{back_rises, all_alive}
+use Rattle.slot_terms.proofs.Between.{same_from, block_more_rises}
+use Rattle.slot_terms.proofs.LivePostings.{put_more}
 use Rattle.slot_terms.proofs.part.append_live.Goals as goal
 
-pub append-requires : goal.append-requires
-append-requires c =
-    let all = all_alive c.args.mask.now c.args.list.now (sym c.if-range_count-eq0.true ∙ c.range_count.ensures) in
-    subst (λ l. ArePostings (c.args.postings.now ++ l)) all c.requires
+pub append_between-requires-clause-few : goal.append_between-requires-clause-few
+append_between-requires-clause-few c =
+    let size = ap length c.block-block.ensures.value in
+    let long = length-take 64 (drop (64 * c.loop-block.block) c.args.list.now) in
+    omega (arith, size, long)
 
-pub returns-then-range_count-eq0 : goal.returns-then-range_count-eq0
-returns-then-range_count-eq0 c =
-    let all = all_alive c.args.mask.now c.args.list.now (sym c.if-range_count-eq0.true ∙ c.range_count.ensures) in
-    subst (λ l. OnOk c.append.result (c.append.new.self ≡ c.args.postings.now ++ l)) (sym all) c.append.ensures
+pub append_between-requires-clause-rising : goal.append_between-requires-clause-rising
+append_between-requires-clause-rising c =
+    let mask = c.args.mask.now in
+    let list = c.args.list.now in
+    let block = c.block-block.result in
+    let put = c.loop-block.postings in
+    let rising = subst ArePostings (sym c.block-block.ensures.value) (block_rises list c.loop-block.block c.block-block.ensures.rising) in
+    let same : alive c.ranges_from-ranges.result.now block ≡ alive mask (block_of list c.loop-block.block) =
+    same_from mask c.ranges_from-ranges.result.now block c.first.result rising c.first.ensures c.ranges_from-ranges.ensures.dead ∙ ap (alive mask) c.block-block.ensures.value in
+    subst (λ l. ArePostings (put ++ l)) (sym same) (block_more_rises mask list c.args.postings.now put c.loop-block.block c.loop-block.invariant c.requires)
 
-pub encode-requires : goal.encode-requires
-encode-requires c =
-    let live = alive c.args.mask.now c.args.list.now in
-    let is : c.deref.result.now ≡ live = c.deref.ensures.value ∙ c.in_ok-put_live.ensures ∙ ap (λ l. l ++ live) c.new-addresses.ensures.items in
-    subst ArePostings (sym is) (back_rises c.args.postings.now live c.requires)
-
-pub append-requires-2 : goal.append-requires-2
-append-requires-2 c =
-    let live = alive c.args.mask.now c.args.list.now in
-    let is : c.deref.result.now ≡ live = c.deref.ensures.value ∙ c.in_ok-put_live.ensures ∙ ap (λ l. l ++ live) c.new-addresses.ensures.items in
-    subst (λ l. ArePostings (c.args.postings.now ++ l)) (sym (c.as_postings.ensures ∙ c.in_ok-live.ensures ∙ is)) c.requires
-
-pub returns : goal.returns
-returns c =
-    let live = alive c.args.mask.now c.args.list.now in
-    let is : c.deref.result.now ≡ live = c.deref.ensures.value ∙ c.in_ok-put_live.ensures ∙ ap (λ l. l ++ live) c.new-addresses.ensures.items in
-    subst (λ l. OnOk c.append-2.result (c.append-2.new.self ≡ c.args.postings.now ++ l)) (c.as_postings.ensures ∙ c.in_ok-live.ensures ∙ is) c.append-2.ensures
+pub loop-block-preserved : goal.loop-block-preserved
+loop-block-preserved c =
+    let mask = c.args.mask.now in
+    let list = c.args.list.now in
+    let block = c.block-block.result in
+    let put = c.loop-block.postings in
+    let rising = subst ArePostings (sym c.block-block.ensures.value) (block_rises list c.loop-block.block c.block-block.ensures.rising) in
+    let same : alive c.ranges_from-ranges.result.now block ≡ alive mask block = same_from mask c.ranges_from-ranges.result.now block c.first.result rising c.first.ensures c.ranges_from-ranges.ensures.dead in
+    put_more mask list block c.args.postings.now put c.append_between.new.postings c.loop-block.block c.block-block.ensures.value c.loop-block.invariant (c.in_ok-append_between.ensures ∙ ap (λ l. put ++ l) same)
