@@ -1,11 +1,11 @@
-ghost use Rattle.std.specs.Prelude.{◌≡◌, ◌*◌, ◌-◌, ◌<◌, ◌≤◌, length, slice_index, slice_get, take, IsTrue};
+ghost use Rattle.std.specs.Prelude.{◌≡◌, ◌*◌, ◌-◌, ◌<◌, ◌≤◌, length, slice_index, slice_get, take, IfSome, IsTrue};
 ghost use Rattle.index_shard.specs.Searched.{nearest};
 ghost use Rattle.posting_code.specs.Postings.{ArePostings, block_of, blocks_of};
 ghost use Rattle.posting_access.specs.Search.{least_from, greatest_to};
 ghost use Rattle.live_version.specs.Contents.{IsVersion};
-ghost use Rattle.term_fingers.specs.Lists.{LackPairs, TellsNearest, list_of};
+ghost use Rattle.term_fingers.specs.Lists.{IsAtHand, LackPairs, TellsNearest, list_of};
 
-use crate::members::{greatest_in, least_in, reach_around};
+use crate::members::{greatest_in, least_in, nearest_in, reach_around};
 use crate::naming::Naming;
 use crate::near::border_near;
 use crate::pairs::earliest_pair_in;
@@ -80,6 +80,27 @@ impl<J: Naming> Finger<J> {
         other.at = behind;
         other.again = true;
         address
+    }
+
+    /// The address that is nearest to `k` on one side, in this finger's list, where `k` lies between the ends of the members that were read
+    /// last.
+    #[inline]
+    pub(crate) fn at_hand<P: Ledger>(
+        &mut self,
+        k: u64,
+        direction: Direction,
+        probes: &mut Steps<P>,
+    ) -> Option<u64>
+        requires { IsVersion J.version }
+        ensures { IfSome result (IsAtHand direction (list_of J.version.slots self.old.slot self.old.place) k) }
+    {
+        let members = &self.members[..self.count];
+        if !reach_around(members, k) {
+            return None;
+        }
+        let (found, at) = nearest_in(members, self.at, k, direction, probes);
+        self.at = at;
+        found
     }
 
     /// The address that is nearest to `k` on one side, in the list at a place of the slot with this number.

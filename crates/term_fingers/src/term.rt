@@ -1,6 +1,6 @@
-ghost use Rattle.std.specs.Prelude.{◌≡◌, ◌≤◌, Some, IsTrue, false, length, slice_get, take};
+ghost use Rattle.std.specs.Prelude.{◌≡◌, ◌≤◌, Some, IfSome, IsTrue, false, length, slice_get, take};
 ghost use Rattle.gcl_model.specs.Limits.{most_slots};
-ghost use Rattle.gcl_model.specs.Texts.{any_pair};
+ghost use Rattle.gcl_model.specs.Texts.{any_pair, places};
 ghost use Rattle.index_shard.specs.Searched.{nearest};
 ghost use Rattle.index_shard.specs.Tables.{place_of, postings_of};
 ghost use Rattle.live_version.specs.Contents.{IsVersion, live_of};
@@ -8,6 +8,7 @@ ghost use Rattle.term_fingers.specs.Lists.{places_of, shard_at};
 
 use crate::finger::Finger;
 use crate::naming::Naming;
+use crate::whole::WholeSlots;
 use gcl_model::{Direction, Ledger, Steps};
 use index_shard::Shard;
 use live_version::{Slot, Version};
@@ -66,6 +67,46 @@ impl<'a, J: Naming> Term<'a, J> {
                 Direction::Backward => at_or_before(&list, k, probes),
             },
         }
+    }
+
+    /// The place of the term in the version that is nearest to `k` on one side, where its finger's members reach around `k` and nothing in
+    /// their slot is dead.
+    #[inline]
+    pub(crate) fn at_hand<P: Ledger>(
+        &self,
+        whole: &WholeSlots<J>,
+        k: u64,
+        direction: Direction,
+        probes: &mut Steps<P>,
+    ) -> Option<u64>
+        requires { IsVersion J.version }
+        ensures { IfSome result (λ p. Some p ≡ nearest direction (places (live_of J.version.slots) self.now.bytes.now) k) }
+    {
+        // else another look-up of the term is under way
+        let Ok(mut finger) = self.finger.try_borrow_mut() else {
+            return None;
+        };
+        self.at_hand_by(whole, &mut finger, k, direction, probes)
+    }
+
+    /// The same by its finger.
+    #[inline]
+    fn at_hand_by<P: Ledger>(
+        &self,
+        whole: &WholeSlots<J>,
+        finger: &mut Finger<J>,
+        k: u64,
+        direction: Direction,
+        probes: &mut Steps<P>,
+    ) -> Option<u64>
+        requires { IsVersion J.version }
+        ensures { IfSome result (λ p. Some p ≡ nearest direction (places (live_of J.version.slots) self.now.bytes.now) k) }
+    {
+        let slot = finger.slot();
+        if !whole.has(slot) || !self.has_place(slot, finger.place()) {
+            return None;
+        }
+        finger.at_hand(k, direction, probes)
     }
 
     /// An address from `k` on before which the other term nowhere stands right behind this one, as far as their fingers tell.
