@@ -2,3 +2,4 @@ pub mod Nearest
 pub mod Places
 pub mod Beside
 pub mod AtHand
+pub mod Found

@@ -9,7 +9,7 @@ use crate::term::Term;
 use crate::whole::WholeSlots;
 use crate::words::add_words;
 use arrayvec::ArrayVec;
-use gcl_model::{Direction, Expr, Leaves, Ledger, Span, Steps};
+use gcl_model::{Direction, Expr, Leaves, Ledger, Pair, Span, Steps};
 use live_version::Version;
 use std::marker::{Brand, Model};
 use std::sync::ledger::Blank;
@@ -70,16 +70,20 @@ impl<'a, J: Naming> Leaves for Fingers<'a, J> {
             .previous_of(&ByFinger::<J, L>::new(found), k, steps)
     }
 
-    fn earliest_pair(&self, first: &[u8], second: &[u8], k: u64) -> u64 {
+    fn earliest_pair(&self, first: &[u8], second: &[u8], k: u64) -> Pair {
+        let unknown = Pair {
+            at: k,
+            found: false,
+        };
         // any call of the version tells that it is one
         let _next = self.version.next();
-        let Some(found) = self.find(first) else {
-            return k;
+        let Some(term) = self.find(first) else {
+            return unknown;
         };
         let Some(behind) = self.find(second) else {
-            return k;
+            return unknown;
         };
-        found.earliest_pair(behind, k)
+        term.earliest_pair(behind, &self.whole, k)
     }
 
     fn span(&self) -> Span {
