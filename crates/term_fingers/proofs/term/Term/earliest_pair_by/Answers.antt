@@ -16,11 +16,11 @@ returns-clause-none g c =
     let finger = c.args.finger.now in
     let behind = c.args.behind.now in
     let k = c.args.k in
-    let r = c.earliest_pair.result in
+    let r = c.earliest_pair-pair.result.at in
     let same : behind.slot ≡ finger.slot = sym c.slot.ensures ∙ c.if-slot.false ∙ c.slot-slot.ensures in
     let here : slice_get term.places finger.slot ≡ Some (Some finger.place) =
     ap (slice_get term.places) (sym c.slot-slot.ensures) ∙ c.has_place.ensures c.if-not-has_place.false ∙ ap (λ n. Some (Some n)) c.place.ensures in
     let here_behind : slice_get other.places finger.slot ≡ Some (Some behind.place) =
     ap (slice_get other.places) (sym c.slot-slot.ensures) ∙ c.has_place-else-not-has_place.ensures c.if-not-has_place-2.false ∙ ap (λ n. Some (Some n)) c.place-else-not-has_place.ensures in
     version_lacks v finger.slot finger.place behind.place term.bytes.now other.bytes.now term.places other.places k r c.requires term.found other.found here here_behind
-    (subst (λ n. LackPairs (list_of v.slots finger.slot finger.place) (list_of v.slots n behind.place) k r) same c.earliest_pair.ensures.none)
+    (subst (λ n. LackPairs (list_of v.slots finger.slot finger.place) (list_of v.slots n behind.place) k r) same c.earliest_pair-pair.ensures.none)
