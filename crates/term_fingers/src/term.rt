@@ -159,7 +159,7 @@ impl<'a, J: Naming> Term<'a, J> {
         let pair = finger.earliest_pair(behind, k);
         Pair {
             at: pair.at,
-            found: pair.found && whole.has(slot),
+            found: whole.believes(slot, pair.found),
         }
     }
 

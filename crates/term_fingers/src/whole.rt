@@ -37,6 +37,14 @@ impl<J: Naming> WholeSlots<J> {
         }
         self.whole[number]
     }
+
+    /// Whether what was found in the lists of the slot with this number stands in the version for sure: where nothing of the slot is dead.
+    pub(crate) fn believes(&self, number: usize, found: bool) -> bool
+        ensures found { IsTrue result → IsTrue found }
+        ensures whole { IsTrue result → HasNoDead J.version.slots number }
+    {
+        found && self.has(number)
+    }
 }
 
 /// Whether each slot has no dead range, by the slot's number.
