@@ -1,14 +1,13 @@
 -- What a member of a list tells of a whole version, where nothing of its slot is dead.
-use Rattle.std.proofs.Common.{◌≡◌, ℕ, zero, suc, ◌+◌, ◌<◌, ◌⊎◌, true, false, ◌&&◌, eqb, List, [], ◌∷◌, length, take, filter, get_or, Option, Some, None, slice_get, inl, inr, refl, sym, ap, ◌∙◌, subst, arith, bytes_eq}
+use Rattle.std.proofs.Common.{◌≡◌, ℕ, zero, suc, ◌<◌, ◌⊎◌, true, false, ◌&&◌, eqb, List, [], ◌∷◌, length, take, filter, get_or, Option, Some, None, slice_get, inl, inr, refl, sym, ap, ◌∙◌, subst, arith, bytes_eq}
 use Rattle.std.specs.Option.{option_map}
-use Rattle.std.specs.List.{list_any}
 use Rattle.std.proofs.lemmas.Bool.{cases_Bool, or_left, or_right, and_from, eq-eqb}
 use Rattle.std.proofs.lemmas.List.Folds.{list_any-append}
 use Rattle.gcl_model.specs.Texts.{Word, is_word, holds, places}
 use Rattle.gcl_model.proofs.Lists.{filter_all}
 use Rattle.posting_code.specs.Postings.{block_of}
 use Rattle.index_shard.specs.Tables.{postings_of}
-use Rattle.live_version.specs.Contents.{SlotContent, VersionContent, IsSlot, IsVersion, live_words, live_of}
+use Rattle.live_version.specs.Contents.{SlotContent, VersionContent, IsVersion, live_words, live_of}
 use Rattle.live_version.specs.LookUps.{is_alive}
 use Rattle.live_version.proofs.WordLemmas.{live_places}
 use Rattle.term_fingers.specs.Lists.{HasNoDead, IsAt, addresses_in, list_of, places_of}

@@ -1,8 +1,5 @@
-use Rattle.std.proofs.Common.{◌≡◌, ◌+◌, ◌-◌, ◌<◌, ◌≤◌, ℕ, List, false, true, sym, ap, ◌∙◌, subst, arith}
-use Rattle.std.proofs.lemmas.Bool.{true≢false}
-use Rattle.gcl_model.specs.Texts.{Text, any_pair, holds}
-use Rattle.gcl_model.proofs.Pairs.{pair_there}
-use Rattle.phrase_walk.specs.Starts.{IsFollowed, IsInPlace, NoneBefore}
+use Rattle.std.proofs.Common.{◌≡◌, ◌+◌, ◌-◌, ◌<◌, ◌∙◌, subst, arith}
+use Rattle.phrase_walk.specs.Starts.{IsInPlace}
 use Rattle.phrase_walk.proofs.Places.{Held, held_within}
 use Rattle.phrase_walk.proofs.Steps.{none_before_pair}
 use Rattle.phrase_walk.proofs.Rows.{token_at, token_is}

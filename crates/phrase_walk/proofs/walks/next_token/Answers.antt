@@ -1,6 +1,6 @@
-use Rattle.std.proofs.Common.{◌≡◌, ◌+◌, ◌-◌, ◌≤◌, None, Some, sym, subst, ◌∙◌, arith, le_refl}
+use Rattle.std.proofs.Common.{◌≡◌, ◌+◌, None, Some, sym, subst, ◌∙◌, arith, le_refl}
 use Rattle.gcl_model.specs.Texts.{next_place}
-use Rattle.phrase_walk.specs.Starts.{LeadsTo, NoneBefore, IsInPlace}
+use Rattle.phrase_walk.specs.Starts.{LeadsTo}
 use Rattle.phrase_walk.proofs.Rows.{token_at, token_is}
 use Rattle.phrase_walk.proofs.Steps.{leads_to_next, leads_to_place, none_from_next}
 use Rattle.phrase_walk.proofs.walks.next_token.Goals as goal
