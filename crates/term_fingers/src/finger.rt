@@ -167,7 +167,7 @@ impl<J: Naming> Finger<J> {
         }
         match self.least_in_block(list, slot, place, near.saturating_sub(1), k, probes) {
             Some(address) => Some(address),
-            None => first_of_block(list, near),
+            None => self.first_of(list, slot, place, near),
         }
     }
 
@@ -192,6 +192,28 @@ impl<J: Naming> Finger<J> {
         let (found, at) = least_in(&self.members[..self.count], self.at, k, probes);
         self.at = at;
         found
+    }
+
+    /// The first address of a block, if there is such a block. It is read where the one before it was looked into again.
+    fn first_of(
+        &mut self,
+        list: &Postings<'_>,
+        slot: usize,
+        place: usize,
+        block: usize,
+    ) -> Option<u64>
+        requires list { list.now ≡ list_of J.version.slots slot place }
+        requires block { block ≤ blocks_of list.now }
+        ensures { result ≡ slice_get list.now (64 * block) }
+    {
+        if block == list.block_count() {
+            return None;
+        }
+        if self.again {
+            self.again = false;
+            self.read(list, slot, place, block);
+        }
+        Some(list.block_first(block))
     }
 
     /// The greatest address at or before `k`.
@@ -299,15 +321,4 @@ fn blocks_up_to<P: Ledger>(list: &Postings<'_>, hint: usize, k: u64, probes: &mu
     ensures rising { ArePostings list.now }
 {
     border_near(&BlocksUpTo { list, k }, list.block_count(), hint, probes)
-}
-
-/// The first address of a block, if there is such a block.
-fn first_of_block(list: &Postings<'_>, block: usize) -> Option<u64>
-    requires { block ≤ blocks_of list.now }
-    ensures { result ≡ slice_get list.now (64 * block) }
-{
-    if block == list.block_count() {
-        return None;
-    }
-    Some(list.block_first(block))
 }
