@@ -1,7 +1,8 @@
-ghost use Rattle.std.specs.Prelude.{◌≡◌, ◌+◌, ◌≤◌, false};
-ghost use Rattle.gcl_model.specs.Texts.{next_place, previous_place, any_pair};
+ghost use Rattle.std.specs.Prelude.{◌≡◌, ◌+◌, ◌≤◌, true, false, IsTrue};
+ghost use Rattle.gcl_model.specs.Texts.{holds, next_place, previous_place, any_pair};
 
 use crate::leaves::Leaves;
+use crate::pair::Pair;
 use crate::span::Span;
 use crate::steps::{Ledger, Steps};
 use std::marker::PhantomData;
@@ -38,10 +39,12 @@ pub trait CountedLeaves {
         ensures counted { count counter.old ≤ count counter.new }
         ensures cost { count counter.new ≤ count counter.old + most self.now };
 
-    /// An address from `k` on before which `second` nowhere stands right behind `first`, as far as it is known without a look-up.
-    fn earliest_pair(&self, first: &[u8], second: &[u8], k: u64) -> u64
-        ensures from { k ≤ result }
-        ensures none { any_pair (text self.now).words first.now second.now k result ≡ false };
+    /// An address from `k` on before which `second` nowhere stands right behind `first`, and whether it does there, as far as it is known
+    /// without a look-up.
+    fn earliest_pair(&self, first: &[u8], second: &[u8], k: u64) -> Pair
+        ensures from { k ≤ result.at }
+        ensures none { any_pair (text self.now).words first.now second.now k result.at ≡ false }
+        ensures found { IsTrue result.found → (holds (text self.now).words first.now result.at ≡ true) × (holds (text self.now).words second.now (result.at + 1) ≡ true) };
 
     /// The addresses, and what holds of the words.
     fn span(&self) -> Span
@@ -86,7 +89,7 @@ impl<L: Leaves, S: Ledger> CountedLeaves for LentLeaves<'_, L, S> {
         self.leaves.prev(term, k, steps)
     }
 
-    fn earliest_pair(&self, first: &[u8], second: &[u8], k: u64) -> u64 {
+    fn earliest_pair(&self, first: &[u8], second: &[u8], k: u64) -> Pair {
         self.leaves.earliest_pair(first, second, k)
     }
 

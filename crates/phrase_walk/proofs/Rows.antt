@@ -4,6 +4,7 @@ use Rattle.std.proofs.lemmas.Bool.{and_parts, and_from}
 use Rattle.gcl_model.specs.Texts.{Text, Word, holds, places}
 use Rattle.gcl_model.specs.Meaning.{holds_in_row}
 use Rattle.gcl_model.specs.Cost.{fewest_places}
+pub use Rattle.phrase_walk.specs.Starts.{IsInPlace, token_at}
 use Rattle.phrase_walk.proofs.Places.{Held}
 
 -- the tokens stand in a row from p on
@@ -13,19 +14,11 @@ InRow text tokens p = holds_in_row text.words tokens p ≡ true
 pub row_parts : (text : Text) (token : List ℕ) (tokens : List (List ℕ)) (r : ℕ) → InRow text (token ∷ tokens) r → Held text token r × InRow text tokens (r + 1)
 row_parts text token tokens r row = and_parts (holds text.words token r) (holds_in_row text.words tokens (r + 1)) row
 
--- the token with this number in a phrase
-abbrev pub token_at : List (List ℕ) → ℕ → List ℕ
-token_at tokens i = get_or tokens i []
-
 -- the token with a number, whatever stands for those that are not there
 pub token_is : (tokens : List (List ℕ)) (i : ℕ) (d token : List ℕ) → i < length tokens → token ≡ get_or tokens i d → token ≡ token_at tokens i
 token_is [] i d token lt is = absurd (omega arith)
 token_is (t ∷ ts) zero d token lt is = is
 token_is (t ∷ ts) (suc i) d token lt is = token_is ts i d token (omega arith) is
-
--- the token with a number stands in its place of the row from s on
-abbrev pub IsInPlace : Text → List (List ℕ) → ℕ → ℕ → Type 0
-IsInPlace text tokens s i = Held text (token_at tokens i) (s + i)
 
 -- in a row each token stands in its place, and where each does, they are a row
 pub row_place : (text : Text) (tokens : List (List ℕ)) (r i : ℕ) → i < length tokens → InRow text tokens r → IsInPlace text tokens r i

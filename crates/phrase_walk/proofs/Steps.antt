@@ -1,16 +1,17 @@
 -- The steps of the walks, token by token.
-use Rattle.std.proofs.Common.{◌≡◌, ℕ, ◌+◌, ◌-◌, ◌*◌, ◌<◌, ◌≤◌, ◌⊎◌, List, length, Some, None, inl, inr, refl, sym, subst, arith}
-use Rattle.std.proofs.lemmas.Bool.{cases_lt}
+use Rattle.std.proofs.Common.{◌≡◌, ℕ, ◌+◌, ◌-◌, ◌*◌, ◌<◌, ◌≤◌, ◌⊎◌, List, length, Some, None, false, inl, inr, refl, sym, subst, ◌∙◌, arith}
+use Rattle.std.proofs.lemmas.Bool.{true≢false, cases_lt}
 use Rattle.std.proofs.Math.Nat.{mul-le-mul_right}
 use Rattle.gcl_model.specs.Extents.{extent}
 use Rattle.gcl_model.specs.Access.{first_start, last_start}
-use Rattle.gcl_model.specs.Texts.{Text, IsText, next_place, previous_place, places}
+use Rattle.gcl_model.specs.Texts.{Text, IsText, any_pair, next_place, previous_place, places}
 use Rattle.gcl_model.specs.Forms.{phrase}
 use Rattle.gcl_model.specs.Meaning.{concordance}
 use Rattle.gcl_model.specs.Cost.{fewest_places}
+use Rattle.gcl_model.proofs.Pairs.{pair_there}
 use Rattle.phrase_walk.specs.Rounds.{rounds_cost}
-pub use Rattle.phrase_walk.specs.Starts.{NoneBefore}
-use Rattle.phrase_walk.proofs.Places.{Held, next_tells, none_next, previous_tells, none_previous}
+pub use Rattle.phrase_walk.specs.Starts.{LeadsTo, NoneBefore, NoneFrom}
+use Rattle.phrase_walk.proofs.Places.{Held, held_within, next_tells, none_next, previous_tells, none_previous}
 use Rattle.phrase_walk.proofs.Rows.{InRow, token_at, IsInPlace, row_place, places_row, fewest_of_each}
 use Rattle.phrase_walk.proofs.Passed.{places_before, before_most, before_rises, before_more}
 use Rattle.phrase_walk.proofs.Members.{row_within, first_row, no_first_row, last_row, no_last_row}
@@ -24,6 +25,16 @@ none_before_on text tokens k s from before between r ge less row =
       | inl lt ↦ before r ge lt row
       | inr le ↦ between r le less row
     ]
+
+-- where the first two tokens nowhere stand side by side before an address, no row starts before one that is not behind it
+pub none_before_pair : (text : Text) (tokens : List (List ℕ)) (first second : List ℕ) (k s r : ℕ) → 1 < length tokens → first ≡ token_at tokens 0 → second ≡ token_at tokens 1 → s ≤ r →
+    any_pair text.words first second k r ≡ false → NoneBefore text tokens k s
+none_before_pair text tokens first second k s r two is is_behind upto none = λ p ge less row.
+    let here : p + 0 ≡ p = omega arith in
+    let held : Held text (token_at tokens 0) p = subst (Held text (token_at tokens 0)) here (row_place text tokens p 0 (omega (arith, two)) row) in
+    true≢false (sym (pair_there text.words first second k r p ge (omega (arith, less, upto))
+    (subst (λ t. Held text t p) (sym is) held)
+    (subst (λ t. Held text t (p + 1)) (sym is_behind) (row_place text tokens p 1 two row))) ∙ none)
 
 -- no row starts from behind s up to k
 abbrev pub NoneBehind : Text → List (List ℕ) → ℕ → ℕ → Type 0
@@ -76,28 +87,49 @@ closer_back start place at m agreed following few room upto (inr (e, n)) =
     closer start (place - at) m agreed following few (omega (arith, n, few)) (omega (arith, n)) (inr (omega (arith, e, room, upto)))
 
 module _ (text : Text) (tokens : List (List ℕ)) (sound : IsText text) (some : 1 ≤ length tokens) where
-  pub next_within : (i s q : ℕ) → Some q ≡ next_place text.words (token_at tokens i) (s + i) → (s + i ≤ q) × (q < text.next)
-  next_within i s q is =
-      let n = next_tells text (token_at tokens i) sound (s + i) q (sym is) in
-      (n.from, n.within)
+  -- no row starts before the one in which the token stands at its next place, from a start on before which none does
+  pub leads_to_next : (s from i q : ℕ) → i < length tokens → s ≤ from → NoneBefore text tokens s from → Some q ≡ next_place text.words (token_at tokens i) (from + i) → LeadsTo text tokens i s q
+  leads_to_next s from i q lt ahead before is =
+      let n = next_tells text (token_at tokens i) sound (from + i) q (sym is) in
+      let above : from + i ≤ q = n.from in
+      record {
+        held = n.held;
+        from = omega (arith, above, ahead);
+        within = n.within;
+        none = λ r ge less row.
+            elim (cases_lt r from) [
+              | inl below ↦ before r ge below row
+              | inr on ↦
+                  let le : q ≤ r + i = n.least (r + i) (row_place text tokens r i lt row) (omega (arith, on)) in
+                  omega (arith, le, less)
+            ];
+      }
 
-  -- no row starts before the one in which the token stands at its next place
-  pub none_before_next : (k s i q : ℕ) → i < length tokens → Some q ≡ next_place text.words (token_at tokens i) (s + i) → NoneBefore text tokens k s → NoneBefore text tokens k (q - i)
-  none_before_next k s i q lt is before r ge less row =
-      elim (cases_lt r s) [
+  -- where it has none, no row starts
+  pub none_from_next : (s from i : ℕ) → i < length tokens → NoneBefore text tokens s from → None ≡ next_place text.words (token_at tokens i) (from + i) → NoneFrom text tokens s
+  none_from_next s from i lt before is = λ r ge row.
+      elim (cases_lt r from) [
         | inl below ↦ before r ge below row
-        | inr from ↦
-            let n = next_tells text (token_at tokens i) sound (s + i) q (sym is) in
-            let le : q ≤ r + i = n.least (r + i) (row_place text tokens r i lt row) (omega (arith, from)) in
-            omega (arith, le, less)
+        | inr on ↦ none_next text (token_at tokens i) sound (from + i) (sym is) (r + i) (row_place text tokens r i lt row) (omega (arith, on))
       ]
 
-  pub no_next : (k s i : ℕ) → i < length tokens → None ≡ next_place text.words (token_at tokens i) (s + i) → NoneBefore text tokens k s → None ≡ first_start (concordance text (phrase tokens)) k
-  no_next k s i lt is before =
+  -- a token that stands in its place leads to there
+  pub leads_to_place : (s from i : ℕ) → i < length tokens → s ≤ from → NoneBefore text tokens s from → IsInPlace text tokens from i → LeadsTo text tokens i s (from + i)
+  leads_to_place s from i lt ahead before held =
+      let back : from ≡ from + i - i = omega arith in
+      record {
+        held = held;
+        from = omega (arith, ahead);
+        within = (held_within text.next text.first text.words (token_at tokens i) (from + i) sound.rising held).1;
+        none = subst (NoneBefore text tokens s) back before;
+      }
+
+  pub no_more : (k s : ℕ) → NoneBefore text tokens k s → NoneFrom text tokens s → None ≡ first_start (concordance text (phrase tokens)) k
+  no_more k s before none =
       sym (no_first_row text tokens k (λ r ge row.
       elim (cases_lt r s) [
         | inl below ↦ before r ge below row
-        | inr from ↦ none_next text (token_at tokens i) sound (s + i) (sym is) (r + i) (row_place text tokens r i lt row) (omega (arith, from))
+        | inr from ↦ none r from row
       ]))
 
   pub forward_past : (k : ℕ) → text.next ≤ k → None ≡ first_start (concordance text (phrase tokens)) k
@@ -106,36 +138,33 @@ module _ (text : Text) (tokens : List (List ℕ)) (sound : IsText text) (some : 
       let below : r + length tokens ≤ text.next = (row_within text sound tokens r some row).1 in
       omega (arith, below, ge, past, some)))
 
-  -- the token is looked up from a start on that is not before the one that was reached
-  module _ (turn agreed s from most old now after q : ℕ) (few : agreed < length tokens) (step : after ≤ now + most) (ahead : s ≤ from) (is : Some q ≡ next_place text.words (token_at tokens turn) (from + turn)) where
+  -- the token stands in its place of a row that does not start before the one that was reached
+  module _ (turn agreed s most old now after q : ℕ) (few : agreed < length tokens) (step : after ≤ now + most) (above : s + turn ≤ q) (held : Held text (token_at tokens turn) q) where
     held_next : (t : ℕ) → q - turn ≡ t → IsInPlace text tokens t turn
     held_next t e =
-        let n = next_tells text (token_at tokens turn) sound (from + turn) q (sym is) in
-        let above : from + turn ≤ q = n.from in
         let same : q ≡ t + turn = omega (arith, above, e) in
-        subst (Held text (token_at tokens turn)) same n.held
+        subst (Held text (token_at tokens turn)) same held
 
     forward_stays : q - turn ≡ s → IsAskedForward text tokens turn agreed s most old now → IsAskedForward text tokens (turn + 1) (agreed + 1) s most old after
     forward_stays e asked = asked_stays (length tokens) turn agreed few (passed_upto text tokens s) (IsInPlace text tokens s) most old now after step asked (held_next s e)
 
     forward_moves : (q - turn ≡ s → ⊥) → IsAskedForward text tokens turn agreed s most old now → IsAskedForward text tokens (turn + 1) 1 (q - turn) most old after
     forward_moves moved asked =
-        let above : from + turn ≤ q = (next_within turn from q is).0 in
         asked_moves (length tokens) turn agreed few (passed_upto text tokens s) (IsInPlace text tokens s) most old now after step asked
         (passed_upto text tokens (q - turn)) (IsInPlace text tokens (q - turn))
-        (λ i lt. before_rises text.words (token_at tokens i) (s + i) (q - turn + i) (omega (arith, above, ahead)))
-        (λ i lt held. before_more text.words (token_at tokens i) (s + i) (s + i) (q - turn + i) held (omega arith) (omega (arith, above, ahead, moved)))
+        (λ i lt. before_rises text.words (token_at tokens i) (s + i) (q - turn + i) (omega (arith, above)))
+        (λ i lt held. before_more text.words (token_at tokens i) (s + i) (s + i) (q - turn + i) held (omega arith) (omega (arith, above, moved)))
         (held_next (q - turn) refl)
 
   -- after a token was asked, whether it agreed or leads on
-  pub forward_on : (turn agreed following s from most old now after q : ℕ) → agreed < length tokens → after ≤ now + most → s ≤ from → Some q ≡ next_place text.words (token_at tokens turn) (from + turn) →
+  pub forward_on : (turn agreed following s most old now after q : ℕ) → agreed < length tokens → after ≤ now + most → s + turn ≤ q → Held text (token_at tokens turn) q →
       Leads (q - turn) s agreed following →
       IsAskedForward text tokens turn agreed s most old now → IsAskedForward text tokens (turn + 1) following (q - turn) most old after
-  forward_on turn agreed following s from most old now after q few step ahead is (inl (e, n)) asked =
+  forward_on turn agreed following s most old now after q few step above held (inl (e, n)) asked =
       subst (λ t. IsAskedForward text tokens (turn + 1) following t most old after) (sym e)
-      (subst (λ f. IsAskedForward text tokens (turn + 1) f s most old after) (sym n) (forward_stays turn agreed s from most old now after q few step ahead is e asked))
-  forward_on turn agreed following s from most old now after q few step ahead is (inr (moved, n)) asked =
-      subst (λ f. IsAskedForward text tokens (turn + 1) f (q - turn) most old after) (sym n) (forward_moves turn agreed s from most old now after q few step ahead is moved asked)
+      (subst (λ f. IsAskedForward text tokens (turn + 1) f s most old after) (sym n) (forward_stays turn agreed s most old now after q few step above held e asked))
+  forward_on turn agreed following s most old now after q few step above held (inr (moved, n)) asked =
+      subst (λ f. IsAskedForward text tokens (turn + 1) f (q - turn) most old after) (sym n) (forward_moves turn agreed s most old now after q few step above held moved asked)
 
   -- where each token agreed, this is the first row
   pub forward_found : (k s turn most old now : ℕ) → turn ≤ length tokens → k ≤ s → NoneBefore text tokens k s → IsAskedForward text tokens turn (length tokens) s most old now →

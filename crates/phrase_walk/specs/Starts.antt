@@ -1,8 +1,32 @@
 -- Where rows of tokens start.
-use Rattle.std.specs.Prelude.{◌≡◌, ℕ, ◌<◌, ◌≤◌, true, List}
-use Rattle.gcl_model.specs.Texts.{Text}
+use Rattle.std.specs.Prelude.{◌≡◌, ℕ, ◌+◌, ◌-◌, ◌<◌, ◌≤◌, true, List, [], length, get_or}
+use Rattle.gcl_model.specs.Texts.{Text, holds}
 use Rattle.gcl_model.specs.Meaning.{holds_in_row}
 
 -- no row of the tokens starts from k on before s: none of "a b" does from 1 on before 3 in `0 a, 1 b, 2 c, 3 a, 4 b`
 abbrev pub NoneBefore : Text → List (List ℕ) → ℕ → ℕ → Type 0
 NoneBefore text tokens k s = (r : ℕ) → k ≤ r → r < s → holds_in_row text.words tokens r ≡ true → ⊥
+
+-- no row of the tokens starts from k on: none of "a b" does from 4 on there
+abbrev pub NoneFrom : Text → List (List ℕ) → ℕ → Type 0
+NoneFrom text tokens k = (r : ℕ) → k ≤ r → holds_in_row text.words tokens r ≡ true → ⊥
+
+-- the token with this number in a phrase
+abbrev pub token_at : List (List ℕ) → ℕ → List ℕ
+token_at tokens i = get_or tokens i []
+
+-- the token with a number stands in its place of the row from s on: that with the number 1 of "a b" does in the row from 3 on there
+abbrev pub IsInPlace : Text → List (List ℕ) → ℕ → ℕ → Type 0
+IsInPlace text tokens s i = holds text.words (token_at tokens i) (s + i) ≡ true
+
+-- the token at this turn stands at place q, and no row starts from s on before the one in which it stands there
+pub record LeadsTo (text : Text) (tokens : List (List ℕ)) (turn s q : ℕ) : Type 0 where
+  pub held : holds text.words (token_at tokens turn) q ≡ true
+  pub from : s + turn ≤ q
+  pub within : q < text.next
+  pub none : NoneBefore text tokens s (q - turn)
+
+-- the token that comes after the one at this turn stands right behind q, the place of that one
+pub record IsFollowed (text : Text) (tokens : List (List ℕ)) (turn q : ℕ) : Type 0 where
+  pub more : turn + 1 < length tokens
+  pub behind : IsInPlace text tokens (q - turn) (turn + 1)

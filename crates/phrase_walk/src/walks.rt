@@ -1,12 +1,13 @@
-ghost use Rattle.std.specs.Prelude.{◌≡◌, ◌+◌, ◌<◌, ◌≤◌, length};
+ghost use Rattle.std.specs.Prelude.{◌≡◌, ◌+◌, ◌<◌, ◌≤◌, length, IfSome, IsNone, IsTrue};
 ghost use Rattle.gcl_model.specs.Access.{first_start, last_start};
 ghost use Rattle.gcl_model.specs.Forms.{phrase};
 ghost use Rattle.gcl_model.specs.Meaning.{concordance};
 ghost use Rattle.gcl_model.specs.Cost.{cost};
+ghost use Rattle.gcl_model.specs.Texts.{IsText};
 ghost use Rattle.phrase_walk.specs.Rounds.{rounds_cost};
-ghost use Rattle.phrase_walk.specs.Starts.{NoneBefore};
+ghost use Rattle.phrase_walk.specs.Starts.{IsFollowed, IsInPlace, LeadsTo, NoneBefore, NoneFrom};
 
-use gcl_model::{Bytes, CountedLeaves, Interval};
+use gcl_model::{Bytes, CountedLeaves, Interval, Pair};
 
 /// The first row of the tokens that starts at or after `k`.
 // The tokens are asked in a ring, each for its place in the row from the nearest start that is left: so the walk goes as far as the
@@ -30,31 +31,91 @@ pub(crate) fn first_from<C: CountedLeaves>(
     let mut start = k;
     let mut turn = 0usize;
     let mut agreed = 0usize;
+    let mut stands = false;
     while agreed < len {
-        let from = earliest_start(tokens, source, turn, start);
-        let place = source.next(tokens[turn].as_slice(), from + turn as u64, counter)?;
-        // No row starts before this: its token would stand before the first place.
-        let earliest = place - turn as u64;
+        let found = next_token(tokens, source, turn, start, stands, counter)?;
+        // No row starts before this: its token would stand before the place.
+        let earliest = found.place - turn as u64;
         agreed = if earliest == start { agreed + 1 } else { 1 };
         start = earliest;
         turn = next_turn(turn, len);
+        stands = found.followed;
     }
     Some(Interval::new(start, start + (len as u64 - 1)))
 }
 
-/// A start from this one on before which no row starts. It is a later one only at the first token's turn: where the source tells, without a
-/// look-up, that the second token does not stand right behind the first one before it.
-fn earliest_start<C: CountedLeaves>(tokens: &[Bytes], source: &C, turn: usize, start: u64) -> u64
+/// A place of a token, and whether the one that comes after it in the row is known to stand right behind it.
+#[derive(Drop)]
+struct Found {
+    place: u64,
+    followed: bool,
+}
+
+/// A place of the token at this turn such that no row starts from `start` on before its token stands there. A token of which it is known
+/// that it `stands` in its place, and the first two where they are known to stand side by side, are not looked up.
+fn next_token<C: CountedLeaves>(
+    tokens: &[Bytes],
+    source: &C,
+    turn: usize,
+    start: u64,
+    stands: bool,
+    counter: &mut C::Counter,
+) -> Option<Found>
+    requires turn { turn < length tokens.now }
+    requires start { start < (C.text source.now).next }
+    requires sound { IsText (C.text source.now) }
+    requires stands { IsTrue stands → IsInPlace (C.text source.now) tokens.now start turn }
+    ensures found { IfSome result (λ found. LeadsTo (C.text source.now) tokens.now turn start found.place) }
+    ensures followed { IfSome result (λ found. IsTrue found.followed → IsFollowed (C.text source.now) tokens.now turn found.place) }
+    ensures none { IsNone result → NoneFrom (C.text source.now) tokens.now start }
+    ensures counted { C.count counter.old ≤ C.count counter.new }
+    ensures cost { C.count counter.new ≤ C.count counter.old + C.most source.now }
+{
+    if stands {
+        return Some(Found {
+            place: start + turn as u64,
+            followed: false,
+        });
+    }
+    let pair = earliest_start(tokens, source, turn, start);
+    if pair.found {
+        return Some(Found {
+            place: pair.at,
+            followed: true,
+        });
+    }
+    let place = source.next(tokens[turn].as_slice(), pair.at + turn as u64, counter)?;
+    Some(Found {
+        place,
+        followed: false,
+    })
+}
+
+/// A start from this one on before which no row starts. At the first token's turn it is a later one where the source tells, without a
+/// look-up, that the second token does not stand right behind the first one before it. Where it does there, a pair is found.
+fn earliest_start<C: CountedLeaves>(tokens: &[Bytes], source: &C, turn: usize, start: u64) -> Pair
     requires { start < (C.text source.now).next }
-    ensures from { start ≤ result }
-    ensures within { result ≤ (C.text source.now).next }
-    ensures none { NoneBefore (C.text source.now) tokens.now start result }
+    ensures from { start ≤ result.at }
+    ensures within { result.at ≤ (C.text source.now).next }
+    ensures none { NoneBefore (C.text source.now) tokens.now start result.at }
+    ensures found { IsTrue result.found → (turn ≡ 0) × IsInPlace (C.text source.now) tokens.now result.at 0 × IsFollowed (C.text source.now) tokens.now turn result.at }
 {
     if turn > 0 || tokens.len() < 2 {
-        return start;
+        return Pair {
+            at: start,
+            found: false,
+        };
     }
+    // the span tells that the text is one, so a pair lies within it
+    let span = source.span();
     let pair = source.earliest_pair(tokens[0].as_slice(), tokens[1].as_slice(), start);
-    pair.min(source.span().next)
+    if pair.found {
+        return pair;
+    }
+    Pair {
+        at: pair.at.min(span.next),
+        found: false,
+    }
 }
 
 /// The last row of the tokens that starts at or before `k`.

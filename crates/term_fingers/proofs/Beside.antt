@@ -176,7 +176,7 @@ in_block xs part b p r is some low high at =
     rises low end (x ∷ xs) (suc i) (suc j) r lt within = rises (x + 1) end xs i j r.2 (omega (arith, lt)) (omega (arith, within))
 
 -- the member of a block is one of the list
-at_of_block : (xs part : List ℕ) (b i : ℕ) → part ≡ block_of xs b → i < length part → IsAt xs (get_or part i 0)
+pub at_of_block : (xs part : List ℕ) (b i : ℕ) → part ≡ block_of xs b → i < length part → IsAt xs (get_or part i 0)
 at_of_block xs part b i is lt = let m = block_member xs part b i is lt in record { place = 64 * b + i; within = m.0; is = m.1 }
 
 -- where both blocks have no pair up to an address that they reach, the lists have none
@@ -209,7 +209,7 @@ addresses_rise range (e ∷ es) zero table = table.0.rising
 addresses_rise range (e ∷ es) (suc i) table = addresses_rise range es i table.2
 
 -- a slot at a place of a version is one
-slot_is : (v : VersionContent) (number : ℕ) (slot : SlotContent) → IsVersion v → slice_get v.slots number ≡ Some slot → IsSlot slot
+pub slot_is : (v : VersionContent) (number : ℕ) (slot : SlotContent) → IsVersion v → slice_get v.slots number ≡ Some slot → IsSlot slot
 slot_is v number slot is at = subst IsSlot (get_or_from_slice_get v.slots number slot slot at) (all_at IsSlot v.slots number slot is.slots (slice_get_within v.slots number slot at))
 
 -- the lists in the slots of a version are postings
@@ -251,7 +251,7 @@ at_within low end xs p r at = subst (λ q. (low ≤ q) × (q < end)) at.is (rise
 
 module _ (v : VersionContent) (is : IsVersion v) (number : ℕ) (slot : SlotContent) (at : slice_get v.slots number ≡ Some slot) where
   -- the list at the place of a term in a slot has the term's postings
-  list_is : (term : List ℕ) (place : ℕ) (found : List (Option ℕ)) → take (length v.slots) found ≡ places_of term v.slots → slice_get found number ≡ Some (Some place) →
+  pub list_is : (term : List ℕ) (place : ℕ) (found : List (Option ℕ)) → take (length v.slots) found ≡ places_of term v.slots → slice_get found number ≡ Some (Some place) →
       list_of v.slots number place ≡ postings_of slot.shard.table term
   list_is term place found all here =
       let shard : shard_at v.slots number ≡ Some slot.shard = ap (option_map (λ (slot : SlotContent). slot.shard)) at in
@@ -260,7 +260,7 @@ module _ (v : VersionContent) (is : IsVersion v) (number : ℕ) (slot : SlotCont
       ap (λ o. addresses_in o place) shard ∙ (at_its_place slot.shard.table term place known).1
 
   -- its members lie inside the slot's range
-  postings_within : (term : List ℕ) (p : ℕ) → IsAt (postings_of slot.shard.table term) p → (slot.range.first ≤ p) × (p < slot.range.last + 1)
+  pub postings_within : (term : List ℕ) (p : ℕ) → IsAt (postings_of slot.shard.table term) p → (slot.range.first ≤ p) × (p < slot.range.last + 1)
   postings_within term p here =
       let good = slot_is v number slot is at in
       subst (λ (range : SlotRange). (range.first ≤ p) × (p < range.last + 1)) good.indexed

@@ -1,6 +1,8 @@
 -- The lists that the terms of a query have in the slots of a version.
-use Rattle.std.specs.Prelude.{◌≡◌, ℕ, ◌+◌, ◌<◌, ◌≤◌, nat_lt, if◌then◌else◌, List, [], length, map, Option, None, Some, slice_get, slice_index}
+use Rattle.std.specs.Prelude.{◌≡◌, ℕ, ◌+◌, ◌<◌, ◌≤◌, Bool, ◌==◌, nat_lt, if◌then◌else◌, List, [], length, map, Option, None, Some, slice_get, slice_index}
 use Rattle.std.specs.Option.{option_map}
+use Rattle.gcl_model.specs.declared.direction.Direction.{Direction}
+use Rattle.index_shard.specs.Searched.{nearest}
 use Rattle.index_shard.specs.Tables.{ShardContent, addresses_at, place_of}
 use Rattle.live_version.specs.Contents.{SlotContent}
 use Rattle.posting_code.specs.Postings.{ArePostings}
@@ -22,6 +24,18 @@ list_of slots number place = addresses_in (shard_at slots number) place
 -- for each slot the place of the term in its index, if the term is there
 abbrev pub places_of : List ℕ → List SlotContent → List (Option ℕ)
 places_of term slots = map (λ (slot : SlotContent). place_of slot.shard.table term) slots
+
+-- whether a slot has no dead range
+abbrev pub is_whole : SlotContent → Bool
+is_whole slot = length slot.mask == 0
+
+-- for each slot whether it has no dead range
+abbrev pub whole_of : List SlotContent → List Bool
+whole_of slots = map is_whole slots
+
+-- the slot with a number has no dead range, if there is one
+abbrev pub HasNoDead : List SlotContent → ℕ → Type 0
+HasNoDead slots number = (slot : SlotContent) → slice_get slots number ≡ Some slot → slot.mask ≡ []
 
 -- a part of a list tells what is nearest to k on either side: of 2, 5, 9 and 12 the part 5, 9 tells it at 6
 pub record TellsNearest (list part : List ℕ) (k : ℕ) : Type 0 where
@@ -57,3 +71,8 @@ pub record LieAround (first second : List ℕ) (k r : ℕ) : Type 0 where
 pub record LackPairs (first second : List ℕ) (k r : ℕ) : Type 0 where
   pub none : (p : ℕ) → k ≤ p → p < r → IsAt first p → IsAt second (p + 1) → ⊥
   pub around : k < r → LieAround first second k r
+
+-- k lies between members of the list, and p is the one that is nearest to it on one side: of 2, 5 and 9 it is 5 forward from 3 on
+pub record IsAtHand (direction : Direction) (list : List ℕ) (k p : ℕ) : Type 0 where
+  pub is : Some p ≡ nearest direction list k
+  pub around : LieAround list list k k

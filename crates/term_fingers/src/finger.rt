@@ -1,15 +1,15 @@
-ghost use Rattle.std.specs.Prelude.{◌≡◌, ◌*◌, ◌-◌, ◌<◌, ◌≤◌, length, slice_index, slice_get, take, IsTrue};
+ghost use Rattle.std.specs.Prelude.{◌≡◌, ◌+◌, ◌*◌, ◌-◌, ◌<◌, ◌≤◌, length, slice_index, slice_get, take, IfSome, IsTrue};
 ghost use Rattle.index_shard.specs.Searched.{nearest};
 ghost use Rattle.posting_code.specs.Postings.{ArePostings, block_of, blocks_of};
 ghost use Rattle.posting_access.specs.Search.{least_from, greatest_to};
 ghost use Rattle.live_version.specs.Contents.{IsVersion};
-ghost use Rattle.term_fingers.specs.Lists.{LackPairs, TellsNearest, list_of};
+ghost use Rattle.term_fingers.specs.Lists.{IsAt, IsAtHand, LackPairs, TellsNearest, list_of};
 
-use crate::members::{greatest_in, least_in, reach_around};
+use crate::members::{greatest_in, least_in, nearest_in, reach_around};
 use crate::naming::Naming;
 use crate::near::border_near;
 use crate::pairs::earliest_pair_in;
-use gcl_model::{Direction, Ledger, Steps};
+use gcl_model::{Direction, Ledger, Pair, Steps};
 use posting_access::BlocksUpTo;
 use posting_code::{BLOCK, Postings};
 use std::marker::PhantomData;
@@ -58,28 +58,54 @@ impl<J: Naming> Finger<J> {
         self.place
     }
 
-    /// An address from `k` on before which no member of this finger's list has one of the other finger's right behind it, as far as the
-    /// blocks tell that both hold. Both go on to there.
-    pub(crate) fn earliest_pair(&mut self, other: &mut Finger<J>, k: u64) -> u64
+    /// An address from `k` on before which no member of this finger's list has one of the other finger's right behind it, and whether one
+    /// there does, as far as the blocks tell that both hold. Both go on to there.
+    pub(crate) fn earliest_pair(&mut self, other: &mut Finger<J>, k: u64) -> Pair
         requires { IsVersion J.version }
-        ensures from { k ≤ result }
-        ensures none { LackPairs (list_of J.version.slots self.old.slot self.old.place) (list_of J.version.slots other.old.slot other.old.place) k result }
+        ensures from { k ≤ result.at }
+        ensures none { LackPairs (list_of J.version.slots self.old.slot self.old.place) (list_of J.version.slots other.old.slot other.old.place) k result.at }
+        ensures found { IsTrue result.found → IsAt (list_of J.version.slots self.old.slot self.old.place) result.at × IsAt (list_of J.version.slots other.old.slot other.old.place) (result.at + 1) }
     {
+        let unknown = Pair {
+            at: k,
+            found: false,
+        };
         let first = &self.members[..self.count];
         let second = &other.members[..other.count];
         if !reach_around(first, k) || !reach_around(second, k.saturating_add(1)) {
-            return k;
+            return unknown;
         }
-        let (address, at, behind) = earliest_pair_in(first, second, (self.at, other.at), k);
-        if address <= k {
-            return k;
+        let (pair, at, behind) = earliest_pair_in(first, second, (self.at, other.at), k);
+        if pair.at < k {
+            return unknown;
         }
         // both blocks were of use, so the next ones are unpacked at once
         self.at = at;
         self.again = true;
         other.at = behind;
         other.again = true;
-        address
+        pair
+    }
+
+    /// The address that is nearest to `k` on one side, in this finger's list, where `k` lies between the ends of the members that were read
+    /// last.
+    #[inline]
+    pub(crate) fn at_hand<P: Ledger>(
+        &mut self,
+        k: u64,
+        direction: Direction,
+        probes: &mut Steps<P>,
+    ) -> Option<u64>
+        requires { IsVersion J.version }
+        ensures { IfSome result (IsAtHand direction (list_of J.version.slots self.old.slot self.old.place) k) }
+    {
+        let members = &self.members[..self.count];
+        if !reach_around(members, k) {
+            return None;
+        }
+        let (found, at) = nearest_in(members, self.at, k, direction, probes);
+        self.at = at;
+        found
     }
 
     /// The address that is nearest to `k` on one side, in the list at a place of the slot with this number.
@@ -141,7 +167,7 @@ impl<J: Naming> Finger<J> {
         }
         match self.least_in_block(list, slot, place, near.saturating_sub(1), k, probes) {
             Some(address) => Some(address),
-            None => first_of_block(list, near),
+            None => self.first_of(list, slot, place, near),
         }
     }
 
@@ -166,6 +192,28 @@ impl<J: Naming> Finger<J> {
         let (found, at) = least_in(&self.members[..self.count], self.at, k, probes);
         self.at = at;
         found
+    }
+
+    /// The first address of a block, if there is such a block. It is read where the one before it was looked into again.
+    fn first_of(
+        &mut self,
+        list: &Postings<'_>,
+        slot: usize,
+        place: usize,
+        block: usize,
+    ) -> Option<u64>
+        requires list { list.now ≡ list_of J.version.slots slot place }
+        requires block { block ≤ blocks_of list.now }
+        ensures { result ≡ slice_get list.now (64 * block) }
+    {
+        if block == list.block_count() {
+            return None;
+        }
+        if self.again {
+            self.again = false;
+            self.read(list, slot, place, block);
+        }
+        Some(list.block_first(block))
     }
 
     /// The greatest address at or before `k`.
@@ -273,15 +321,4 @@ fn blocks_up_to<P: Ledger>(list: &Postings<'_>, hint: usize, k: u64, probes: &mu
     ensures rising { ArePostings list.now }
 {
     border_near(&BlocksUpTo { list, k }, list.block_count(), hint, probes)
-}
-
-/// The first address of a block, if there is such a block.
-fn first_of_block(list: &Postings<'_>, block: usize) -> Option<u64>
-    requires { block ≤ blocks_of list.now }
-    ensures { result ≡ slice_get list.now (64 * block) }
-{
-    if block == list.block_count() {
-        return None;
-    }
-    Some(list.block_first(block))
 }

@@ -1,13 +1,18 @@
-ghost use Rattle.std.specs.Prelude.{◌≡◌, IfSome};
+ghost use Rattle.std.specs.Prelude.{◌≡◌, IfSome, Some};
+ghost use Rattle.gcl_model.specs.Texts.{IsText, places};
+ghost use Rattle.index_shard.specs.Searched.{nearest};
+ghost use Rattle.live_version.specs.Contents.{live_of, version_text};
 
-use crate::look_up::ByFinger;
+use crate::look_up::{ByFinger, at_hand_unprobed};
 use crate::naming::Naming;
 use crate::term::Term;
+use crate::whole::WholeSlots;
 use crate::words::add_words;
 use arrayvec::ArrayVec;
-use gcl_model::{Expr, Leaves, Ledger, Span, Steps};
+use gcl_model::{Direction, Expr, Leaves, Ledger, Pair, Span, Steps};
 use live_version::Version;
-use std::marker::Model;
+use std::marker::{Brand, Model};
+use std::sync::ledger::Blank;
 
 /// How many terms have fingers. Each is about a kilobyte.
 const MOST_TERMS: usize = 16;
@@ -16,6 +21,7 @@ const MOST_TERMS: usize = 16;
 #[derive(Drop)]
 pub struct Fingers<'a, J: Naming> {
     version: &'a Version,
+    whole: WholeSlots<J>,
     // a place that is not used yet is None, and no other one
     terms: ArrayVec<Option<Term<'a, J>>, MOST_TERMS>,
 }
@@ -41,33 +47,43 @@ impl<'a, J: Naming> Leaves for Fingers<'a, J> {
     ghost most = { λ v. most_slots + v.dels };
 
     fn next<L: Ledger>(&self, term: &[u8], k: u64, steps: &mut Steps<L>) -> Option<u64> {
-        match self.find(term) {
-            Some(found) => self
-                .version
-                .next_of(&ByFinger::<J, L>::new(found), k, steps),
-            None => Leaves::next(self.version, term, k, steps),
+        let Some(found) = self.find(term) else {
+            return Leaves::next(self.version, term, k, steps);
+        };
+        if let Some(p) = self.at_hand(found, k, Direction::Forward) {
+            steps.tick();
+            return Some(p);
         }
+        self.version
+            .next_of(&ByFinger::<J, L>::new(found), k, steps)
     }
 
     fn prev<L: Ledger>(&self, term: &[u8], k: u64, steps: &mut Steps<L>) -> Option<u64> {
-        match self.find(term) {
-            Some(found) => self
-                .version
-                .previous_of(&ByFinger::<J, L>::new(found), k, steps),
-            None => Leaves::prev(self.version, term, k, steps),
+        let Some(found) = self.find(term) else {
+            return Leaves::prev(self.version, term, k, steps);
+        };
+        if let Some(p) = self.at_hand(found, k, Direction::Backward) {
+            steps.tick();
+            return Some(p);
         }
+        self.version
+            .previous_of(&ByFinger::<J, L>::new(found), k, steps)
     }
 
-    fn earliest_pair(&self, first: &[u8], second: &[u8], k: u64) -> u64 {
+    fn earliest_pair(&self, first: &[u8], second: &[u8], k: u64) -> Pair {
+        let unknown = Pair {
+            at: k,
+            found: false,
+        };
         // any call of the version tells that it is one
         let _next = self.version.next();
-        let Some(found) = self.find(first) else {
-            return k;
+        let Some(term) = self.find(first) else {
+            return unknown;
         };
         let Some(behind) = self.find(second) else {
-            return k;
+            return unknown;
         };
-        found.earliest_pair(behind, k)
+        term.earliest_pair(behind, &self.whole, k)
     }
 
     fn span(&self) -> Span {
@@ -83,6 +99,7 @@ impl<'a, J: Naming> Fingers<'a, J> {
     {
         Fingers {
             version,
+            whole: WholeSlots::new(version),
             terms: ArrayVec::new(),
         }
     }
@@ -105,6 +122,17 @@ impl<'a, J: Naming> Fingers<'a, J> {
             return;
         }
         self.terms.push(Some(Term::new(self.version, term)));
+    }
+
+    /// The place of a term that is nearest to `k` on one side, where its finger tells it without a look at the slots.
+    #[inline]
+    fn at_hand(&self, term: &Term<'a, J>, k: u64, direction: Direction) -> Option<u64>
+        ensures answer { IfSome result (λ p. Some p ≡ nearest direction (places (live_of self.now.slots) term.now.bytes.now) k) }
+        ensures sound { IsText (version_text self.now) }
+    {
+        // any call of the version tells that it is one
+        let _next = self.version.next();
+        at_hand_unprobed::<J, Brand>(term, &self.whole, k, direction, Blank::new(1))
     }
 
     /// The term with these bytes, if it was found.

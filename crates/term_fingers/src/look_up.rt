@@ -1,10 +1,13 @@
-ghost use Rattle.std.specs.Prelude.{◌≡◌, ◌<◌, Some};
+ghost use Rattle.std.specs.Prelude.{◌≡◌, ◌<◌, IfSome, Some};
+ghost use Rattle.gcl_model.specs.Texts.{places};
 ghost use Rattle.index_shard.specs.Searched.{nearest};
 ghost use Rattle.index_shard.specs.Tables.{postings_of};
+ghost use Rattle.live_version.specs.Contents.{IsVersion, live_of};
 ghost use Rattle.term_fingers.specs.Lists.{shard_at};
 
 use crate::naming::Naming;
 use crate::term::Term;
+use crate::whole::WholeSlots;
 use gcl_model::{Direction, Ledger, NoLedger, Steps};
 use index_shard::Shard;
 use live_version::LookUp;
@@ -74,4 +77,23 @@ fn unprobed<J: Naming, B: ledger::Ledger>(
 {
     let mut probes = Steps::<NoLedger<B>>::open(blank);
     term.nearest(number, shard, k, direction, &mut probes)
+}
+
+/// The place of a term in the version that is nearest to `k` on one side, where its finger tells it. The probes are kept nowhere.
+#[inline]
+pub(crate) fn at_hand_unprobed<J: Naming, B: ledger::Ledger>(
+    term: &Term<'_, J>,
+    whole: &WholeSlots<J>,
+    k: u64,
+    direction: Direction,
+    blank: Blank,
+) -> Option<u64>
+    requires version { IsVersion J.version }
+    requires name { blank.name ≡ B.name }
+    requires parts { blank.parts ≡ B.parts }
+    requires some { 0 < blank.parts }
+    ensures { IfSome result (λ p. Some p ≡ nearest direction (places (live_of J.version.slots) term.now.bytes.now) k) }
+{
+    let mut probes = Steps::<NoLedger<B>>::open(blank);
+    term.at_hand(whole, k, direction, &mut probes)
 }

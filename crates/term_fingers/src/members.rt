@@ -1,10 +1,11 @@
 ghost use Rattle.std.specs.Prelude.{◌≡◌, ◌-◌, ◌<◌, ◌≤◌, Some, IfSome, IsTrue, slice_index, length};
 ghost use Rattle.posting_code.specs.Postings.{ArePostings};
 ghost use Rattle.posting_access.specs.Search.{least_from, greatest_to};
+ghost use Rattle.index_shard.specs.Searched.{nearest};
 ghost use Rattle.term_fingers.specs.Lists.{one_below};
 
 use crate::near::border_near;
-use gcl_model::{Ledger, Steps};
+use gcl_model::{Direction, Ledger, Steps};
 use posting_access::Test;
 
 /// The members before `k`.
@@ -119,4 +120,22 @@ pub(crate) fn greatest_in<P: Ledger>(
         return (None, behind);
     };
     (Some(members[at]), behind)
+}
+
+/// The member that is nearest to `k` on one side, and a place beside it, looked for from the place `hint` on.
+#[inline]
+pub(crate) fn nearest_in<P: Ledger>(
+    members: &[u64],
+    hint: usize,
+    k: u64,
+    direction: Direction,
+    probes: &mut Steps<P>,
+) -> (Option<u64>, usize)
+    requires { ArePostings members.now }
+    ensures { result.0 ≡ nearest direction members.now k }
+{
+    match direction {
+        Direction::Forward => least_in(members, hint, k, probes),
+        Direction::Backward => greatest_in(members, hint, k, probes),
+    }
 }

@@ -1,30 +1,42 @@
-ghost use Rattle.std.specs.Prelude.{◌≡◌, ℕ, ◌+◌, ◌-◌, ◌<◌, ◌≤◌, slice_index, length};
+ghost use Rattle.std.specs.Prelude.{◌≡◌, ℕ, ◌+◌, ◌-◌, ◌<◌, ◌≤◌, IsTrue, slice_index, length};
 ghost use Rattle.posting_code.specs.Postings.{ArePostings};
 ghost use Rattle.term_fingers.specs.Lists.{ArePassed, IsAt};
 
 use crate::members::one_below;
+use gcl_model::Pair;
 
-/// An address from `k` on before which no member of the first list has one of the second right behind it, and the place in each list up to
-/// which it was gone through. The places from which on they are gone through are only hints.
+/// An address from `k` on before which no member of the first list has one of the second right behind it, whether one there does, and the
+/// place in each list up to which it was gone through. The places from which on they are gone through are only hints.
 pub(crate) fn earliest_pair_in(
     first: &[u64],
     second: &[u64],
     hints: (usize, usize),
     k: u64,
-) -> (u64, usize, usize)
+) -> (Pair, usize, usize)
     requires first { ArePostings first.now }
     requires second { ArePostings second.now }
     requires some { 0 < length second.now }
     requires within { 0 < length first.now }
     requires reach { k ≤ slice_index first.now (length first.now - 1) }
-    ensures none { (p : ℕ) → k ≤ p → p < result.0 → IsAt first.now p → IsAt second.now (p + 1) → ⊥ }
-    ensures first { result.0 ≤ slice_index first.now (length first.now - 1) + 1 }
-    ensures second { result.0 ≤ slice_index second.now (length second.now - 1) }
+    ensures none { (p : ℕ) → k ≤ p → p < result.0.at → IsAt first.now p → IsAt second.now (p + 1) → ⊥ }
+    ensures first { result.0.at ≤ slice_index first.now (length first.now - 1) + 1 }
+    ensures second { result.0.at ≤ slice_index second.now (length second.now - 1) }
+    ensures found { IsTrue result.0.found → IsAt first.now result.0.at × IsAt second.now (result.0.at + 1) }
 {
     let at = place_from(first, hints.0, k);
     let behind = place_from(second, hints.1, k + 1);
     let (at, behind) = side_by_side(first, second, at, behind, k);
-    let upto = address_at(first, at).min(second[second.len() - 1]);
+    if at < first.len() && behind < second.len() {
+        let met = Pair {
+            at: first[at],
+            found: true,
+        };
+        return (met, at, behind);
+    }
+    let upto = Pair {
+        at: address_at(first, at).min(second[second.len() - 1]),
+        found: false,
+    };
     (upto, at, behind)
 }
 
@@ -61,6 +73,7 @@ fn side_by_side(
     requires passed { ArePassed first.now second.now k from from_behind }
     ensures within { result.0 ≤ length first.now }
     ensures passed { ArePassed first.now second.now k result.0 result.1 }
+    ensures met { result.0 < length first.now → result.1 < length second.now → slice_index first.now result.0 + 1 ≡ slice_index second.now result.1 }
 {
     let mut at = from;
     let mut behind = from_behind;

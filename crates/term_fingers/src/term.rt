@@ -1,6 +1,6 @@
-ghost use Rattle.std.specs.Prelude.{◌≡◌, ◌≤◌, Some, IsTrue, false, length, slice_get, take};
+ghost use Rattle.std.specs.Prelude.{◌≡◌, ◌+◌, ◌≤◌, Some, IfSome, IsTrue, true, false, length, slice_get, take};
 ghost use Rattle.gcl_model.specs.Limits.{most_slots};
-ghost use Rattle.gcl_model.specs.Texts.{any_pair};
+ghost use Rattle.gcl_model.specs.Texts.{any_pair, holds, places};
 ghost use Rattle.index_shard.specs.Searched.{nearest};
 ghost use Rattle.index_shard.specs.Tables.{place_of, postings_of};
 ghost use Rattle.live_version.specs.Contents.{IsVersion, live_of};
@@ -8,7 +8,8 @@ ghost use Rattle.term_fingers.specs.Lists.{places_of, shard_at};
 
 use crate::finger::Finger;
 use crate::naming::Naming;
-use gcl_model::{Direction, Ledger, Steps};
+use crate::whole::WholeSlots;
+use gcl_model::{Direction, Ledger, Pair, Steps};
 use index_shard::Shard;
 use live_version::{Slot, Version};
 use posting_access::{at_or_after, at_or_before};
@@ -68,42 +69,98 @@ impl<'a, J: Naming> Term<'a, J> {
         }
     }
 
-    /// An address from `k` on before which the other term nowhere stands right behind this one, as far as their fingers tell.
-    pub(crate) fn earliest_pair(&self, other: &Term<'a, J>, k: u64) -> u64
+    /// The place of the term in the version that is nearest to `k` on one side, where its finger's members reach around `k` and nothing in
+    /// their slot is dead.
+    #[inline]
+    pub(crate) fn at_hand<P: Ledger>(
+        &self,
+        whole: &WholeSlots<J>,
+        k: u64,
+        direction: Direction,
+        probes: &mut Steps<P>,
+    ) -> Option<u64>
         requires { IsVersion J.version }
-        ensures from { k ≤ result }
-        ensures none { any_pair (live_of J.version.slots) self.now.bytes.now other.now.bytes.now k result ≡ false }
+        ensures { IfSome result (λ p. Some p ≡ nearest direction (places (live_of J.version.slots) self.now.bytes.now) k) }
     {
+        // else another look-up of the term is under way
         let Ok(mut finger) = self.finger.try_borrow_mut() else {
-            return k;
+            return None;
+        };
+        self.at_hand_by(whole, &mut finger, k, direction, probes)
+    }
+
+    /// The same by its finger.
+    #[inline]
+    fn at_hand_by<P: Ledger>(
+        &self,
+        whole: &WholeSlots<J>,
+        finger: &mut Finger<J>,
+        k: u64,
+        direction: Direction,
+        probes: &mut Steps<P>,
+    ) -> Option<u64>
+        requires { IsVersion J.version }
+        ensures { IfSome result (λ p. Some p ≡ nearest direction (places (live_of J.version.slots) self.now.bytes.now) k) }
+    {
+        let slot = finger.slot();
+        if !whole.has(slot) || !self.has_place(slot, finger.place()) {
+            return None;
+        }
+        finger.at_hand(k, direction, probes)
+    }
+
+    /// An address from `k` on before which the other term nowhere stands right behind this one, and whether it does there, as far as their
+    /// fingers tell.
+    pub(crate) fn earliest_pair(&self, other: &Term<'a, J>, whole: &WholeSlots<J>, k: u64) -> Pair
+        requires { IsVersion J.version }
+        ensures from { k ≤ result.at }
+        ensures none { any_pair (live_of J.version.slots) self.now.bytes.now other.now.bytes.now k result.at ≡ false }
+        ensures found { IsTrue result.found → (holds (live_of J.version.slots) self.now.bytes.now result.at ≡ true) × (holds (live_of J.version.slots) other.now.bytes.now (result.at + 1) ≡ true) }
+    {
+        let unknown = Pair {
+            at: k,
+            found: false,
+        };
+        let Ok(mut finger) = self.finger.try_borrow_mut() else {
+            return unknown;
         };
         // of a term beside itself nothing is told: its finger is taken
         let Ok(mut behind) = other.finger.try_borrow_mut() else {
-            return k;
+            return unknown;
         };
-        self.earliest_pair_by(other, &mut finger, &mut behind, k)
+        self.earliest_pair_by(other, whole, &mut finger, &mut behind, k)
     }
 
-    /// The same by a finger of each term: they tell it where they are on the lists of both terms in one slot.
+    /// The same by a finger of each term: they tell it where they are on the lists of both terms in one slot. What is dead is in the lists,
+    /// too, so a pair is believed only where nothing in the slot is.
     fn earliest_pair_by(
         &self,
         other: &Term<'a, J>,
+        whole: &WholeSlots<J>,
         finger: &mut Finger<J>,
         behind: &mut Finger<J>,
         k: u64,
-    ) -> u64
+    ) -> Pair
         requires { IsVersion J.version }
-        ensures from { k ≤ result }
-        ensures none { any_pair (live_of J.version.slots) self.now.bytes.now other.now.bytes.now k result ≡ false }
+        ensures from { k ≤ result.at }
+        ensures none { any_pair (live_of J.version.slots) self.now.bytes.now other.now.bytes.now k result.at ≡ false }
+        ensures found { IsTrue result.found → (holds (live_of J.version.slots) self.now.bytes.now result.at ≡ true) × (holds (live_of J.version.slots) other.now.bytes.now (result.at + 1) ≡ true) }
     {
         let slot = finger.slot();
         if behind.slot() != slot
             || !self.has_place(slot, finger.place())
             || !other.has_place(slot, behind.place())
         {
-            return k;
+            return Pair {
+                at: k,
+                found: false,
+            };
         }
-        finger.earliest_pair(behind, k)
+        let pair = finger.earliest_pair(behind, k);
+        Pair {
+            at: pair.at,
+            found: whole.believes(slot, pair.found),
+        }
     }
 
     /// Whether the term was found at this place in the index of the slot with this number.

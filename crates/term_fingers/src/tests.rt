@@ -7,7 +7,7 @@ ghost use Rattle.index_shard.specs.Tables.{ArePostingsIn, IsShard};
 use super::*;
 use address_space::{FileId, FileRecord, FileRun, Range};
 use gcl_model::{
-    ADDRESS_END, Bytes, Direction, Leaves, Ledger, Question, Steps, TokenList, counted,
+    ADDRESS_END, Bytes, Direction, Leaves, Ledger, Pair, Question, Steps, TokenList, counted,
 };
 use index_shard::{Shard, ShardMaker};
 use live_version::{Slot, Version};
@@ -313,15 +313,19 @@ fn went_over<J: Naming, R: Abort>(
     let mut start = k;
     let mut over = 0u64;
     for _ in 0..20u32 {
-        let from = fingers.earliest_pair(first.as_bytes(), second.as_bytes(), start);
+        let told = fingers.earliest_pair(first.as_bytes(), second.as_bytes(), start);
         let next = next_pair(version, first, second, start);
-        assert!(rt; start <= from, "{first} {second} at {start}");
+        assert!(rt; start <= told.at, "{first} {second} at {start}");
         assert!(rt;
-            next.is_none_or(|p| from <= p),
+            next.is_none_or(|p| told.at <= p),
             "{first} {second} at {start}"
         );
-        over = over.saturating_add(from - start);
-        let Some(p) = found(fingers, first, from, Direction::Forward).0 else {
+        assert!(rt;
+            !told.found || next == Some(told.at),
+            "{first} {second} at {start}"
+        );
+        over = over.saturating_add(told.at - start);
+        let Some(p) = found(fingers, first, told.at, Direction::Forward).0 else {
             return over;
         };
         start = p.saturating_add(1);
@@ -374,8 +378,8 @@ fn no_pair_is_passed_over(rt: HostRuntime) -> Result<(), Fail> {
     Ok(())
 }
 
-/// A block is unpacked as soon as it is looked into twice.
-fn ask_unpacked<J: Naming, R: Abort>(rt: &R, version: &Version)
+/// A block is unpacked as soon as it is looked into twice. A pair in it is believed where nothing in the slot is dead.
+fn ask_unpacked<J: Naming, R: Abort>(rt: &R, version: &Version, believed: bool)
     requires { version.now ≡ J.version }
 {
     let mut fingers = Fingers::<J>::new(version);
@@ -386,10 +390,13 @@ fn ask_unpacked<J: Naming, R: Abort>(rt: &R, version: &Version)
         }
     }
     for k in 20..120u64 {
-        let next = next_pair(version, "of", "the", k);
+        let at = next_pair(version, "of", "the", k).expect(rt, "a pair comes soon");
         assert_eq!(rt;
-            Some(fingers.earliest_pair(b"of", b"the", k)),
-            next,
+            fingers.earliest_pair(b"of", b"the", k),
+            Pair {
+                at,
+                found: believed
+            },
             "at {k}"
         );
     }
@@ -398,6 +405,9 @@ fn ask_unpacked<J: Naming, R: Abort>(rt: &R, version: &Version)
 #[test]
 fn of_two_unpacked_blocks_the_next_pair_is_told(rt: HostRuntime) -> Result<(), Fail> {
     let version = chance_slots(&rt, rt.alloc())?;
-    ask_unpacked::<Brand, _>(&rt, &version);
+    ask_unpacked::<Brand, _>(&rt, &version, false);
+    let slot = of_chance(&rt, rt.alloc())?;
+    let version = Version::of_slot(rt.alloc(), 0, 3000, 3, Some(slot))?;
+    ask_unpacked::<Brand, _>(&rt, &version, true);
     Ok(())
 }

@@ -1,9 +1,8 @@
-use Rattle.std.proofs.Common.{◌≡◌, ◌+◌, ◌-◌, ◌≤◌, Some, None, length, ap, subst, ◌∙◌, inl, inr, arith}
+use Rattle.std.proofs.Common.{◌≡◌, ◌+◌, ◌-◌, ◌<◌, ◌≤◌, Some, length, ap, sym, subst, refl, ◌∙◌, inl, inr, arith}
 use Rattle.gcl_model.specs.Cost.{fewest_places}
-use Rattle.gcl_model.specs.Texts.{next_place}
-use Rattle.phrase_walk.proofs.Rows.{IsInPlace, token_at, token_is}
+use Rattle.phrase_walk.specs.Starts.{IsInPlace}
 use Rattle.phrase_walk.proofs.Asked.{asked_turns, rounds_within}
-use Rattle.phrase_walk.proofs.Steps.{Leads, IsAskedForward, passed_upto, forward_on, forward_found, forward_past, forward_cost, none_before_next, none_before_on, no_next, next_within, closer_on}
+use Rattle.phrase_walk.proofs.Steps.{Leads, IsAskedForward, passed_upto, forward_on, forward_found, forward_past, forward_cost, none_before_on, no_more, closer_on}
 use Rattle.phrase_walk.proofs.walks.first_from.Goals as goal
 use Rattle.phrase_walk.proofs.walks.first_from.Goals.{then-earliest-start, else-earliest-start}
 
@@ -13,43 +12,25 @@ returns-then-span-k-clause-answer g c =
     let past : c.span.result.next ≤ c.args.k = c.if-span-k.true in
     forward_past (g.C.CountedLeaves.text c.args.source.now) c.args.tokens.now c.span.ensures.sound c.requires c.args.k (omega (arith, next, past))
 
-pub returns-in_err-place-clause-answer : goal.returns-in_err-place-clause-answer
-returns-in_err-place-clause-answer g c =
+pub returns-in_err-found-clause-answer : goal.returns-in_err-found-clause-answer
+returns-in_err-found-clause-answer g c =
     let text = g.C.CountedLeaves.text c.args.source.now in
-    let tokens = c.args.tokens.now in
-    let start = c.loop-agreed.start in
-    let turn = c.loop-agreed.turn in
-    let from = c.earliest_start-from.result in
-    let kept = c.loop-agreed.invariant in
-    let token : c.as_slice.result.now ≡ token_at tokens turn = token_is tokens turn c.index-tokens-turn.result c.as_slice.result.now kept.turn (c.as_slice.ensures ∙ c.index-tokens-turn.is) in
     rw c.from_residual.ensures
-    (no_next text tokens c.in_err-place.ensures.sound c.requires c.args.k from turn kept.turn (subst (λ t. None ≡ next_place text.words t (from + turn)) token c.in_err-place.ensures.answer)
-    (none_before_on text tokens c.args.k start from kept.before c.earliest_start-from.ensures.none))
+    (no_more text c.args.tokens.now c.span.ensures.sound c.requires c.args.k c.loop-agreed.start c.loop-agreed.invariant.before (c.in_err-found.ensures.none refl))
 
-pub returns-in_err-place-clause-rounds : goal.returns-in_err-place-clause-rounds
-returns-in_err-place-clause-rounds g c =
+pub returns-in_err-found-clause-rounds : goal.returns-in_err-found-clause-rounds
+returns-in_err-found-clause-rounds g c =
     let kept = c.loop-agreed.invariant in
     forward_cost (g.C.CountedLeaves.text c.args.source.now) c.args.tokens.now c.span.ensures.sound c.requires c.loop-agreed.turn c.loop-agreed.agreed c.loop-agreed.start (g.C.CountedLeaves.most c.args.source.now)
-    (g.C.CountedLeaves.count c.args.counter.now) (g.C.CountedLeaves.count c.loop-agreed.counter) (g.C.CountedLeaves.count c.next.new.counter) kept.turn c.in_err-place.ensures.cost kept.asked
+    (g.C.CountedLeaves.count c.args.counter.now) (g.C.CountedLeaves.count c.loop-agreed.counter) (g.C.CountedLeaves.count c.next_token.new.counter) kept.turn c.in_err-found.ensures.cost kept.asked
 
-pub returns-in_err-place-clause-cost : goal.returns-in_err-place-clause-cost
-returns-in_err-place-clause-cost g c =
+pub returns-in_err-found-clause-cost : goal.returns-in_err-found-clause-cost
+returns-in_err-found-clause-cost g c =
     rounds_within (length c.args.tokens.now) (fewest_places (g.C.CountedLeaves.text c.args.source.now).words c.args.tokens.now) (g.C.CountedLeaves.most c.args.source.now)
-    (g.C.CountedLeaves.count c.args.counter.now) (g.C.CountedLeaves.count c.next.new.counter) (returns-in_err-place-clause-rounds g c)
+    (g.C.CountedLeaves.count c.args.counter.now) (g.C.CountedLeaves.count c.next_token.new.counter) (returns-in_err-found-clause-rounds g c)
 
 pub overflow_sub-earliest : goal.overflow_sub-earliest
-overflow_sub-earliest g c =
-    let text = g.C.CountedLeaves.text c.args.source.now in
-    let tokens = c.args.tokens.now in
-    let start = c.loop-agreed.start in
-    let turn = c.loop-agreed.turn in
-    let from = c.earliest_start-from.result in
-    let kept = c.loop-agreed.invariant in
-    let token : c.as_slice.result.now ≡ token_at tokens turn = token_is tokens turn c.index-tokens-turn.result c.as_slice.result.now kept.turn (c.as_slice.ensures ∙ c.index-tokens-turn.is) in
-    let place = c.in_ok-place.place in
-    let is : Some place ≡ next_place text.words (token_at tokens turn) (from + turn) = subst (λ t. Some place ≡ next_place text.words t (from + turn)) token c.in_ok-place.ensures.answer in
-    let within = next_within text tokens c.in_ok-place.ensures.sound c.requires turn from place is in
-    omega (arith, within.0)
+overflow_sub-earliest g c = let from = c.in_ok-found.ensures.found.from in omega (arith, from)
 
 pub loop-agreed-smaller : goal.loop-agreed-smaller
 loop-agreed-smaller g c =
@@ -57,17 +38,12 @@ loop-agreed-smaller g c =
     let tokens = c.args.tokens.now in
     let start = c.loop-agreed.start in
     let turn = c.loop-agreed.turn in
-    let from = c.earliest_start-from.result in
-    let kept = c.loop-agreed.invariant in
-    let token : c.as_slice.result.now ≡ token_at tokens turn = token_is tokens turn c.index-tokens-turn.result c.as_slice.result.now kept.turn (c.as_slice.ensures ∙ c.index-tokens-turn.is) in
-    let place = c.in_ok-place.place in
-    let is : Some place ≡ next_place text.words (token_at tokens turn) (from + turn) = subst (λ t. Some place ≡ next_place text.words t (from + turn)) token c.in_ok-place.ensures.answer in
+    let place = c.in_ok-found.found.place in
     let agreed = c.if-earliest-start.agreed in
     let leads : Leads (place - turn) start c.loop-agreed.agreed agreed =
     elim c.if-earliest-start.branch [ then-earliest-start w ↦ inl (w.if-earliest-start.true, w.agreed-is) | else-earliest-start w ↦ inr (w.if-earliest-start.false, w.agreed-is) ] in
-    let within = next_within text tokens c.in_ok-place.ensures.sound c.requires turn from place is in
-    let above : start + turn ≤ place = omega (arith, within.0, c.earliest_start-from.ensures.from) in
-    closer_on text.next start turn place (length tokens) c.loop-agreed.agreed agreed c.loop-agreed-test.true above within.1 leads
+    let told = c.in_ok-found.ensures.found in
+    closer_on text.next start turn place (length tokens) c.loop-agreed.agreed agreed c.loop-agreed-test.true told.from told.within leads
 
 pub loop-agreed-preserved : goal.loop-agreed-preserved
 loop-agreed-preserved g c =
@@ -75,32 +51,31 @@ loop-agreed-preserved g c =
     let tokens = c.args.tokens.now in
     let start = c.loop-agreed.start in
     let turn = c.loop-agreed.turn in
-    let from = c.earliest_start-from.result in
     let kept = c.loop-agreed.invariant in
-    let token : c.as_slice.result.now ≡ token_at tokens turn = token_is tokens turn c.index-tokens-turn.result c.as_slice.result.now kept.turn (c.as_slice.ensures ∙ c.index-tokens-turn.is) in
-    let place = c.in_ok-place.place in
-    let is : Some place ≡ next_place text.words (token_at tokens turn) (from + turn) = subst (λ t. Some place ≡ next_place text.words t (from + turn)) token c.in_ok-place.ensures.answer in
+    let place = c.in_ok-found.found.place in
     let agreed = c.if-earliest-start.agreed in
     let leads : Leads (place - turn) start c.loop-agreed.agreed agreed =
     elim c.if-earliest-start.branch [ then-earliest-start w ↦ inl (w.if-earliest-start.true, w.agreed-is) | else-earliest-start w ↦ inr (w.if-earliest-start.false, w.agreed-is) ] in
-    let within = next_within text tokens c.in_ok-place.ensures.sound c.requires turn from place is in
-    let above : start + turn ≤ place = omega (arith, within.0, c.earliest_start-from.ensures.from) in
-    let asked : IsAskedForward text tokens (turn + 1) agreed (place - turn) (g.C.CountedLeaves.most c.args.source.now) (g.C.CountedLeaves.count c.args.counter.now) (g.C.CountedLeaves.count c.next.new.counter) =
-    forward_on text tokens c.in_ok-place.ensures.sound c.requires turn c.loop-agreed.agreed agreed start from (g.C.CountedLeaves.most c.args.source.now)
-    (g.C.CountedLeaves.count c.args.counter.now) (g.C.CountedLeaves.count c.loop-agreed.counter) (g.C.CountedLeaves.count c.next.new.counter) place
-    c.loop-agreed-test.true c.in_ok-place.ensures.cost c.earliest_start-from.ensures.from is leads kept.asked in
+    let told = c.in_ok-found.ensures.found in
+    let above : start + turn ≤ place = told.from in
+    let within : place < text.next = told.within in
+    let asked : IsAskedForward text tokens (turn + 1) agreed (place - turn) (g.C.CountedLeaves.most c.args.source.now) (g.C.CountedLeaves.count c.args.counter.now) (g.C.CountedLeaves.count c.next_token.new.counter) =
+    forward_on text tokens c.span.ensures.sound c.requires turn c.loop-agreed.agreed agreed start (g.C.CountedLeaves.most c.args.source.now)
+    (g.C.CountedLeaves.count c.args.counter.now) (g.C.CountedLeaves.count c.loop-agreed.counter) (g.C.CountedLeaves.count c.next_token.new.counter) place
+    c.loop-agreed-test.true c.in_ok-found.ensures.cost above told.held leads kept.asked in
     let turns = asked_turns (length tokens) turn c.next_turn-turn.result agreed (passed_upto text tokens (place - turn)) (IsInPlace text tokens (place - turn))
-    (g.C.CountedLeaves.most c.args.source.now) (g.C.CountedLeaves.count c.args.counter.now) (g.C.CountedLeaves.count c.next.new.counter) kept.turn c.next_turn-turn.ensures.wraps c.next_turn-turn.ensures.goes_on asked in
+    (g.C.CountedLeaves.most c.args.source.now) (g.C.CountedLeaves.count c.args.counter.now) (g.C.CountedLeaves.count c.next_token.new.counter) kept.turn c.next_turn-turn.ensures.wraps c.next_turn-turn.ensures.goes_on asked in
     record {
       asked = turns.1;
-      before =
-          none_before_next text tokens c.in_ok-place.ensures.sound c.requires c.args.k from turn place kept.turn is
-          (none_before_on text tokens c.args.k start from kept.before c.earliest_start-from.ensures.none);
+      before = none_before_on text tokens c.args.k start (place - turn) kept.before told.none;
       from = omega (arith, kept.from, above);
-      below = omega (arith, within.1);
+      below = omega (arith, within);
       turn = turns.0;
       agreed = elim leads [ inl e ↦ omega (arith, e.1, c.loop-agreed-test.true) | inr e ↦ omega (arith, e.1, c.loop-agreed-test.true) ];
-      counted = omega (arith, kept.counted, c.in_ok-place.ensures.counted);
+      stands = λ followed.
+          let next = c.in_ok-found.ensures.followed followed in
+          subst (IsInPlace text tokens (place - turn)) (sym (c.next_turn-turn.ensures.goes_on next.more)) next.behind;
+      counted = omega (arith, kept.counted, c.in_ok-found.ensures.counted);
     }
 
 pub returns-clause-answer : goal.returns-clause-answer

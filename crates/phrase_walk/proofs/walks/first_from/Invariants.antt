@@ -1,8 +1,9 @@
-use Rattle.std.proofs.Common.{◌+◌, ◌-◌, ◌*◌, ◌<◌, ◌≤◌, length}
+use Rattle.std.proofs.Common.{◌+◌, ◌-◌, ◌*◌, ◌<◌, ◌≤◌, IsTrue, length}
+use Rattle.phrase_walk.specs.Starts.{IsInPlace}
 use Rattle.phrase_walk.proofs.Steps.{NoneBefore, IsAskedForward}
 use Rattle.phrase_walk.proofs.walks.first_from.Given as goal
 
--- no row starts from k on before here, and the tokens were asked in a ring
+-- no row starts from k on before here, the tokens were asked in a ring, and if it is said that the one at this turn stands in its place, it does
 abbrev pub invariant-loop-agreed : goal.invariant-loop-agreed
 invariant-loop-agreed g l =
     let text = g.C.CountedLeaves.text l.source in
@@ -14,6 +15,7 @@ invariant-loop-agreed g l =
       below : l.start < text.next;
       turn : l.turn < length l.tokens;
       agreed : l.agreed ≤ length l.tokens;
+      stands : IsTrue l.stands → IsInPlace text l.tokens l.start l.turn;
       counted : g.C.CountedLeaves.count l.fn.counter ≤ g.C.CountedLeaves.count l.counter;
     }
 

@@ -10,5 +10,5 @@ returns-in-Some g c =
 pub returns-in-None : goal.returns-in-None
 returns-in-None g c =
     let e = c.blocks_up_to-near.ensures in
-    c.first_of_block.ensures
+    c.first_of.ensures
     ∙ least_not_found _ _ _ c.blocks_up_to-near.result record { rising = e.rising; within = e.within; before = e.before; after = e.after } (omega (arith, c.saturating_sub.ensures)) (omega (arith, c.len.ensures.value)) c.in-None.ensures
