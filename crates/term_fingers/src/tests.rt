@@ -406,6 +406,11 @@ fn ask_unpacked<J: Naming, R: Abort>(rt: &R, version: &Version, believed: bool)
 fn of_two_unpacked_blocks_the_next_pair_is_told(rt: HostRuntime) -> Result<(), Fail> {
     let version = chance_slots(&rt, rt.alloc())?;
     ask_unpacked::<Brand, _>(&rt, &version, false);
+    Ok(())
+}
+
+#[test]
+fn a_pair_is_believed_where_nothing_is_dead(rt: HostRuntime) -> Result<(), Fail> {
     let slot = of_chance(&rt, rt.alloc())?;
     let version = Version::of_slot(rt.alloc(), 0, 3000, 3, Some(slot))?;
     ask_unpacked::<Brand, _>(&rt, &version, true);
