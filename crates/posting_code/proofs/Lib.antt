@@ -7,6 +7,7 @@ pub mod Shorts
 pub mod Steps
 pub mod Around
 pub mod Unpacking
+pub mod Runs
 pub mod Cuts
 mod Worked
 mod WorkedNumbers

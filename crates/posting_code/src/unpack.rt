@@ -1,4 +1,4 @@
-ghost use Rattle.std.specs.Prelude.{◌≡◌, ◌+◌, ◌<◌, ◌≤◌, ◌^◌, ◌∷◌, length, take, drop, reverse, find, nat_lt, nat_le, IfSome, IsNone};
+ghost use Rattle.std.specs.Prelude.{ℕ, ◌≡◌, ◌+◌, ◌<◌, ◌≤◌, ◌^◌, ◌∷◌, ◌++◌, length, get_or, take, drop, reverse, find, nat_lt, nat_le, IfSome, IsNone, IsTrue};
 ghost use Rattle.posting_code.specs.Packed.{CanUnpack, last_of, members_behind};
 ghost use Rattle.posting_code.specs.Cuts.{IsCut};
 
@@ -24,6 +24,43 @@ fn next_member(packed: &[u8], before: u64, at: usize) -> Number
     }
 }
 
+/// How many differences of one byte are taken in one go.
+// In the lists that are long nearly all differences have one byte, and the 63 of a whole block are nine such runs.
+const RUN: usize = 7;
+
+/// Whether the next differences have one byte each. Each byte is looked at, so that no branch depends on one alone.
+#[inline(always)]
+fn are_short(packed: &[u8], at: usize) -> bool
+    requires within { at + 7 ≤ length packed.now }
+    ensures { IsTrue result → (i : ℕ) → i < 7 → get_or packed.now (at + i) 0 < 128 }
+{
+    let mut all = 0u8;
+    for i in 0..RUN {
+        all |= packed[at + i];
+    }
+    all < 128
+}
+
+/// Puts the next members from a place on, where their differences have one byte each, and gives the last of them.
+#[inline(always)]
+fn put_run(packed: &[u8], before: u64, at: usize, into: &mut [u64], place: usize) -> u64
+    requires can { CanUnpack packed.now before at }
+    requires enough { 7 ≤ length (members_behind packed.now before at) }
+    requires short { (i : ℕ) → i < 7 → get_or packed.now (at + i) 0 < 128 }
+    requires room { place + 7 ≤ length into.old }
+    ensures long { length into.new ≡ length into.old }
+    ensures members { take (place + 7) into.new ≡ take place into.old ++ take 7 (members_behind packed.now before at) }
+    ensures rest { drop 7 (members_behind packed.now before at) ≡ members_behind packed.now result (at + 7) }
+    ensures can { CanUnpack packed.now result (at + 7) }
+{
+    let mut member = before;
+    for i in 0..RUN {
+        member += packed[at + i] as u64;
+        into[place + i] = member;
+    }
+    member
+}
+
 /// Fills `into` with the first member and those behind it.
 pub(crate) fn unpack(packed: &[u8], first: u64, at: usize, into: &mut [u64])
     requires can { CanUnpack packed.now first at }
@@ -36,9 +73,20 @@ pub(crate) fn unpack(packed: &[u8], first: u64, at: usize, into: &mut [u64])
         value: first,
         after: at,
     };
-    for i in 1..into.len() {
-        member = next_member(packed, member.value, member.after);
-        into[i] = member.value;
+    let mut i = 1;
+    while i < into.len() {
+        if RUN <= into.len() - i && are_short(packed, member.after) {
+            let last = put_run(packed, member.value, member.after, into, i);
+            member = Number {
+                value: last,
+                after: member.after + RUN,
+            };
+            i += RUN;
+        } else {
+            member = next_member(packed, member.value, member.after);
+            into[i] = member.value;
+            i += 1;
+        }
     }
 }
 
