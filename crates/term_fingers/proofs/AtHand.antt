@@ -12,6 +12,7 @@ use Rattle.gcl_model.specs.declared.direction.Direction.{Direction}
 use Rattle.gcl_model.specs.declared.direction.Direction.TheVariants.{Forward, Backward}
 use Rattle.gcl_model.proofs.Lists.{filter_all}
 use Rattle.gcl_model.proofs.WordLists.{previous_place-append, none_next, none_previous}
+use Rattle.posting_code.specs.Packed.{last_of}
 use Rattle.posting_code.specs.Postings.{ArePostings, block_of}
 use Rattle.index_shard.specs.Searched.{nearest}
 use Rattle.index_shard.specs.Tables.{postings_of}
@@ -19,7 +20,7 @@ use Rattle.live_version.specs.Contents.{SlotContent, VersionContent, IsSlot, IsV
 use Rattle.live_version.proofs.WordLemmas.{live_words_rise, live_of_rise, next_by_slot, previous_by_slot, next_in_first, next_in_rest}
 use Rattle.term_fingers.specs.Lists.{HasNoDead, IsAt, IsAtHand, TellsNearest, addresses_in, is_whole, list_of, places_of, whole_of}
 use Rattle.term_fingers.proofs.Beside.{at_of_block, list_is, postings_within, slot_is}
-use Rattle.term_fingers.proofs.Nearest.{tells_nearest}
+use Rattle.term_fingers.proofs.Nearest.{last_is, tells_nearest}
 
 -- a slot that is told to have no dead range has none
 pub whole_known : (slots : List SlotContent) (number : ℕ) (whole : List Bool) (d : Bool) → take (length slots) whole ≡ whole_of slots → get_or whole number d ≡ true → HasNoDead slots number
@@ -116,6 +117,21 @@ at_hand xs part b k direction (Some p) r is some low high near = record {
     from = low;
     high = get_or part (length part - 1) 0;
     ends = at_of_block xs part b (length part - 1) is (omega (arith, some));
+    upto = high;
+  };
+}
+
+-- between the ends of a list its nearest member is at hand
+pub within_list : (xs : List ℕ) (k last : ℕ) (direction : Direction) (o : Option ℕ) → 0 < length xs → get_or xs 0 0 ≤ k → last ≡ last_of xs → k ≤ last → o ≡ nearest direction xs k → IfSome o (IsAtHand direction xs k)
+within_list xs k last direction None some low is high near = tt
+within_list xs k last direction (Some p) some low is high near = record {
+  is = near;
+  around = record {
+    low = get_or xs 0 0;
+    begins = record { place = 0; within = some; is = refl };
+    from = low;
+    high = last;
+    ends = record { place = length xs - 1; within = omega (arith, some); is = last_is xs some ∙ sym is };
     upto = high;
   };
 }

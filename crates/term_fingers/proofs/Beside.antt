@@ -18,16 +18,8 @@ use Rattle.live_version.specs.Contents.{SlotContent, VersionContent, IsSlot, IsV
 use Rattle.live_version.proofs.PartWords.{held_in_slot}
 use Rattle.live_version.proofs.WordLemmas.{postings_rise}
 use Rattle.term_fingers.specs.Lists.{ArePassed, IsAt, LackPairs, one_below, shard_at, addresses_in, list_of, places_of}
-use Rattle.term_fingers.proofs.Nearest.{below-lt, below-ge}
+use Rattle.term_fingers.proofs.Nearest.{below-lt, below-ge, climbs}
 use Rattle.term_fingers.proofs.Places.{place_known}
-
--- a member is at most one that stands behind it
-pub climbs : (low end : ℕ) (xs : List ℕ) (i j : ℕ) → RiseWithin low end xs → i ≤ j → j < length xs → get_or xs i 0 ≤ get_or xs j 0
-climbs low end [] i j r le lt = absurd (omega (arith, lt))
-climbs low end (x ∷ xs) zero zero r le lt = le_refl x
-climbs low end (x ∷ xs) zero (suc j) r le lt = let above = (rise_index (x + 1) end xs j r.2 (omega (arith, lt))).0 in omega (arith, above)
-climbs low end (x ∷ xs) (suc i) zero r le lt = absurd (omega (arith, le))
-climbs low end (x ∷ xs) (suc i) (suc j) r le lt = climbs (x + 1) end xs i j r.2 (omega (arith, le)) (omega (arith, lt))
 
 module _ (first second : List ℕ) (k : ℕ) (rise : ArePostings first) (rise_behind : ArePostings second) where
   -- where what stands before both places is below k, and below k + 1, nothing was passed

@@ -1,16 +1,17 @@
 -- The member of a rising list that is nearest to an address, by the place where a search ended.
-use Rattle.std.proofs.Common.{◌≡◌, ℕ, zero, suc, ◌+◌, ◌-◌, ◌*◌, ◌^◌, ◌<◌, ◌≤◌, min, true, false, cond, leb, ltb, List, [], ◌∷◌, length, drop, get_or, Option, Some, None, inl, inr, refl, sym, ap, ◌∙◌, subst, arith}
+use Rattle.std.proofs.Common.{◌≡◌, ℕ, zero, suc, ◌+◌, ◌-◌, ◌*◌, ◌^◌, ◌<◌, ◌≤◌, min, true, false, cond, leb, ltb, List, [], ◌∷◌, length, drop, get_or, Option, Some, None, inl, inr, refl, sym, ap, ◌∙◌, subst, arith, le_refl}
 use Rattle.std.specs.List.{slice_get}
 use Rattle.std.specs.Option.{option_or}
 use Rattle.std.proofs.lemmas.Bool.{cases_Bool, cases_lt, le-leb, lt-leb, lt-ltb, le-ltb, leb-true, leb-false, ltb-true, ltb-false}
 use Rattle.std.proofs.lemmas.List.{length-take, length-drop, get_or-take, get_or-drop}
 use Rattle.std.proofs.lemmas.Option.{slice_get-get_or, slice_get_past}
+use Rattle.posting_code.specs.Packed.{last_of}
 use Rattle.posting_code.specs.Postings.{RiseWithin, ArePostings, block_of}
 use Rattle.posting_code.proofs.Rising.{rise_index}
 use Rattle.posting_access.specs.Search.{least_from, greatest_to}
 use Rattle.posting_code.proofs.Around.{block_rises}
 use Rattle.posting_access.proofs.Searches.{IsNear, greatest_near, greatest_none, least_near}
-use Rattle.term_fingers.specs.Lists.{TellsNearest, one_below}
+use Rattle.term_fingers.specs.Lists.{AreBelow, EndBetween, TellsNearest, one_below, size_below}
 
 pub block_is_few : (xs : List ℕ) (b : ℕ) → length (block_of xs b) ≤ 64
 block_is_few xs b = omega (arith, length-take 64 (drop (64 * b) xs))
@@ -41,33 +42,39 @@ greatest_at low end (x ∷ xs) zero k r within before after =
 greatest_at low end (x ∷ xs) (suc n) k r within before after =
     rw (greatest_at (x + 1) end xs n k r.2 (omega arith) before (λ m e lt. after (suc m) (ap suc e) (omega arith))) refl
 
--- where a search for the members before k ended
-least_at_border : (xs : List ℕ) (n k : ℕ) → ArePostings xs → n ≤ length xs → (0 < n → ltb (get_or xs (n - 1) 0) k ≡ true) → (n < length xs → ltb (get_or xs n 0) k ≡ false) → least_from xs k ≡ slice_get xs n
-least_at_border xs n k r within before after =
-    least_at 0 (2 ^ 56) xs n k r within
-    (λ m e. let back : n - 1 ≡ m = omega arith in subst (λ i. get_or xs i 0 < k) back (ltb-true _ _ (before (omega arith))))
-    (λ lt. ltb-false _ _ (after lt))
+-- what stands behind the members below k is the least from k on
+pub least_below : (xs : List ℕ) (n k : ℕ) → ArePostings xs → AreBelow xs k n → least_from xs k ≡ slice_get xs n
+least_below xs n k r below = least_at 0 (2 ^ 56) xs n k r below.within (λ m e. let back : n - 1 ≡ m = omega (arith, e) in subst (λ i. get_or xs i 0 < k) back (below.before (omega (arith, e)))) below.after
 
-pub least_past_border : (xs : List ℕ) (n k : ℕ) → ArePostings xs → n ≤ length xs → (0 < n → ltb (get_or xs (n - 1) 0) k ≡ true) → (n < length xs → ltb (get_or xs n 0) k ≡ false) → n ≡ length xs →
-    None ≡ least_from xs k
-least_past_border xs n k r within before after e = sym (least_at_border xs n k r within before after ∙ slice_get_past xs n (omega arith))
+-- where none is below what comes right behind k, none is k or less
+pub greatest_before : (xs : List ℕ) (n k next : ℕ) → ArePostings xs → ((u : ℕ) → u < 2 ^ 56 → next ≤ u → k < u) → AreBelow xs next n → n ≡ 0 → None ≡ greatest_to xs k
+greatest_before xs n k next r above below none =
+    sym (none_at 0 (2 ^ 56) xs k r (λ lt. above (get_or xs 0 0) (rise_index 0 (2 ^ 56) xs 0 r lt).1 (subst (λ i. i < length xs → next ≤ get_or xs i 0) none below.after lt)))
 
-pub least_in_border : (xs : List ℕ) (n k : ℕ) → ArePostings xs → n ≤ length xs → (0 < n → ltb (get_or xs (n - 1) 0) k ≡ true) → (n < length xs → ltb (get_or xs n 0) k ≡ false) → n < length xs →
-    Some (get_or xs n 0) ≡ least_from xs k
-least_in_border xs n k r within before after lt = sym (least_at_border xs n k r within before after ∙ slice_get-get_or xs n 0 lt)
-
--- where a search for the members up to k ended
-pub greatest_before_border : (xs : List ℕ) (n k : ℕ) → ArePostings xs → n ≡ 0 → (n < length xs → leb (get_or xs n 0) k ≡ false) → None ≡ greatest_to xs k
-greatest_before_border xs n k r none after =
-    sym (none_at 0 (2 ^ 56) xs k r (λ lt. leb-false _ _ (subst (λ i. i < length xs → leb (get_or xs i 0) k ≡ false) none after lt)))
-
-pub greatest_in_border : (xs : List ℕ) (n at k : ℕ) → ArePostings xs → n ≡ at + 1 → n ≤ length xs → (0 < n → leb (get_or xs (n - 1) 0) k ≡ true) → (n < length xs → leb (get_or xs n 0) k ≡ false) →
+-- else the last that is below it is the greatest up to k
+pub greatest_below : (xs : List ℕ) (n at k next : ℕ) → ArePostings xs → ((u : ℕ) → u < 2 ^ 56 → u < next → u ≤ k) → ((u : ℕ) → u < 2 ^ 56 → next ≤ u → k < u) → AreBelow xs next n → n ≡ at + 1 →
     Some (get_or xs at 0) ≡ greatest_to xs k
-greatest_in_border xs n at k r is within before after =
-    let back : n - 1 ≡ at = omega arith in
-    sym (greatest_at 0 (2 ^ 56) xs at k r (omega arith)
-    (subst (λ i. get_or xs i 0 ≤ k) back (leb-true _ _ (before (omega arith))))
-    (λ m e lt. let same : n ≡ m = omega arith in subst (λ i. k < get_or xs i 0) same (leb-false _ _ (after (omega arith)))))
+greatest_below xs n at k next r upto above below is =
+    let back : n - 1 ≡ at = omega (arith, is) in
+    let within : at < length xs = omega (arith, is, below.within) in
+    let less : get_or xs at 0 < next = subst (λ i. get_or xs i 0 < next) back (below.before (omega (arith, is))) in
+    sym (greatest_at 0 (2 ^ 56) xs at k r within
+    (upto (get_or xs at 0) (rise_index 0 (2 ^ 56) xs at r within).1 less)
+    (λ m e lt.
+    let same : n ≡ m = omega (arith, is, e) in
+    above (get_or xs m 0) (rise_index 0 (2 ^ 56) xs m r lt).1 (subst (λ i. i < length xs → next ≤ get_or xs i 0) same below.after lt)))
+
+-- where a search for the members before k ended
+pub below_border : (xs : List ℕ) (n k : ℕ) → n ≤ length xs → (0 < n → ltb (get_or xs (n - 1) 0) k ≡ true) → (n < length xs → ltb (get_or xs n 0) k ≡ false) → AreBelow xs k n
+below_border xs n k within before after = record { within = within; before = λ some. ltb-true _ _ (before some); after = λ lt. ltb-false _ _ (after lt) }
+
+-- a member is at most one that stands behind it
+pub climbs : (low end : ℕ) (xs : List ℕ) (i j : ℕ) → RiseWithin low end xs → i ≤ j → j < length xs → get_or xs i 0 ≤ get_or xs j 0
+climbs low end [] i j r le lt = absurd (omega (arith, lt))
+climbs low end (x ∷ xs) zero zero r le lt = le_refl x
+climbs low end (x ∷ xs) zero (suc j) r le lt = let above = (rise_index (x + 1) end xs j r.2 (omega (arith, lt))).0 in omega (arith, above)
+climbs low end (x ∷ xs) (suc i) zero r le lt = absurd (omega (arith, le))
+climbs low end (x ∷ xs) (suc i) (suc j) r le lt = climbs (x + 1) end xs i j r.2 (omega (arith, le)) (omega (arith, lt))
 
 -- a member is less than the one behind it
 rises_on : (low end : ℕ) (xs : List ℕ) (i : ℕ) → RiseWithin low end xs → suc i < length xs → get_or xs i 0 < get_or xs (suc i) 0
@@ -118,58 +125,79 @@ tells_nearest xs part b k r is some first last =
       greatest = greatest_near xs k b (b + 1) near refl ∙ ap (λ ys. greatest_to ys k) (sym is);
     }
 
--- a member that is k or more, behind one that is less, is the least from k on
-found_behind : (xs : List ℕ) (i k : ℕ) → ArePostings xs → suc i < length xs → get_or xs i 0 < k → k ≤ get_or xs (suc i) 0 → (suc i < length xs) × (Some (get_or xs (suc i) 0) ≡ least_from xs k)
-found_behind xs i k r within less more =
-    (within, sym (least_at 0 (2 ^ 56) xs (suc i) k r (omega arith) (λ m e. let same : i ≡ m = omega arith in subst (λ j. get_or xs j 0 < k) same less) (λ _. more) ∙ slice_get-get_or xs (suc i) 0 within))
-
 pub below-lt : (u k : ℕ) → u < k → one_below u k ≡ 1
 below-lt u k lt = ap (λ b. cond b 1 0) (lt-ltb u k lt)
 
 pub below-ge : (u k : ℕ) → k ≤ u → one_below u k ≡ 0
 below-ge u k ge = ap (λ b. cond b 1 0) (le-ltb u k ge)
 
--- of four members behind one that is less than k, of which the last is not, so many are less: the one behind these is the least from k on
-pub found_soon : (xs : List ℕ) (n i k : ℕ) → ArePostings xs → n ≡ suc i → n + 4 ≤ length xs → get_or xs (n - 1) 0 < k → k ≤ get_or xs (n + 3) 0 →
-    (n + one_below (get_or xs n 0) k + one_below (get_or xs (n + 1) 0) k + one_below (get_or xs (n + 2) 0) k < length xs)
-    × (Some (get_or xs (n + one_below (get_or xs n 0) k + one_below (get_or xs (n + 1) 0) k + one_below (get_or xs (n + 2) 0) k) 0) ≡ least_from xs k)
-found_soon xs n i k r is room less more =
-    let back : n - 1 ≡ i = omega (arith, is) in
-    let next : n + 1 ≡ suc n = omega arith in
-    let third : n + 2 ≡ suc (n + 1) = omega arith in
-    let fourth : n + 3 ≡ suc (n + 2) = omega arith in
-    let before : get_or xs i 0 < k = subst (λ j. get_or xs j 0 < k) back less in
-    let up_0 : get_or xs n 0 < get_or xs (n + 1) 0 = subst (λ j. get_or xs n 0 < get_or xs j 0) (sym next) (rises_on 0 (2 ^ 56) xs n r (omega (arith, room))) in
-    let up_1 : get_or xs (n + 1) 0 < get_or xs (n + 2) 0 = subst (λ j. get_or xs (n + 1) 0 < get_or xs j 0) (sym third) (rises_on 0 (2 ^ 56) xs (n + 1) r (omega (arith, room))) in
-    elim (cases_lt (get_or xs n 0) k) [
-      | inl a ↦
-          elim (cases_lt (get_or xs (n + 1) 0) k) [
-            | inl b ↦
-                elim (cases_lt (get_or xs (n + 2) 0) k) [
-                  | inl d ↦
-                      let e0 = below-lt _ _ a in
-                      let e1 = below-lt _ _ b in
-                      let e2 = below-lt _ _ d in
-                      let same : suc (n + 2) ≡ n + one_below (get_or xs n 0) k + one_below (get_or xs (n + 1) 0) k + one_below (get_or xs (n + 2) 0) k = omega (arith, e0, e1, e2) in
-                      subst (λ a. (a < length xs) × (Some (get_or xs a 0) ≡ least_from xs k)) same (found_behind xs (n + 2) k r (omega (arith, room)) d (subst (λ j. k ≤ get_or xs j 0) fourth more))
-                  | inr d ↦
-                      let e0 = below-lt _ _ a in
-                      let e1 = below-lt _ _ b in
-                      let e2 = below-ge _ _ d in
-                      let same : suc (n + 1) ≡ n + one_below (get_or xs n 0) k + one_below (get_or xs (n + 1) 0) k + one_below (get_or xs (n + 2) 0) k = omega (arith, e0, e1, e2) in
-                      subst (λ a. (a < length xs) × (Some (get_or xs a 0) ≡ least_from xs k)) same (found_behind xs (n + 1) k r (omega (arith, room)) b (subst (λ j. k ≤ get_or xs j 0) third d))
+part-lt : (u k size : ℕ) → u < k → size_below u k size ≡ size
+part-lt u k size lt = ap (λ b. cond b size 0) (lt-ltb u k lt)
+
+part-ge : (u k size : ℕ) → k ≤ u → size_below u k size ≡ 0
+part-ge u k size ge = ap (λ b. cond b size 0) (le-ltb u k ge)
+
+-- a part is told by its ends
+part_is : (xs : List ℕ) (k size n m : ℕ) → n ≡ m → m + size ≤ length xs → (0 < m → get_or xs (m - 1) 0 < k) → (m + size < length xs → k ≤ get_or xs (m + size) 0) → (n + size ≤ length xs) × EndBetween xs k n (n + size)
+part_is xs k size n m same within before after = subst (λ i. (i + size ≤ length xs) × EndBetween xs k i (i + size)) (sym same) (within, record { before = before; after = after })
+
+-- of four parts those that end below k come first, and the members below k end in the one behind them
+pub quarter_ends : (xs : List ℕ) (k i size a b d : ℕ) → ArePostings xs → 0 < size → i + 4 * size ≤ length xs → EndBetween xs k i (i + 4 * size) →
+    a ≡ size_below (get_or xs (i + size - 1) 0) k size → b ≡ size_below (get_or xs (i + 2 * size - 1) 0) k size → d ≡ size_below (get_or xs (i + 3 * size - 1) 0) k size →
+    (i + a + b + d + size ≤ length xs) × EndBetween xs k (i + a + b + d) (i + a + b + d + size)
+quarter_ends xs k i size a b d r some fits ends ea eb ed =
+    let up_2 : get_or xs (i + size - 1) 0 ≤ get_or xs (i + 2 * size - 1) 0 = climbs 0 (2 ^ 56) xs (i + size - 1) (i + 2 * size - 1) r (omega arith) (omega (arith, some, fits)) in
+    let up_3 : get_or xs (i + 2 * size - 1) 0 ≤ get_or xs (i + 3 * size - 1) 0 = climbs 0 (2 ^ 56) xs (i + 2 * size - 1) (i + 3 * size - 1) r (omega arith) (omega (arith, some, fits)) in
+    elim (cases_lt (get_or xs (i + size - 1) 0) k) [
+      | inr ge_1 ↦
+          let same : i + a + b + d ≡ i = omega (arith, ea ∙ part-ge _ k size ge_1, eb ∙ part-ge _ k size (omega (arith, ge_1, up_2)), ed ∙ part-ge _ k size (omega (arith, ge_1, up_2, up_3))) in
+          part_is xs k size (i + a + b + d) i same (omega (arith, fits)) ends.before
+          (λ lt. let up : get_or xs (i + size - 1) 0 ≤ get_or xs (i + size) 0 = climbs 0 (2 ^ 56) xs (i + size - 1) (i + size) r (omega arith) lt in omega (arith, ge_1, up))
+      | inl lt_1 ↦
+          elim (cases_lt (get_or xs (i + 2 * size - 1) 0) k) [
+            | inr ge_2 ↦
+                let same : i + a + b + d ≡ i + size = omega (arith, ea ∙ part-lt _ k size lt_1, eb ∙ part-ge _ k size ge_2, ed ∙ part-ge _ k size (omega (arith, ge_2, up_3))) in
+                part_is xs k size (i + a + b + d) (i + size) same (omega (arith, fits)) (λ _. lt_1)
+                (λ lt. let up : get_or xs (i + 2 * size - 1) 0 ≤ get_or xs (i + size + size) 0 = climbs 0 (2 ^ 56) xs (i + 2 * size - 1) (i + size + size) r (omega arith) lt in omega (arith, ge_2, up))
+            | inl lt_2 ↦
+                elim (cases_lt (get_or xs (i + 3 * size - 1) 0) k) [
+                  | inr ge_3 ↦
+                      let same : i + a + b + d ≡ i + 2 * size = omega (arith, ea ∙ part-lt _ k size lt_1, eb ∙ part-lt _ k size lt_2, ed ∙ part-ge _ k size ge_3) in
+                      part_is xs k size (i + a + b + d) (i + 2 * size) same (omega (arith, fits)) (λ _. lt_2)
+                      (λ lt. let up : get_or xs (i + 3 * size - 1) 0 ≤ get_or xs (i + 2 * size + size) 0 = climbs 0 (2 ^ 56) xs (i + 3 * size - 1) (i + 2 * size + size) r (omega arith) lt in omega (arith, ge_3, up))
+                  | inl lt_3 ↦
+                      let same : i + a + b + d ≡ i + 3 * size = omega (arith, ea ∙ part-lt _ k size lt_1, eb ∙ part-lt _ k size lt_2, ed ∙ part-lt _ k size lt_3) in
+                      let end : i + 4 * size ≡ i + 3 * size + size = omega arith in
+                      part_is xs k size (i + a + b + d) (i + 3 * size) same (omega (arith, fits)) (λ _. lt_3)
+                      (subst (λ j. j < length xs → k ≤ get_or xs j 0) end ends.after)
                 ]
-            | inr b ↦
-                let e0 = below-lt _ _ a in
-                let e1 = below-ge _ _ b in
-                let e2 = below-ge (get_or xs (n + 2) 0) k (omega (arith, b, up_1)) in
-                let same : suc n ≡ n + one_below (get_or xs n 0) k + one_below (get_or xs (n + 1) 0) k + one_below (get_or xs (n + 2) 0) k = omega (arith, e0, e1, e2) in
-                subst (λ a. (a < length xs) × (Some (get_or xs a 0) ≡ least_from xs k)) same (found_behind xs n k r (omega (arith, room)) a (subst (λ j. k ≤ get_or xs j 0) next b))
           ]
-      | inr a ↦
-          let e0 = below-ge _ _ a in
-          let e1 = below-ge (get_or xs (n + 1) 0) k (omega (arith, a, up_0)) in
-          let e2 = below-ge (get_or xs (n + 2) 0) k (omega (arith, a, up_0, up_1)) in
-          let same : suc i ≡ n + one_below (get_or xs n 0) k + one_below (get_or xs (n + 1) 0) k + one_below (get_or xs (n + 2) 0) k = omega (arith, is, e0, e1, e2) in
-          subst (λ a. (a < length xs) × (Some (get_or xs a 0) ≡ least_from xs k)) same (found_behind xs i k r (omega (arith, is, room)) before (subst (λ j. k ≤ get_or xs j 0) is a))
     ]
+
+-- where they end at one member, that one decides
+pub below_one : (xs : List ℕ) (k at n : ℕ) → at + 1 ≤ length xs → EndBetween xs k at (at + 1) → n ≡ at + one_below (get_or xs at 0) k → AreBelow xs k n
+below_one xs k at n within ends is =
+    elim (cases_lt (get_or xs at 0) k) [
+      | inl lt ↦
+          let same : at + 1 ≡ n = omega (arith, is, below-lt _ k lt) in
+          let back : at ≡ at + 1 - 1 = omega arith in
+          subst (AreBelow xs k) same record { within = within; before = λ _. subst (λ i. get_or xs i 0 < k) back lt; after = ends.after }
+      | inr ge ↦
+          let same : at ≡ n = omega (arith, is, below-ge _ k ge) in
+          subst (AreBelow xs k) same record { within = omega (arith, within); before = ends.before; after = λ _. ge }
+    ]
+
+-- a place with one below k right before it, and the fourth behind it not below k, begins four that they end in
+pub ends_soon : (xs : List ℕ) (k n : ℕ) → ArePostings xs → get_or xs (n - 1) 0 < k → k ≤ get_or xs (n + 3) 0 → EndBetween xs k n (n + 4)
+ends_soon xs k n r less more = record {
+  before = λ _. less;
+  after = λ lt. let up : get_or xs (n + 3) 0 ≤ get_or xs (n + 4) 0 = climbs 0 (2 ^ 56) xs (n + 3) (n + 4) r (omega arith) lt in omega (arith, more, up);
+}
+
+-- the last member stands at the last place
+pub last_is : (xs : List ℕ) → 0 < length xs → get_or xs (length xs - 1) 0 ≡ last_of xs
+last_is [] some = absurd (omega (arith, some))
+last_is (x ∷ []) some = refl
+last_is (x ∷ y ∷ ys) some =
+    let behind : length (x ∷ y ∷ ys) - 1 ≡ suc (length (y ∷ ys) - 1) = omega arith in
+    ap (λ i. get_or (x ∷ y ∷ ys) i 0) behind ∙ last_is (y ∷ ys) (omega arith)

@@ -1,5 +1,5 @@
 -- The lists that the terms of a query have in the slots of a version.
-use Rattle.std.specs.Prelude.{◌≡◌, ℕ, ◌+◌, ◌<◌, ◌≤◌, Bool, ◌==◌, nat_lt, if◌then◌else◌, List, [], length, map, Option, None, Some, slice_get, slice_index}
+use Rattle.std.specs.Prelude.{◌≡◌, ℕ, ◌+◌, ◌-◌, ◌<◌, ◌≤◌, Bool, ◌==◌, nat_lt, if◌then◌else◌, List, [], length, map, Option, None, Some, slice_get, slice_index}
 use Rattle.std.specs.Option.{option_map}
 use Rattle.gcl_model.specs.declared.direction.Direction.{Direction}
 use Rattle.index_shard.specs.Searched.{nearest}
@@ -46,6 +46,21 @@ pub record TellsNearest (list part : List ℕ) (k : ℕ) : Type 0 where
 -- 1 for a member below k, else 0: of 5 it is 1 below 6, and 0 below 5
 abbrev pub one_below : ℕ → ℕ → ℕ
 one_below member k = if nat_lt member k then 1 else 0
+
+-- the size of a part whose last member is below k, else 0: a part of 16 that ends with 5 counts as 16 below 6, and as 0 below 5
+abbrev pub size_below : ℕ → ℕ → ℕ → ℕ
+size_below last k size = if nat_lt last k then size else 0
+
+-- the members below k end at place i or behind, and before place j or there: of 2, 5 and 9 those below 6 end between 0 and 2
+pub record EndBetween (members : List ℕ) (k i j : ℕ) : Type 0 where
+  pub before : 0 < i → slice_index members (i - 1) < k
+  pub after : j < length members → k ≤ slice_index members j
+
+-- the first n members are those below k: of 2, 5 and 9 the first two are below 6
+pub record AreBelow (members : List ℕ) (k n : ℕ) : Type 0 where
+  pub within : n ≤ length members
+  pub before : 0 < n → slice_index members (n - 1) < k
+  pub after : n < length members → k ≤ slice_index members n
 
 -- the number is the member at a place: 5 is one of 2, 5 and 9, at place 1
 pub record IsAt (members : List ℕ) (p : ℕ) : Type 0 where

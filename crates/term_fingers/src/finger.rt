@@ -15,8 +15,7 @@ use posting_code::{BLOCK, Postings};
 use std::marker::PhantomData;
 
 /// Where a term was last looked for: one block of one list, its members where they were read, and a place among them.
-// The list is told by the number of its slot and by its place there. To unpack a whole block takes twice as long as to go through it
-// up to an answer, so the next block is unpacked at once only where the last one was looked into again.
+// The list is told by the number of its slot and by its place there.
 #[derive(Drop)]
 pub(crate) struct Finger<J: Naming> {
     slot: usize,
@@ -25,7 +24,6 @@ pub(crate) struct Finger<J: Naming> {
     count: usize,
     members: [u64; 64],
     at: usize,
-    again: bool,
     of: PhantomData<J>,
     ghost few: { count ≤ 64 },
     ghost is: { 0 < count → take count members ≡ block_of (list_of J.version.slots slot place) block },
@@ -41,7 +39,6 @@ impl<J: Naming> Finger<J> {
             count: 0,
             members: [0; BLOCK],
             at: 0,
-            again: false,
             of: PhantomData,
         }
     }
@@ -79,11 +76,8 @@ impl<J: Naming> Finger<J> {
         if pair.at < k {
             return unknown;
         }
-        // both blocks were of use, so the next ones are unpacked at once
         self.at = at;
-        self.again = true;
         other.at = behind;
-        other.again = true;
         pair
     }
 
@@ -106,6 +100,27 @@ impl<J: Naming> Finger<J> {
         let (found, at) = nearest_in(members, self.at, k, direction, probes);
         self.at = at;
         found
+    }
+
+    /// The address that is nearest to `k` on one side, in the list at a place of the slot with this number, where `k` lies between the ends
+    /// of the list.
+    #[inline(never)]
+    pub(crate) fn nearest_within<P: Ledger>(
+        &mut self,
+        list: &Postings<'_>,
+        slot: usize,
+        place: usize,
+        k: u64,
+        direction: Direction,
+        probes: &mut Steps<P>,
+    ) -> Option<u64>
+        requires { list.now ≡ list_of J.version.slots slot place }
+        ensures { IfSome result (IsAtHand direction (list_of J.version.slots slot place) k) }
+    {
+        if list.len() == 0 || k < list.first() || list.last() < k {
+            return None;
+        }
+        self.nearest(list, slot, place, k, direction, probes)
     }
 
     /// The address that is nearest to `k` on one side, in the list at a place of the slot with this number.
@@ -185,16 +200,13 @@ impl<J: Naming> Finger<J> {
         requires block { block < blocks_of list.now }
         ensures { result ≡ least_from (block_of list.now block) k }
     {
-        if self.passes_by(slot, place, block) {
-            return list.around(block, k).1;
-        }
         self.read(list, slot, place, block);
         let (found, at) = least_in(&self.members[..self.count], self.at, k, probes);
         self.at = at;
         found
     }
 
-    /// The first address of a block, if there is such a block. It is read where the one before it was looked into again.
+    /// The first address of a block, if there is such a block.
     fn first_of(
         &mut self,
         list: &Postings<'_>,
@@ -209,10 +221,8 @@ impl<J: Naming> Finger<J> {
         if block == list.block_count() {
             return None;
         }
-        if self.again {
-            self.again = false;
-            self.read(list, slot, place, block);
-        }
+        // the next look-up most often finds its answer here
+        self.read(list, slot, place, block);
         Some(list.block_first(block))
     }
 
@@ -252,9 +262,6 @@ impl<J: Naming> Finger<J> {
     {
         let near = blocks_up_to(list, self.block, k, probes);
         let last = near.checked_sub(1)?;
-        if self.passes_by(slot, place, last) {
-            return list.around(last, k.saturating_add(1)).0;
-        }
         self.read(list, slot, place, last);
         let (found, behind) = greatest_in(&self.members[..self.count], self.at, k, probes);
         self.at = behind;
@@ -274,23 +281,6 @@ impl<J: Naming> Finger<J> {
             return false;
         }
         reach_around(&self.members[..self.count], k)
-    }
-
-    /// Goes to a block, and says whether it stays packed: where it is another one than before, and that one was looked into once.
-    fn passes_by(&mut self, slot: usize, place: usize, block: usize) -> bool {
-        if self.slot == slot && self.place == place && self.block == block {
-            self.again = true;
-            return false;
-        }
-        if self.again {
-            self.again = false;
-            return false;
-        }
-        self.count = 0;
-        self.slot = slot;
-        self.place = place;
-        self.block = block;
-        true
     }
 
     /// Reads a block, unless it is the one that was read last.

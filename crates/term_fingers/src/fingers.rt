@@ -21,7 +21,7 @@ const MOST_TERMS: usize = 16;
 #[derive(Drop)]
 pub struct Fingers<'a, J: Naming> {
     version: &'a Version,
-    whole: WholeSlots<J>,
+    whole: WholeSlots<'a, J>,
     // a place that is not used yet is None, and no other one
     terms: ArrayVec<Option<Term<'a, J>>, MOST_TERMS>,
 }

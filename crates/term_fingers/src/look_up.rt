@@ -81,9 +81,9 @@ fn unprobed<J: Naming, B: ledger::Ledger>(
 
 /// The place of a term in the version that is nearest to `k` on one side, where its finger tells it. The probes are kept nowhere.
 #[inline]
-pub(crate) fn at_hand_unprobed<J: Naming, B: ledger::Ledger>(
-    term: &Term<'_, J>,
-    whole: &WholeSlots<J>,
+pub(crate) fn at_hand_unprobed<'a, J: Naming, B: ledger::Ledger>(
+    term: &Term<'a, J>,
+    whole: &WholeSlots<'a, J>,
     k: u64,
     direction: Direction,
     blank: Blank,

@@ -1,12 +1,13 @@
-ghost use Rattle.std.specs.Prelude.{◌≡◌, ◌-◌, ◌<◌, ◌≤◌, Some, IfSome, IsTrue, slice_index, length};
+ghost use Rattle.std.specs.Prelude.{◌≡◌, ◌+◌, ◌*◌, ◌-◌, ◌<◌, ◌≤◌, IfSome, IsTrue, slice_index, length};
 ghost use Rattle.posting_code.specs.Postings.{ArePostings};
 ghost use Rattle.posting_access.specs.Search.{least_from, greatest_to};
 ghost use Rattle.index_shard.specs.Searched.{nearest};
-ghost use Rattle.term_fingers.specs.Lists.{one_below};
+ghost use Rattle.term_fingers.specs.Lists.{AreBelow, EndBetween, one_below, size_below};
 
 use crate::near::border_near;
 use gcl_model::{Direction, Ledger, Steps};
 use posting_access::Test;
+use posting_code::BLOCK;
 
 /// The members before `k`.
 #[derive(Drop)]
@@ -27,25 +28,6 @@ impl<'a> Test for Below<'a> {
     }
 }
 
-/// The members up to `k`.
-#[derive(Drop)]
-struct UpTo<'a> {
-    members: &'a [u64],
-    k: u64,
-}
-
-impl<'a> Test for UpTo<'a> {
-    ghost use Rattle.std.specs.Prelude.{nat_le, slice_index, length};
-
-    ghost places = { λ t. length t.members.now };
-
-    ghost passes = { λ t i. nat_le (slice_index t.members.now i) t.k };
-
-    fn passes_at(&self, i: usize) -> bool {
-        self.members[i] <= self.k
-    }
-}
-
 /// Whether `k` lies between the first member and the last one.
 #[inline]
 pub(crate) fn reach_around(members: &[u64], k: u64) -> bool
@@ -58,23 +40,86 @@ pub(crate) fn reach_around(members: &[u64], k: u64) -> bool
     true
 }
 
-/// The place of the least member from `k` on, where that is one of the four from the place `hint` on.
-// Most look-ups go on by a few members, and by how many is chance: so the members below `k` are counted without a branch.
+/// How many members are below `k`, looked for from the place `hint` on: they are the first ones. Any hint is right.
+// Where the answer lies is chance, so a whole block is searched without a branch.
+#[inline]
+fn count_below<P: Ledger>(
+    members: &[u64],
+    hint: usize,
+    k: u64,
+    probes: &mut Steps<P>,
+) -> usize
+    requires { ArePostings members.now }
+    ensures { AreBelow members.now k result }
+{
+    if let Some(at) = soon(members, hint, k) {
+        return at;
+    }
+    if members.len() == BLOCK {
+        return below_in_block(members, k);
+    }
+    border_near(&Below { members, k }, members.len(), hint, probes)
+}
+
+/// The same where the last of them is right before the place `hint`, or one of the three from there on. Most look-ups go on so far.
 #[inline]
 fn soon(members: &[u64], hint: usize, k: u64) -> Option<usize>
     requires { ArePostings members.now }
-    ensures { IfSome result (λ at. (at < length members.now) × (Some (slice_index members.now at) ≡ least_from members.now k)) }
+    ensures { IfSome result (AreBelow members.now k) }
 {
     let before = hint.checked_sub(1)?;
     let room = members.len().checked_sub(4)?;
     if room < hint || k <= members[before] || members[hint + 3] < k {
         return None;
     }
-    Some(
-        hint + one_below(members[hint], k)
-            + one_below(members[hint + 1], k)
-            + one_below(members[hint + 2], k),
-    )
+    Some(below_in_four(members, hint, k))
+}
+
+/// The same in a whole block.
+#[inline]
+fn below_in_block(members: &[u64], k: u64) -> usize
+    requires rising { ArePostings members.now }
+    requires whole { length members.now ≡ 64 }
+    ensures { AreBelow members.now k result }
+{
+    let at = quarter(members, 0, 16, k);
+    let at = quarter(members, at, 4, k);
+    below_in_four(members, at, k)
+}
+
+/// The same where the last of them is right before this place, or one of the four from there on.
+#[inline(always)]
+fn below_in_four(members: &[u64], from: usize, k: u64) -> usize
+    requires rising { ArePostings members.now }
+    requires within { from + 4 ≤ length members.now }
+    requires ends { EndBetween members.now k from (from + 4) }
+    ensures { AreBelow members.now k result }
+{
+    let at = quarter(members, from, 1, k);
+    at + one_below(members[at], k)
+}
+
+/// Of four parts of so many members the one in which those below `k` end, by the place where it begins.
+#[inline(always)]
+fn quarter(members: &[u64], from: usize, size: usize, k: u64) -> usize
+    requires rising { ArePostings members.now }
+    requires some { 0 < size }
+    requires within { from + 4 * size ≤ length members.now }
+    requires ends { EndBetween members.now k from (from + 4 * size) }
+    ensures within { result + size ≤ length members.now }
+    ensures ends { EndBetween members.now k result (result + size) }
+{
+    from + size_below(members[from + size - 1], k, size)
+        + size_below(members[from + 2 * size - 1], k, size)
+        + size_below(members[from + 3 * size - 1], k, size)
+}
+
+/// The size of a part whose last member is below `k`, else 0.
+#[inline(always)]
+fn size_below(last: u64, k: u64, size: usize) -> usize
+    ensures { result ≡ size_below last k size }
+{
+    if last < k { size } else { 0 }
 }
 
 /// 1 for a member below `k`, else 0.
@@ -86,6 +131,7 @@ pub(crate) fn one_below(member: u64, k: u64) -> usize
 }
 
 /// The least member from `k` on, and its place, looked for from the place `hint` on.
+#[inline]
 pub(crate) fn least_in<P: Ledger>(
     members: &[u64],
     hint: usize,
@@ -95,10 +141,7 @@ pub(crate) fn least_in<P: Ledger>(
     requires { ArePostings members.now }
     ensures { result.0 ≡ least_from members.now k }
 {
-    if let Some(at) = soon(members, hint, k) {
-        return (Some(members[at]), at);
-    }
-    let at = border_near(&Below { members, k }, members.len(), hint, probes);
+    let at = count_below(members, hint, k, probes);
     if at == members.len() {
         return (None, at);
     }
@@ -106,6 +149,7 @@ pub(crate) fn least_in<P: Ledger>(
 }
 
 /// The greatest member up to `k`, and the place behind it, looked for from the place `hint` on.
+#[inline]
 pub(crate) fn greatest_in<P: Ledger>(
     members: &[u64],
     hint: usize,
@@ -115,7 +159,7 @@ pub(crate) fn greatest_in<P: Ledger>(
     requires { ArePostings members.now }
     ensures { result.0 ≡ greatest_to members.now k }
 {
-    let behind = border_near(&UpTo { members, k }, members.len(), hint, probes);
+    let behind = count_below(members, hint, k.saturating_add(1), probes);
     let Some(at) = behind.checked_sub(1) else {
         return (None, behind);
     };

@@ -69,12 +69,12 @@ impl<'a, J: Naming> Term<'a, J> {
         }
     }
 
-    /// The place of the term in the version that is nearest to `k` on one side, where its finger's members reach around `k` and nothing in
-    /// their slot is dead.
+    /// The place of the term in the version that is nearest to `k` on one side, where the list that its finger is on reaches around `k` and
+    /// nothing in that one's slot is dead.
     #[inline]
     pub(crate) fn at_hand<P: Ledger>(
         &self,
-        whole: &WholeSlots<J>,
+        whole: &WholeSlots<'a, J>,
         k: u64,
         direction: Direction,
         probes: &mut Steps<P>,
@@ -93,7 +93,7 @@ impl<'a, J: Naming> Term<'a, J> {
     #[inline]
     fn at_hand_by<P: Ledger>(
         &self,
-        whole: &WholeSlots<J>,
+        whole: &WholeSlots<'a, J>,
         finger: &mut Finger<J>,
         k: u64,
         direction: Direction,
@@ -103,15 +103,20 @@ impl<'a, J: Naming> Term<'a, J> {
         ensures { IfSome result (λ p. Some p ≡ nearest direction (places (live_of J.version.slots) self.now.bytes.now) k) }
     {
         let slot = finger.slot();
-        if !whole.has(slot) || !self.has_place(slot, finger.place()) {
+        let place = finger.place();
+        if !whole.has(slot) || !self.has_place(slot, place) {
             return None;
         }
-        finger.at_hand(k, direction, probes)
+        if let Some(p) = finger.at_hand(k, direction, probes) {
+            return Some(p);
+        }
+        let list = whole.list(slot, place)?;
+        finger.nearest_within(&list, slot, place, k, direction, probes)
     }
 
     /// An address from `k` on before which the other term nowhere stands right behind this one, and whether it does there, as far as their
     /// fingers tell.
-    pub(crate) fn earliest_pair(&self, other: &Term<'a, J>, whole: &WholeSlots<J>, k: u64) -> Pair
+    pub(crate) fn earliest_pair(&self, other: &Term<'a, J>, whole: &WholeSlots<'a, J>, k: u64) -> Pair
         requires { IsVersion J.version }
         ensures from { k ≤ result.at }
         ensures none { any_pair (live_of J.version.slots) self.now.bytes.now other.now.bytes.now k result.at ≡ false }
@@ -136,7 +141,7 @@ impl<'a, J: Naming> Term<'a, J> {
     fn earliest_pair_by(
         &self,
         other: &Term<'a, J>,
-        whole: &WholeSlots<J>,
+        whole: &WholeSlots<'a, J>,
         finger: &mut Finger<J>,
         behind: &mut Finger<J>,
         k: u64,

@@ -1,27 +1,31 @@
-ghost use Rattle.std.specs.Prelude.{◌≡◌, ◌≤◌, IsTrue, length, take};
+ghost use Rattle.std.specs.Prelude.{◌≡◌, ◌≤◌, IfSome, IsTrue, length, take};
 ghost use Rattle.gcl_model.specs.Limits.{most_slots};
-ghost use Rattle.term_fingers.specs.Lists.{HasNoDead, is_whole, whole_of};
+ghost use Rattle.term_fingers.specs.Lists.{HasNoDead, is_whole, list_of, whole_of};
 
 use crate::naming::Naming;
 use live_version::{Slot, Version};
+use posting_code::Postings;
 use std::marker::PhantomData;
 
-/// Which slots of the version have no dead range: what is nearest in one of them is nearest in the version.
+/// The slots of the version, and which of them have no dead range: what is nearest in one of these is nearest in the version.
 #[derive(Drop)]
-pub(crate) struct WholeSlots<J: Naming> {
+pub(crate) struct WholeSlots<'a, J: Naming> {
+    version: &'a Version,
     whole: [bool; 32],
     of: PhantomData<J>,
     ghost known: { take (length J.version.slots) whole ≡ whole_of J.version.slots },
+    ghost is: { version.now ≡ J.version },
 }
 
-impl<J: Naming> WholeSlots<J> {
+impl<'a, J: Naming> WholeSlots<'a, J> {
     /// Asks each slot once.
-    pub(crate) fn new(version: &Version) -> Self
+    pub(crate) fn new(version: &'a Version) -> Self
         requires { version.now ≡ J.version }
     {
         // the number of slots is known to be small
         let _slots = version.slot_count();
         WholeSlots {
+            version,
             whole: whole_slots(version.slots()),
             of: PhantomData,
         }
@@ -36,6 +40,17 @@ impl<J: Naming> WholeSlots<J> {
             return false;
         }
         self.whole[number]
+    }
+
+    /// The list at a place of the slot with this number, if there are both.
+    pub(crate) fn list(&self, number: usize, place: usize) -> Option<Postings<'_>>
+        ensures { IfSome result (λ list. list ≡ list_of J.version.slots number place) }
+    {
+        let shard = self.version.slots().get(number)?.shard();
+        if place >= shard.term_count() {
+            return None;
+        }
+        Some(shard.postings(place))
     }
 
     /// Whether what was found in the lists of the slot with this number stands in the version for sure: where nothing of the slot is dead.

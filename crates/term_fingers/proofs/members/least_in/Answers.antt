@@ -1,15 +1,14 @@
-use Rattle.std.proofs.Common.{arith}
-use Rattle.term_fingers.proofs.Nearest.{least_past_border, least_in_border}
+use Rattle.std.proofs.Common.{sym, ◌∙◌, arith}
+use Rattle.std.proofs.lemmas.Option.{slice_get-get_or, slice_get_past}
+use Rattle.term_fingers.proofs.Nearest.{least_below}
 use Rattle.term_fingers.proofs.members.least_in.Goals as goal
 
 pub returns-then-at-members : goal.returns-then-at-members
 returns-then-at-members g c =
-    let e = c.border_near-at.ensures in
-    least_past_border c.args.members.now c.border_near-at.result c.args.k c.requires e.within e.before e.after c.if-at-members.true
+    let below = c.count_below-at.ensures in
+    sym (least_below c.args.members.now c.count_below-at.result c.args.k c.requires below ∙ slice_get_past c.args.members.now c.count_below-at.result (omega (arith, c.if-at-members.true)))
 
 pub returns : goal.returns
 returns g c =
-    let e = c.border_near-at.ensures in
-    let less = e.within in
-    let more = c.if-at-members.false in
-    least_in_border c.args.members.now c.border_near-at.result c.args.k c.requires e.within e.before e.after (omega arith)
+    let below = c.count_below-at.ensures in
+    sym (least_below c.args.members.now c.count_below-at.result c.args.k c.requires below ∙ slice_get-get_or c.args.members.now c.count_below-at.result 0 (omega (arith, below.within, c.if-at-members.false)))

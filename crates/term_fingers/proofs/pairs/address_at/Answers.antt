@@ -1,6 +1,7 @@
 use Rattle.std.proofs.Common.{◌-◌, ◌^◌, ◌<◌, ◌≤◌, length, get_or, arith}
 use Rattle.posting_code.proofs.Rising.{rise_index}
-use Rattle.term_fingers.proofs.Beside.{below_place, climbs}
+use Rattle.term_fingers.proofs.Beside.{below_place}
+use Rattle.term_fingers.proofs.Nearest.{climbs}
 use Rattle.term_fingers.proofs.pairs.address_at.Goals as goal
 
 pub overflow_add-result : goal.overflow_add-result

@@ -1,6 +1,7 @@
 use Rattle.std.proofs.Common.{◌≡◌, ◌+◌, ◌-◌, ◌^◌, ◌<◌, ◌≤◌, length, get_or, arith}
 use Rattle.posting_code.proofs.Rising.{rise_index}
-use Rattle.term_fingers.proofs.Beside.{below_place, climbs, none_passed, passed_start}
+use Rattle.term_fingers.proofs.Beside.{below_place, none_passed, passed_start}
+use Rattle.term_fingers.proofs.Nearest.{climbs}
 use Rattle.term_fingers.proofs.pairs.earliest_pair_in.Goals as goal
 
 pub overflow_add-k : goal.overflow_add-k

@@ -11,12 +11,6 @@ returns-in_err-last g c =
     let near : IsNear c.args.list.now c.args.k c.blocks_up_to-near.result = record { rising = e.rising; within = e.within; before = e.before; after = e.after } in
     c.from_residual.ensures ∙ sym (greatest_first _ _ (subst (IsNear c.args.list.now c.args.k) first near))
 
-pub returns-then-passes_by : goal.returns-then-passes_by
-returns-then-passes_by g c =
-    let e = c.blocks_up_to-near.ensures in
-    let last = c.in_ok-last.ensures in
-    greatest_found _ _ c.in_ok-last.last c.blocks_up_to-near.result _ _ record { rising = e.rising; within = e.within; before = e.before; after = e.after } (omega arith) c.saturating_add.ensures c.around.ensures.below
-
 pub returns : goal.returns
 returns g c =
     let e = c.blocks_up_to-near.ensures in
