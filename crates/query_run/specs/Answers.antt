@@ -131,6 +131,10 @@ query_lines asked text query = lines_by asked text (refused query) (query_form q
 abbrev pub record_lines : List FileEntry → List (List ℕ)
 record_lines files = map record_line files
 
+-- a line for each of some files, and then how many they are
+abbrev pub listing_lines : List FileEntry → List (List ℕ)
+listing_lines files = record_lines files ++ total_line (length files) ∷ []
+
 -- a line for each surviving file, and then their number
 abbrev pub files_lines : Collection → List (List ℕ)
 files_lines c = record_lines (map entry_of c.files) ++ total_line (length c.files) ∷ []

@@ -15,6 +15,7 @@ use Rattle.query_lanes.specs.declared.asks.Asked.TheVariants.{All, First, Number
 use Rattle.query_lanes.specs.declared.asks.Ask.{Ask}
 use Rattle.query_lanes.specs.Answers.{text_asked}
 use Rattle.query_run.specs.Answers.{asked_lines, query_lines, refusal_lines}
+use Rattle.query_run.specs.declared.batches.Batch.{Batch}
 use Rattle.query_run.specs.declared.batches.NextAsk.{NextAsk}
 
 -- the lines that answer what is asked over a text: those of the concordance list of an expression, or its fault
@@ -70,6 +71,10 @@ pub record Begins (asks : List Ask) (all rest : List Line) : Type 0 where
   pub batch : List Line
   pub whole : all ≡ batch ++ rest
   pub are : AreAsked asks batch
+
+-- the lines from a place of a script on begin with the queries of a batch, and it ends where they end
+abbrev pub BeginsAt : ℕ → List ℕ → ℕ → Batch → Type 0
+BeginsAt most script at batch = Begins batch.asks.items (lines most (drop at script)) (lines most (drop batch.after script))
 
 -- the line at this place of a text asks the query, and the line behind it begins where the answer says
 pub record IsNextAsk (most : ℕ) (text : List ℕ) (at : ℕ) (next : NextAsk) : Type 0 where

@@ -2,7 +2,13 @@
 use Rattle.std.specs.Prelude.{◌≡◌, ℕ, ◌+◌, List, ◌++◌, length, take, drop, Option}
 use Rattle.std.specs.Io.KnownBytes.{Appends}
 use Rattle.gcl_model.specs.Extents.{Extent}
-use Rattle.query_lanes.specs.Answers.{page_size}
+use Rattle.gcl_model.specs.FormOf.{form_of}
+use Rattle.gcl_model.specs.Meaning.{concordance}
+use Rattle.gcl_model.specs.declared.expr.Expr.{Expr}
+use Rattle.live_version.specs.Contents.{version_text}
+use Rattle.manifest_publish.specs.Accounts.{Account}
+use Rattle.collection.specs.Engines.{EngineContent}
+use Rattle.query_lanes.specs.Answers.{page_size, text_asked}
 use Rattle.query_lanes.specs.declared.asks.Asked.{Asked}
 use Rattle.query_lanes.specs.declared.asks.Asked.TheVariants.{All, First, Number}
 use Rattle.query_run.specs.Runs.{GetsPart}
@@ -12,6 +18,10 @@ abbrev pub members_asked : Asked → List Extent → List Extent
 members_asked All list = list
 members_asked (First most) list = take most list
 members_asked Number list = list
+
+-- the members that are asked for of an expression: over its own pass, where it has one, and else over the engine's version
+abbrev pub members_found : Asked → Option Account → EngineContent → Expr → List Extent
+members_found asked own engine expr = members_asked asked (concordance (text_asked own (version_text engine.version)) (form_of expr))
 
 -- the page of a list from a place on
 abbrev pub page_from : ℕ → List Extent → List Extent

@@ -6,13 +6,14 @@ use Rattle.outside.specs.Causes.{Rose}
 use Rattle.outside.specs.Contents.{Contents}
 use Rattle.live_version.specs.StandsFor.{StandsFor}
 use Rattle.collection.specs.Engines.{EngineContent}
-use Rattle.script_lang.specs.Lines.{Line, lines, text_of_lines}
+use Rattle.script_lang.specs.Lines.{Line, lines, line_of_cut, text_of_lines}
+use Rattle.script_lang.specs.declared.line_cut.LineCut.{LineCut}
 use Rattle.script_lang.specs.Feeds.{Feed}
 use Rattle.script_lang.specs.Answers.{is_refusal}
 use Rattle.script_lang.specs.declared.commands.Command.{Command}
 use Rattle.script_lang.specs.declared.commands.Command.TheVariants.{Save}
 use Rattle.query_run.specs.States.{State, Keeps}
-use Rattle.query_run.specs.Answers.{Reply, answer, answers, reply, after_reply, state_after, AllAnswered, AreRead}
+use Rattle.query_run.specs.Answers.{Reply, answer, answers, reply, after_reply, state_after, names_kept_of_line, AllAnswered, AreRead}
 use Rattle.query_run.specs.Runs.{HoldsBut, IsStopped}
 use Rattle.query_run.specs.declared.limits.Limits.{Limits}
 use Rattle.query_run.specs.declared.run_fault.RunFault.{RunFault}
@@ -58,6 +59,10 @@ abbrev pub HoldsAfter : {T E : Type 0} → State → Option Reply → List (List
 HoldsAfter state told names before now kept held (Ok _) = held ≡ Some (after_reply state told).files
 HoldsAfter state told names before now kept held (Err _) = HoldsWithin state told names before now kept held
 
+-- the same of the reply to a line, for the names that the line keeps
+abbrev pub HoldsAfterLine : {T E : Type 0} → Limits → State → Line → ℕ → ℕ → Type 0 → Option Contents → Result T E → Type 0
+HoldsAfterLine limits state line before now kept held result = HoldsAfter state (answer limits state line) (names_kept_of_line line) before now kept held result
+
 -- the same of a command that saves, and nothing of another
 abbrev pub HoldsSaved : {T E : Type 0} → Limits → State → Command → ℕ → ℕ → Type 0 → Option Contents → Result T E → Type 0
 HoldsSaved limits state (Save name) before now kept held result = HoldsAfter state (reply limits state (Save name)) (name ∷ []) before now kept held result
@@ -74,6 +79,18 @@ pub record HasWritten (limits : Limits) (state : State) (line : Line) (engine : 
   pub keeps : Keeps engine wanted reply.after
   pub refusal_is : refusal ≡ list_any is_refusal reply.lines
   pub written : Appends old new (text_of_lines reply.lines)
+
+-- a line that is at hand: whether it is long, and what it says
+abbrev pub line_at_hand : Bool → List ℕ → Line
+line_at_hand long bytes = record { long = long; bytes = bytes }
+
+-- the lines of a script from a place on
+abbrev pub lines_from : ℕ → List ℕ → ℕ → List Line
+lines_from most script at = lines most (drop at script)
+
+-- of the lines from a place on the first is the one that is cut there, and the others follow behind the cut
+abbrev pub ComesNext : ℕ → List ℕ → ℕ → LineCut → Type 0
+ComesNext most script at cut = lines_from most script at ≡ line_of_cut script cut ∷ lines_from most script cut.after
 
 -- the lines of a reply, and none where there is no reply
 abbrev pub lines_of : Option Reply → List (List ℕ)
@@ -114,6 +131,34 @@ pub record GoesOn (ahead left : List Line) (n m : ℕ) : Type 0 where
   pub taken : List Line
   pub whole : ahead ≡ taken ++ left
   pub count : m ≡ n + length taken
+
+-- between two places of a script its lines were completed
+abbrev pub GoesBetween : ℕ → List ℕ → ℕ → ℕ → ℕ → ℕ → Type 0
+GoesBetween most script from to n m = GoesOn (lines_from most script from) (lines_from most script to) n m
+
+-- How a run stands: how many lines are completed, what the files hold, the engine, whether a merge is wanted, and whether a refusal is
+-- among the answers
+pub record Stand : Type 0 where
+  pub completed : ℕ
+  pub held : Option Contents
+  pub engine : EngineContent
+  pub wanted : Bool
+  pub refused : Bool
+
+-- a run that stands so
+abbrev pub stand : ℕ → Option Contents → EngineContent → Bool → Bool → Stand
+stand completed held engine wanted refused = record { completed = completed; held = held; engine = engine; wanted = wanted; refused = refused }
+
+-- Wherever some lines stand in a script: where those before them were answered and it stood so then, those that were completed since are
+-- answered too, and it stands so now
+abbrev pub Advances : Limits → List Line → Stand → Stand → Option (List ℕ) → Option (List ℕ) → Type 0
+Advances limits ahead before after mid new = WhoseLines ahead before.completed (λ all.
+    ComesOn limits all before.completed after.completed before.held after.held before.engine after.engine before.wanted after.wanted before.refused after.refused mid new)
+
+-- the same where it may have stopped among them: so many are completed, and the files may lack what a keep answered an error to
+abbrev pub Stops : Limits → List Line → Type 0 → Stand → Stand → Option (List ℕ) → Option (List ℕ) → Type 0
+Stops limits ahead kept before after mid new = WhoseLines ahead before.completed (λ all.
+    StopsFrom limits all before.completed after.completed kept before.held after.held before.engine after.engine before.wanted before.refused mid new)
 
 -- a piece of so many bytes went from a source into a feed
 pub record FeedsPiece (count : ℕ) (old new : Feed) (left left' : Option (List ℕ)) : Type 0 where

@@ -14,7 +14,7 @@ use Rattle.query_run.specs.States.{State, Keeps}
 use Rattle.query_run.specs.Answers.{Reply, answer, answers, state_after, AllAnswered, AreRead}
 use Rattle.query_run.specs.Batches.{AreAsked, ask_lines}
 use Rattle.query_run.specs.Pages.{IsPut}
-use Rattle.query_run.specs.Progress.{HasCome, IsAt, StopsWithin}
+use Rattle.query_run.specs.Progress.{HasCome, IsAt, Stand, StopsWithin, WhoseLines}
 use Rattle.query_run.specs.Runs.{GetsPart}
 use Rattle.query_run.specs.declared.limits.Limits.{Limits}
 use Rattle.query_run.specs.declared.window.Window.{Window}
@@ -37,9 +37,13 @@ fronted text [] asks = []
 fronted text (front ∷ fronts) [] = []
 fronted text (front ∷ fronts) (ask ∷ asks) = (front ++ ask_text text ask) ++ fronted text fronts asks
 
+-- the answers to some queries, each behind its text, and a text behind the last
+abbrev pub waiting_text : Text → List (List ℕ) → List ℕ → List Ask → List ℕ
+waiting_text text fronts tail asks = fronted text fronts asks ++ tail
+
 -- what a window has to write: the answers to its queries, each behind its text, and the text behind the last
 abbrev pub window_text : Text → Window → List ℕ
-window_text text window = fronted text window.fronts.items window.asks.items ++ window.tail.items
+window_text text window = waiting_text text window.fronts.items window.tail.items window.asks.items
 
 -- each query of a window has its text
 abbrev pub IsPaired : Window → Type 0
@@ -83,6 +87,23 @@ HaltsOver limits all n m held before after w a window = (start : State) (old now
 abbrev pub HaltsFrom : Limits → List Line → ℕ → ℕ → Option Contents → EngineContent → EngineContent → Bool → Bool → Option (List ℕ) → Option (List ℕ) → Type 0
 HaltsFrom limits all n m held before after w a mid new = (start : State) (old : Option (List ℕ)) → AreRead limits start all → HasCome limits start (take n all) held before w a old mid →
     IsHalted limits start all m after.version held old new
+
+-- Wherever some lines stand in a script: where those before them were done and it stood so then, those that were completed since are done
+-- too, it stands so now, and the files are as they were
+abbrev pub DoesAhead : Limits → List Line → Stand → Stand → Window → Window → Type 0
+DoesAhead limits ahead before after window window' = WhoseLines ahead before.completed (λ all.
+    DoesOn limits all before.completed after.completed before.held before.engine after.engine before.wanted after.wanted before.refused after.refused window window')
+
+-- the same where it ended among them: so many are completed, and no more was written
+abbrev pub HaltsAhead : Limits → List Line → Stand → Stand → Window → Type 0
+HaltsAhead limits ahead before after window = WhoseLines ahead before.completed (λ all.
+    HaltsOver limits all before.completed after.completed before.held before.engine after.engine before.wanted before.refused window)
+
+-- Wherever some lines stand in a script: where those before them were answered and it stood so then, so many are completed now, and the
+-- files are as they were
+abbrev pub Halts : Limits → List Line → Stand → Stand → Option (List ℕ) → Option (List ℕ) → Type 0
+Halts limits ahead before after mid new = WhoseLines ahead before.completed (λ all.
+    HaltsFrom limits all before.completed after.completed before.held before.engine after.engine before.wanted before.refused mid new)
 
 -- queries were put off and the line behind them was done, and what is written later has their answers and its reply
 pub record GoesOver (limits : Limits) (state : State) (asks : List Ask) (line : Line) (engine : EngineContent) (wanted refusal : Bool) (before after : Window) : Type 0 where

@@ -1,22 +1,20 @@
 //! Queries that were put off are answered, and those behind them.
-ghost use Rattle.std.specs.Prelude.{◌≡◌, ◌+◌, ◌-◌, ◌≤◌, ◌<◌, ◌++◌, [], ◌∷◌, ℕ, false, map, take, drop, flat_map, IfOk, IfSome, OnOk, length};
+ghost use Rattle.std.specs.Prelude.{◌≡◌, ◌+◌, ◌-◌, ◌≤◌, ◌<◌, ◌++◌, [], ℕ, false, map, take, IfOk, IfSome, OnOk, length};
 ghost use Rattle.std.specs.Io.KnownBytes.{Appends};
-ghost use Rattle.std.specs.List.{list_any};
 ghost use Rattle.gcl_model.specs.Limits.{far, most_readers, most_script};
 ghost use Rattle.image_file.specs.Images.{CanBeSaved};
 ghost use Rattle.live_version.specs.Contents.{version_text};
 ghost use Rattle.collection.specs.Engines.{merge_end};
-ghost use Rattle.script_lang.specs.Answers.{is_refusal};
-ghost use Rattle.script_lang.specs.Lines.{lines, line_of_cut, text_of_lines, IsCut};
+ghost use Rattle.script_lang.specs.Lines.{line_of_cut, IsCut};
 ghost use Rattle.query_lanes.specs.Answers.{answer_in};
 ghost use Rattle.query_lanes.specs.Readers.{AreOf};
 ghost use Rattle.query_run.specs.States.{AreLimits};
 ghost use Rattle.query_run.specs.Answers.{names_kept_of_line, names_of};
-ghost use Rattle.query_run.specs.Batches.{Begins, ask_lines, asks_query};
+ghost use Rattle.query_run.specs.Batches.{BeginsAt, asks_query};
 ghost use Rattle.query_run.specs.Pages.{Puts, PutsPart};
-ghost use Rattle.query_run.specs.Progress.{ComesOn, GoesOn, HasCauses, WhoseLines, wish};
+ghost use Rattle.query_run.specs.Progress.{Advances, ComesNext, GoesBetween, HasCauses, lines_from, stand, wish};
 ghost use Rattle.query_run.specs.Runs.{GetsPart};
-ghost use Rattle.query_run.specs.Windows.{AnswersWindow, HaltsFrom, IsPaired, StopsWindow, asks_refuse, asks_text, fronted};
+ghost use Rattle.query_run.specs.Windows.{AnswersWindow, Halts, IsPaired, StopsWindow, asks_refuse, asks_text, waiting_text};
 
 use crate::batches::Batch;
 use crate::limits::Limits;
@@ -50,8 +48,10 @@ fn put_window<K: Sink>(
 ) -> Result<(), RunFault>
     requires answers { answers.items ≡ map (answer_in (version_text engine.now.version)) asks.now }
     requires paired { length fronts.now ≡ length asks.now }
-    ensures puts { OnOk result (Puts (K.written sink.old) (K.written sink.new) out.old.items out.new.items (fronted (version_text engine.now.version) fronts.now asks.now ++ tail.now)) }
-    ensures part { PutsPart (K.written sink.old) (K.written sink.new) out.old.items (fronted (version_text engine.now.version) fronts.now asks.now ++ tail.now) }
+    ensures puts { OnOk result (Puts (K.written sink.old) (K.written sink.new) out.old.items out.new.items
+        (waiting_text (version_text engine.now.version) fronts.now tail.now asks.now)) }
+    ensures part { PutsPart (K.written sink.old) (K.written sink.new) out.old.items
+        (waiting_text (version_text engine.now.version) fronts.now tail.now asks.now) }
     ensures causes { (n : ℕ) → HasCauses (K.faults sink.old) (K.faults sink.new) n n result }
     ensures calm { OnOk result (K.faults sink.new ≡ K.faults sink.old) }
 {
@@ -77,9 +77,11 @@ fn put_answers<K: Sink>(
 ) -> Result<bool, RunFault>
     requires answers { answers.items ≡ map (answer_in (version_text engine.now.version)) asks.now }
     requires room { completed.old + length asks.now ≤ far }
-    ensures puts { OnOk result (Puts (K.written sink.old) (K.written sink.new) out.old.items out.new.items (text_of_lines (flat_map (ask_lines (version_text engine.now.version)) asks.now))) }
-    ensures part { PutsPart (K.written sink.old) (K.written sink.new) out.old.items (text_of_lines (flat_map (ask_lines (version_text engine.now.version)) (take (completed.new - completed.old + 1) asks.now))) }
-    ensures refusal { IfOk result (λ refusal. refusal ≡ list_any is_refusal (flat_map (ask_lines (version_text engine.now.version)) asks.now)) }
+    ensures puts { OnOk result (Puts (K.written sink.old) (K.written sink.new) out.old.items out.new.items
+        (asks_text (version_text engine.now.version) asks.now)) }
+    ensures part { PutsPart (K.written sink.old) (K.written sink.new) out.old.items
+        (asks_text (version_text engine.now.version) (take (completed.new - completed.old + 1) asks.now)) }
+    ensures refusal { IfOk result (λ refusal. refusal ≡ asks_refuse (version_text engine.now.version) asks.now) }
     ensures completed { OnOk result (completed.new ≡ completed.old + length asks.now) }
     ensures counted { (completed.old ≤ completed.new) × (completed.new ≤ completed.old + length asks.now) }
     ensures causes { (n : ℕ) → HasCauses (K.faults sink.old) (K.faults sink.new) n n result }
@@ -111,9 +113,10 @@ fn write_answers<K: Sink>(
     requires paired { length window.now.fronts.items ≡ length put_off.now }
     requires room { completed.old + length asks.now ≤ far }
     ensures written { OnOk result (Appends (K.written sink.old) (K.written sink.new)
-        ((fronted (version_text engine.now.version) window.now.fronts.items put_off.now ++ window.now.tail.items) ++ asks_text (version_text engine.now.version) asks.now)) }
+        (waiting_text (version_text engine.now.version) window.now.fronts.items window.now.tail.items put_off.now
+        ++ asks_text (version_text engine.now.version) asks.now)) }
     ensures part { GetsPart (K.written sink.old) (K.written sink.new)
-        ((fronted (version_text engine.now.version) window.now.fronts.items put_off.now ++ window.now.tail.items)
+        (waiting_text (version_text engine.now.version) window.now.fronts.items window.now.tail.items put_off.now
         ++ asks_text (version_text engine.now.version) (take (completed.new - completed.old + 1) asks.now)) }
     ensures refusal { IfOk result (λ refusal. refusal ≡ asks_refuse (version_text engine.now.version) asks.now) }
     ensures completed { OnOk result (completed.new ≡ completed.old + length asks.now) }
@@ -161,7 +164,8 @@ fn serve_window<R: Threads + Wait + Sync, K: Sink, G: Gate + Sync>(
     requires savable { CanBeSaved engine.old.version }
     requires number { engine.old.version.number + wish wanted.old < merge_end }
     requires room { completed.old + length asks.items ≤ far }
-    ensures step { IfOk result (λ refusal. AnswersWindow window asks.items engine.old engine.new wanted.old wanted.new refusal (K.written sink.old) (K.written sink.new)) }
+    ensures step { IfOk result (λ refusal.
+        AnswersWindow window asks.items engine.old engine.new wanted.old wanted.new refusal (K.written sink.old) (K.written sink.new)) }
     ensures stop { StopsWindow window asks.items (completed.new - completed.old) engine.old engine.new wanted.old (K.written sink.old) (K.written sink.new) }
     ensures completed { OnOk result (completed.new ≡ completed.old + length asks.items) }
     ensures counted { (completed.old ≤ completed.new) × (completed.new ≤ completed.old + length asks.items) }
@@ -198,7 +202,7 @@ fn next_over(
 ) -> Result<Option<LineCut>, AllocError>
     requires { batch.now.after ≤ length script.now }
     ensures places { IfOk result (λ some. IfSome some (IsCut script.now batch.now.after)) }
-    ensures line { IfOk result (λ some. IfSome some (λ cut. lines limits.now.line (drop batch.now.after script.now) ≡ line_of_cut script.now cut ∷ lines limits.now.line (drop cut.after script.now))) }
+    ensures line { IfOk result (λ some. IfSome some (ComesNext limits.now.line script.now batch.now.after)) }
     ensures unasked { IfOk result (λ some. IfSome some (λ cut. asks_query (line_of_cut script.now cut) ≡ false)) }
     ensures unsaved { IfOk result (λ some. IfSome some (λ cut. names_kept_of_line (line_of_cut script.now cut) ≡ [])) }
 {
@@ -230,7 +234,7 @@ pub(crate) fn serve_queries<R: Threads + Wait + Sync, F: Files, K: Sink, G: Gate
     batch: Batch,
 ) -> Result<(), RunFault>
     requires some { 0 < length batch.asks.items }
-    requires begins { Begins batch.asks.items (lines limits.now.line (drop course.old.at script.now)) (lines limits.now.line (drop batch.after script.now)) }
+    requires begins { BeginsAt limits.now.line script.now course.old.at batch }
     requires counts { course.old.at + length batch.asks.items ≤ batch.after }
     requires within { batch.after ≤ length script.now }
     requires room { completed.old + (length script.now - course.old.at) ≤ most_script }
@@ -241,11 +245,13 @@ pub(crate) fn serve_queries<R: Threads + Wait + Sync, F: Files, K: Sink, G: Gate
     requires same { length works.old ≡ length readers.old }
     requires lanes { length readers.old ≤ most_readers }
     requires of { AreOf engine.old.publisher readers.old }
-    ensures goes { OnOk result (GoesOn (lines limits.now.line (drop course.old.at script.now)) (lines limits.now.line (drop course.new.at script.now)) completed.old completed.new) }
-    ensures come { OnOk result (WhoseLines (lines limits.now.line (drop course.old.at script.now)) completed.old (λ all. ComesOn limits.now all completed.old completed.new (F.held files.old) (F.held files.new)
-        engine.old engine.new wanted.old wanted.new course.old.refused course.new.refused (K.written sink.old) (K.written sink.new))) }
-    ensures halted { WhoseLines (lines limits.now.line (drop course.old.at script.now)) completed.old (λ all. HaltsFrom limits.now all completed.old completed.new (F.held files.old)
-        engine.old engine.new wanted.old course.old.refused (K.written sink.old) (K.written sink.new)) }
+    ensures goes { OnOk result (GoesBetween limits.now.line script.now course.old.at course.new.at completed.old completed.new) }
+    ensures come { OnOk result (Advances limits.now (lines_from limits.now.line script.now course.old.at)
+        (stand completed.old (F.held files.old) engine.old wanted.old course.old.refused)
+        (stand completed.new (F.held files.new) engine.new wanted.new course.new.refused) (K.written sink.old) (K.written sink.new)) }
+    ensures halted { Halts limits.now (lines_from limits.now.line script.now course.old.at)
+        (stand completed.old (F.held files.old) engine.old wanted.old course.old.refused)
+        (stand completed.new (F.held files.new) engine.new wanted.new course.new.refused) (K.written sink.old) (K.written sink.new) }
     ensures further { OnOk result ((course.old.at < course.new.at) × (course.new.at ≤ length script.now)) }
     ensures counted { OnOk result ((completed.new + course.old.at ≤ completed.old + course.new.at) × (course.new.asked ≤ completed.new)) }
     ensures numbers { OnOk result (engine.new.version.number + wish wanted.new ≤ completed.new) }
@@ -253,7 +259,7 @@ pub(crate) fn serve_queries<R: Threads + Wait + Sync, F: Files, K: Sink, G: Gate
     ensures of { AreOf engine.new.publisher readers.new }
     ensures same { length works.new ≡ length readers.new }
     ensures lanes { length readers.new ≤ most_readers }
-    ensures quiet { names_of (lines limits.now.line (drop course.old.at script.now)) ≡ [] → files.new ≡ files.old }
+    ensures quiet { names_of (lines_from limits.now.line script.now course.old.at) ≡ [] → files.new ≡ files.old }
     ensures unsaved { F.held files.new ≡ F.held files.old }
     ensures causes { HasCauses (K.faults sink.old) (K.faults sink.new) (F.faults files.old) (F.faults files.new) result }
     ensures sink_calm { OnOk result (K.faults sink.new ≡ K.faults sink.old) }

@@ -8,7 +8,7 @@ ghost use Rattle.script_lang.specs.Commands.{IsNamed};
 ghost use Rattle.query_run.specs.States.{State, AreLimits};
 ghost use Rattle.query_run.specs.Batches.{asks_query, is_query};
 ghost use Rattle.query_run.specs.Answers.{reply, answer, IsRead, IsReadBy, names_asked, names_kept, names_kept_of_line, names_of_line};
-ghost use Rattle.query_run.specs.Progress.{Says, Gives, HoldsAfter, HoldsSaved, IsAt, StopsWithin, wish};
+ghost use Rattle.query_run.specs.Progress.{Says, Gives, HoldsAfterLine, HoldsSaved, IsAt, StopsWithin, line_at_hand, wish};
 
 use crate::changes::{add, delete};
 use crate::limits::Limits;
@@ -123,24 +123,23 @@ fn answer_any<R: Wait, F: Files, G: Gate>(
     long: bool,
     line: &[u8],
 ) -> Result<bool, FileError>
-    requires unasked { asks_query (record { long = long; bytes = line.now }) ≡ false }
+    requires unasked { asks_query (line_at_hand long line.now) ≡ false }
     requires limits { AreLimits limits.now }
     requires savable { CanBeSaved engine.old.version }
     requires number { engine.old.version.number + wish wanted.old < merge_end }
     requires room { lines.old < far }
-    ensures reply { IfOk result (λ refusal. (state : State) → IsAt (F.held files.old) engine.old wanted.old state → IsRead state (record { long = long; bytes = line.now }) →
-        Gives (answer limits.now state (record { long = long; bytes = line.now })) engine.new wanted.new out.old.items out.new.items refusal) }
-    ensures stop { OnErr result ((state : State) → IsAt (F.held files.old) engine.old wanted.old state → IsRead state (record { long = long; bytes = line.now }) →
-        StopsWithin state (answer limits.now state (record { long = long; bytes = line.now })) lines.old lines.new engine.new) }
+    ensures reply { IfOk result (λ refusal. (state : State) → IsAt (F.held files.old) engine.old wanted.old state → IsRead state (line_at_hand long line.now) →
+        Gives (answer limits.now state (line_at_hand long line.now)) engine.new wanted.new out.old.items out.new.items refusal) }
+    ensures stop { OnErr result ((state : State) → IsAt (F.held files.old) engine.old wanted.old state → IsRead state (line_at_hand long line.now) →
+        StopsWithin state (answer limits.now state (line_at_hand long line.now)) lines.old lines.new engine.new) }
     ensures number { OnOk result (engine.new.version.number + wish wanted.new ≤ engine.old.version.number + wish wanted.old + 1) }
     ensures savable { OnOk result (CanBeSaved engine.new.version) }
     ensures publisher { engine.new.publisher ≡ engine.old.publisher }
-    ensures quiet { names_of_line (record { long = long; bytes = line.now }) ≡ [] → files.new ≡ files.old }
-    ensures unsaved { names_kept_of_line (record { long = long; bytes = line.now }) ≡ [] → F.held files.new ≡ F.held files.old }
-    ensures untried { names_kept_of_line (record { long = long; bytes = line.now }) ≡ [] → F.unkept files.new ≡ F.unkept files.old }
+    ensures quiet { names_of_line (line_at_hand long line.now) ≡ [] → files.new ≡ files.old }
+    ensures unsaved { names_kept_of_line (line_at_hand long line.now) ≡ [] → F.held files.new ≡ F.held files.old }
+    ensures untried { names_kept_of_line (line_at_hand long line.now) ≡ [] → F.unkept files.new ≡ F.unkept files.old }
     ensures files { (state : State) → IsAt (F.held files.old) engine.old wanted.old state →
-        HoldsAfter state (answer limits.now state (record { long = long; bytes = line.now })) (names_kept_of_line (record { long = long; bytes = line.now })) lines.old lines.new (F.unkept files.new ≡ F.unkept files.old)
-        (F.held files.new) result }
+        HoldsAfterLine limits.now state (line_at_hand long line.now) lines.old lines.new (F.unkept files.new ≡ F.unkept files.old) (F.held files.new) result }
     ensures cause { HasFileCause (F.faults files.old) (F.faults files.new) result }
     ensures calm { OnOk result (F.faults files.new ≡ F.faults files.old) }
     ensures unkept { OnOk result (F.unkept files.new ≡ F.unkept files.old) }
@@ -175,25 +174,24 @@ pub fn answer_line<R: Wait, F: Files, G: Gate>(
     long: bool,
     line: &[u8],
 ) -> Result<bool, FileError>
-    requires unasked { asks_query (record { long = long; bytes = line.now }) ≡ false }
+    requires unasked { asks_query (line_at_hand long line.now) ≡ false }
     requires limits { AreLimits limits.now }
     requires savable { CanBeSaved engine.old.version }
     requires number { engine.old.version.number + wish wanted.old < merge_end }
     requires room { lines.old < far }
-    ensures reply { IfOk result (λ refusal. (state : State) → IsAt (F.held files.old) engine.old wanted.old state → IsRead state (record { long = long; bytes = line.now }) →
-        Gives (answer limits.now state (record { long = long; bytes = line.now })) engine.new wanted.new [] out.new.items refusal) }
-    ensures stop { OnErr result ((state : State) → IsAt (F.held files.old) engine.old wanted.old state → IsRead state (record { long = long; bytes = line.now }) →
-        StopsWithin state (answer limits.now state (record { long = long; bytes = line.now })) lines.old lines.new engine.new) }
+    ensures reply { IfOk result (λ refusal. (state : State) → IsAt (F.held files.old) engine.old wanted.old state → IsRead state (line_at_hand long line.now) →
+        Gives (answer limits.now state (line_at_hand long line.now)) engine.new wanted.new [] out.new.items refusal) }
+    ensures stop { OnErr result ((state : State) → IsAt (F.held files.old) engine.old wanted.old state → IsRead state (line_at_hand long line.now) →
+        StopsWithin state (answer limits.now state (line_at_hand long line.now)) lines.old lines.new engine.new) }
     ensures lines { OnOk result (lines.new ≡ lines.old + 1) }
     ensures number { OnOk result (engine.new.version.number + wish wanted.new ≤ engine.old.version.number + wish wanted.old + 1) }
     ensures savable { OnOk result (CanBeSaved engine.new.version) }
     ensures publisher { engine.new.publisher ≡ engine.old.publisher }
-    ensures quiet { names_of_line (record { long = long; bytes = line.now }) ≡ [] → files.new ≡ files.old }
-    ensures unsaved { names_kept_of_line (record { long = long; bytes = line.now }) ≡ [] → F.held files.new ≡ F.held files.old }
-    ensures untried { names_kept_of_line (record { long = long; bytes = line.now }) ≡ [] → F.unkept files.new ≡ F.unkept files.old }
+    ensures quiet { names_of_line (line_at_hand long line.now) ≡ [] → files.new ≡ files.old }
+    ensures unsaved { names_kept_of_line (line_at_hand long line.now) ≡ [] → F.held files.new ≡ F.held files.old }
+    ensures untried { names_kept_of_line (line_at_hand long line.now) ≡ [] → F.unkept files.new ≡ F.unkept files.old }
     ensures files { (state : State) → IsAt (F.held files.old) engine.old wanted.old state →
-        HoldsAfter state (answer limits.now state (record { long = long; bytes = line.now })) (names_kept_of_line (record { long = long; bytes = line.now })) lines.old lines.new (F.unkept files.new ≡ F.unkept files.old)
-        (F.held files.new) result }
+        HoldsAfterLine limits.now state (line_at_hand long line.now) lines.old lines.new (F.unkept files.new ≡ F.unkept files.old) (F.held files.new) result }
     ensures cause { HasFileCause (F.faults files.old) (F.faults files.new) result }
     ensures calm { OnOk result (F.faults files.new ≡ F.faults files.old) }
     ensures unkept { OnOk result (F.unkept files.new ≡ F.unkept files.old) }

@@ -1,8 +1,8 @@
 ghost use Rattle.std.specs.Prelude.{◌≡◌, ◌++◌, [], ◌∷◌, length, IfOk, OnOk};
 ghost use Rattle.address_space.specs.Runs.{FileEntry};
 ghost use Rattle.live_version.specs.Contents.{files_of};
-ghost use Rattle.script_lang.specs.Answers.{total_line, shards_line};
-ghost use Rattle.query_run.specs.Answers.{record_lines};
+ghost use Rattle.script_lang.specs.Answers.{shards_line};
+ghost use Rattle.query_run.specs.Answers.{listing_lines, record_lines};
 ghost use Rattle.script_lang.specs.Lines.{text_of_lines};
 ghost use Rattle.query_run.specs.Progress.{Says};
 
@@ -33,7 +33,7 @@ fn put_slots(out: &mut Vec<u8>, slots: &[Slot]) -> Result<(), AllocError>
 
 /// Appends the list of the surviving files.
 pub fn list_files(out: &mut Vec<u8>, version: &Version) -> Result<bool, AllocError>
-    ensures { IfOk result (Says (record_lines (files_of version.now.slots) ++ total_line (length (files_of version.now.slots)) ∷ []) out.old.items out.new.items) }
+    ensures { IfOk result (Says (listing_lines (files_of version.now.slots)) out.old.items out.new.items) }
 {
     put_slots(out, version.slots())?;
     put_total(out, version.file_count())?;

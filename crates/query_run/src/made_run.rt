@@ -33,7 +33,8 @@ pub fn run_made<R: Threads + Wait + Sync, K: Sink, G: Gate + Sync>(
     requires few { made.count ≤ most_made }
     ensures ends { IsMadeEnd result }
     ensures summed { result ≡ Status.Done → WhereMade first made (λ start. IsSummed made start false (K.written sink.old) (K.written sink.new)) }
-    ensures summed_with_refusals { result ≡ Status.DoneWithRefusals → WhereMade first made (λ start. IsSummed made start true (K.written sink.old) (K.written sink.new)) }
+    ensures summed_with_refusals { result ≡ Status.DoneWithRefusals →
+        WhereMade first made (λ start. IsSummed made start true (K.written sink.old) (K.written sink.new)) }
     ensures part { WhereMade first made (λ start. GetsPart (K.written sink.old) (K.written sink.new) (made_summary made start)) }
     ensures write_fault { result ≡ Status.WriteFault → Rose (K.faults sink.old) (K.faults sink.new) }
     ensures calm { IsAllAnswered result → K.faults sink.new ≡ K.faults sink.old }
@@ -71,7 +72,8 @@ fn answer_made<R: Threads + Wait + Sync, G: Gate + Sync>(
     requires in_range { first ≤ address_end }
     requires lanes { readers ≤ most_readers }
     requires few { made.count ≤ most_made }
-    ensures answers { IfSome result (λ answers. WhereMade first made (λ start. AreTold made start answers.refused (⟦<SummarySink as Sink>⟧.written answers.told))) }
+    ensures answers { IfSome result (λ answers.
+        WhereMade first made (λ start. AreTold made start answers.refused (⟦<SummarySink as Sink>⟧.written answers.told))) }
     ensures lines { IfSome result (λ answers. answers.lines ≡ length (made_lines made.start made.count)) }
 {
     let script = made_script(alloc, made.start, made.count).ok()?;
@@ -109,8 +111,10 @@ fn write_summary<K: Sink>(
     sink: &mut K,
 ) -> Result<(), RunFault>
     requires { lines ≡ length (made_lines made.start made.count) }
-    ensures written { OnOk result (IfSome (⟦<SummarySink as Sink>⟧.written told.now) (λ text. Appends (K.written sink.old) (K.written sink.new) (summary made.start made.count text))) }
-    ensures part { IfSome (⟦<SummarySink as Sink>⟧.written told.now) (λ text. GetsPart (K.written sink.old) (K.written sink.new) (summary made.start made.count text)) }
+    ensures written { OnOk result (IfSome (⟦<SummarySink as Sink>⟧.written told.now) (λ text.
+        Appends (K.written sink.old) (K.written sink.new) (summary made.start made.count text))) }
+    ensures part { IfSome (⟦<SummarySink as Sink>⟧.written told.now) (λ text.
+        GetsPart (K.written sink.old) (K.written sink.new) (summary made.start made.count text)) }
     ensures cause { IsErrOf result RunFault.Write → Rose (K.faults sink.old) (K.faults sink.new) }
     ensures calm { OnOk result (K.faults sink.new ≡ K.faults sink.old) }
 {

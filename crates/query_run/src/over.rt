@@ -1,15 +1,15 @@
 //! Lines that are done while the queries before them are put off.
-ghost use Rattle.std.specs.Prelude.{◌≡◌, ◌+◌, ◌-◌, ◌≤◌, ◌<◌, [], ◌∷◌, false, ℕ, drop, length, IfOk, IfSome, IsTrue, OnOk, OnErr};
+ghost use Rattle.std.specs.Prelude.{◌≡◌, ◌+◌, ◌-◌, ◌≤◌, ◌<◌, [], false, ℕ, length, IfOk, IfSome, IsTrue, OnOk, OnErr};
 ghost use Rattle.gcl_model.specs.Limits.{far, most_script};
 ghost use Rattle.collection.specs.Engines.{merge_end};
 ghost use Rattle.image_file.specs.Images.{CanBeSaved};
 ghost use Rattle.script_lang.specs.Commands.{command_of};
-ghost use Rattle.script_lang.specs.Lines.{lines, line_of_cut, IsCut};
+ghost use Rattle.script_lang.specs.Lines.{line_of_cut, IsCut};
 ghost use Rattle.query_run.specs.States.{State, AreLimits};
 ghost use Rattle.query_run.specs.Answers.{IsRead, names_kept, names_kept_of_line, names_of, names_of_line};
-ghost use Rattle.query_run.specs.Batches.{Begins, asks_query, is_query};
-ghost use Rattle.query_run.specs.Progress.{GoesOn, HasCauses, IsAt, WhoseLines, wish};
-ghost use Rattle.query_run.specs.Windows.{DoesOn, GoesOver, HaltsOver, IsPaired, StopsOver};
+ghost use Rattle.query_run.specs.Batches.{BeginsAt, asks_query, is_query};
+ghost use Rattle.query_run.specs.Progress.{ComesNext, GoesBetween, HasCauses, IsAt, line_at_hand, lines_from, stand, wish};
+ghost use Rattle.query_run.specs.Windows.{DoesAhead, GoesOver, HaltsAhead, IsPaired, StopsOver};
 
 use crate::answers::answer_line;
 use crate::batches::{Batch, take_batch};
@@ -53,7 +53,7 @@ pub(crate) fn line_over(
 ) -> Result<Option<LineCut>, AllocError>
     requires { at ≤ length script.now }
     ensures places { IfOk result (λ some. IfSome some (IsCut script.now at)) }
-    ensures line { IfOk result (λ some. IfSome some (λ cut. lines limits.now.line (drop at script.now) ≡ line_of_cut script.now cut ∷ lines limits.now.line (drop cut.after script.now))) }
+    ensures line { IfOk result (λ some. IfSome some (λ cut. ComesNext limits.now.line script.now at cut)) }
     ensures unasked { IfOk result (λ some. IfSome some (λ cut. asks_query (line_of_cut script.now cut) ≡ false)) }
     ensures unsaved { IfOk result (λ some. IfSome some (λ cut. names_kept_of_line (line_of_cut script.now cut) ≡ [])) }
 {
@@ -83,22 +83,22 @@ fn go_over<R: Wait, F: Files, G: Gate>(
     line: &[u8],
 ) -> Result<bool, RunFault>
     requires paired { IsPaired window.old }
-    requires unasked { asks_query (record { long = long; bytes = line.now }) ≡ false }
-    requires unsaved { names_kept_of_line (record { long = long; bytes = line.now }) ≡ [] }
+    requires unasked { asks_query (line_at_hand long line.now) ≡ false }
+    requires unsaved { names_kept_of_line (line_at_hand long line.now) ≡ [] }
     requires limits { AreLimits limits.now }
     requires savable { CanBeSaved engine.old.version }
     requires number { engine.old.version.number + wish wanted.old < merge_end }
     requires room { completed.old + length asks.items < far }
-    ensures step { IfOk result (λ refusal. (state : State) → IsAt (F.held files.old) engine.old wanted.old state → IsRead state (record { long = long; bytes = line.now }) →
-        GoesOver limits.now state asks.items (record { long = long; bytes = line.now }) engine.new wanted.new refusal window.old window.new) }
-    ensures stop { (state : State) → IsAt (F.held files.old) engine.old wanted.old state → IsRead state (record { long = long; bytes = line.now }) →
-        StopsOver limits.now state asks.items (record { long = long; bytes = line.now }) completed.old completed.new engine.new }
+    ensures step { IfOk result (λ refusal. (state : State) → IsAt (F.held files.old) engine.old wanted.old state → IsRead state (line_at_hand long line.now) →
+        GoesOver limits.now state asks.items (line_at_hand long line.now) engine.new wanted.new refusal window.old window.new) }
+    ensures stop { (state : State) → IsAt (F.held files.old) engine.old wanted.old state → IsRead state (line_at_hand long line.now) →
+        StopsOver limits.now state asks.items (line_at_hand long line.now) completed.old completed.new engine.new }
     ensures completed { OnOk result (completed.new ≡ completed.old + length asks.items + 1) }
     ensures paired { OnOk result (IsPaired window.new) }
     ensures publisher { engine.new.publisher ≡ engine.old.publisher }
     ensures number { OnOk result (engine.new.version.number + wish wanted.new ≤ engine.old.version.number + wish wanted.old + 1) }
     ensures savable { OnOk result (CanBeSaved engine.new.version) }
-    ensures quiet { names_of_line (record { long = long; bytes = line.now }) ≡ [] → files.new ≡ files.old }
+    ensures quiet { names_of_line (line_at_hand long line.now) ≡ [] → files.new ≡ files.old }
     ensures unsaved { F.held files.new ≡ F.held files.old }
     ensures causes { (n : ℕ) → HasCauses n n (F.faults files.old) (F.faults files.new) result }
     ensures files_calm { OnOk result (F.faults files.new ≡ F.faults files.old) }
@@ -139,10 +139,10 @@ pub(crate) fn go_on<R: Wait, F: Files, G: Gate>(
     cut: LineCut,
 ) -> Result<Batch, RunFault>
     requires paired { IsPaired window.old }
-    requires begins { Begins batch.asks.items (lines limits.now.line (drop course.old.at script.now)) (lines limits.now.line (drop batch.after script.now)) }
+    requires begins { BeginsAt limits.now.line script.now course.old.at batch }
     requires counted { course.old.at + length batch.asks.items ≤ batch.after }
     requires cut { IsCut script.now batch.after cut }
-    requires line { lines limits.now.line (drop batch.after script.now) ≡ line_of_cut script.now cut ∷ lines limits.now.line (drop cut.after script.now) }
+    requires line { ComesNext limits.now.line script.now batch.after cut }
     requires unasked { asks_query (line_of_cut script.now cut) ≡ false }
     requires unsaved { names_kept_of_line (line_of_cut script.now cut) ≡ [] }
     requires room { completed.old + (length script.now - course.old.at) ≤ most_script }
@@ -150,12 +150,14 @@ pub(crate) fn go_on<R: Wait, F: Files, G: Gate>(
     requires limits { AreLimits limits.now }
     requires savable { CanBeSaved engine.old.version }
     requires numbers { engine.old.version.number + wish wanted.old ≤ completed.old }
-    ensures goes { OnOk result (GoesOn (lines limits.now.line (drop course.old.at script.now)) (lines limits.now.line (drop course.new.at script.now)) completed.old completed.new) }
-    ensures does { OnOk result (WhoseLines (lines limits.now.line (drop course.old.at script.now)) completed.old (λ all. DoesOn limits.now all completed.old completed.new (F.held files.old)
-        engine.old engine.new wanted.old wanted.new course.old.refused course.new.refused window.old window.new)) }
-    ensures halts { OnErr result (WhoseLines (lines limits.now.line (drop course.old.at script.now)) completed.old (λ all. HaltsOver limits.now all completed.old completed.new (F.held files.old)
-        engine.old engine.new wanted.old course.old.refused window.old)) }
-    ensures begins { IfOk result (λ next. Begins next.asks.items (lines limits.now.line (drop course.new.at script.now)) (lines limits.now.line (drop next.after script.now))) }
+    ensures goes { OnOk result (GoesBetween limits.now.line script.now course.old.at course.new.at completed.old completed.new) }
+    ensures does { OnOk result (DoesAhead limits.now (lines_from limits.now.line script.now course.old.at)
+        (stand completed.old (F.held files.old) engine.old wanted.old course.old.refused)
+        (stand completed.new (F.held files.new) engine.new wanted.new course.new.refused) window.old window.new) }
+    ensures halts { OnErr result (HaltsAhead limits.now (lines_from limits.now.line script.now course.old.at)
+        (stand completed.old (F.held files.old) engine.old wanted.old course.old.refused)
+        (stand completed.new (F.held files.new) engine.new wanted.new course.new.refused) window.old) }
+    ensures begins { IfOk result (BeginsAt limits.now.line script.now course.new.at) }
     ensures next { IfOk result (λ next. course.new.at + length next.asks.items ≤ next.after) }
     ensures within { IfOk result (λ next. next.after ≤ length script.now) }
     ensures further { OnOk result (course.old.at < course.new.at) }
@@ -164,7 +166,7 @@ pub(crate) fn go_on<R: Wait, F: Files, G: Gate>(
     ensures savable { OnOk result (CanBeSaved engine.new.version) }
     ensures paired { OnOk result (IsPaired window.new) }
     ensures publisher { engine.new.publisher ≡ engine.old.publisher }
-    ensures quiet { names_of (lines limits.now.line (drop course.old.at script.now)) ≡ [] → files.new ≡ files.old }
+    ensures quiet { names_of (lines_from limits.now.line script.now course.old.at) ≡ [] → files.new ≡ files.old }
     ensures unsaved { F.held files.new ≡ F.held files.old }
     ensures causes { (n : ℕ) → HasCauses n n (F.faults files.old) (F.faults files.new) result }
     ensures files_calm { OnOk result (F.faults files.new ≡ F.faults files.old) }

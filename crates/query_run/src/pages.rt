@@ -2,16 +2,16 @@ ghost use Rattle.std.specs.Prelude.{◌≡◌, ◌≤◌, ◌<◌, [], ℕ, List
 ghost use Rattle.std.specs.List.{list_any};
 ghost use Rattle.gcl_model.specs.Extents.{Extent};
 ghost use Rattle.gcl_model.specs.FormOf.{form_of};
-ghost use Rattle.gcl_model.specs.Meaning.{concordance};
 ghost use Rattle.gcl_model.specs.WellFormed.{IsWellFormed};
 ghost use Rattle.live_version.specs.Contents.{version_text};
 ghost use Rattle.outside.specs.Causes.{HasWriteCause};
 ghost use Rattle.script_lang.specs.Answers.{interval_line, is_refusal};
 ghost use Rattle.script_lang.specs.Lines.{text_of_lines};
-ghost use Rattle.query_lanes.specs.Answers.{answer_in, page_size, text_asked};
+ghost use Rattle.query_lanes.specs.Answers.{answer_in, page_size};
 ghost use Rattle.query_run.specs.Batches.{ask_lines};
-ghost use Rattle.query_run.specs.Pages.{IsPage, Puts, PutsPart, members_asked, page_from};
+ghost use Rattle.query_run.specs.Pages.{IsPage, Puts, PutsPart, members_asked, members_found, page_from};
 ghost use Rattle.query_run.specs.Progress.{HasCauses};
+ghost use Rattle.query_run.specs.Windows.{ask_text};
 
 use crate::queries::put_intervals;
 use crate::refusals::refuse;
@@ -74,10 +74,10 @@ fn page_after(
     page: &IntervalList,
 ) -> Result<Option<IntervalList>, AllocError>
     requires well_formed { IsWellFormed (form_of expr.now) }
-    requires page { IsPage (members_asked asked (concordance (text_asked own.now (version_text engine.now.version)) (form_of expr.now))) put page.now }
-    ensures some { IfOk result (λ next. IfSome next (λ page. page ≡ page_from put (members_asked asked (concordance (text_asked own.now (version_text engine.now.version)) (form_of expr.now))))) }
+    requires page { IsPage (members_found asked own.now engine.now expr.now) put page.now }
+    ensures some { IfOk result (λ next. IfSome next (λ page. page ≡ page_from put (members_found asked own.now engine.now expr.now))) }
     ensures full { IfOk result (λ next. IfSome next (λ _. page_size ≤ length page.now)) }
-    ensures none { IfOk result (λ next. IsNone next → drop put (members_asked asked (concordance (text_asked own.now (version_text engine.now.version)) (form_of expr.now))) ≡ []) }
+    ensures none { IfOk result (λ next. IsNone next → drop put (members_found asked own.now engine.now expr.now) ≡ []) }
 {
     let count = page.len();
     if (count as u64) < PAGE {
@@ -100,12 +100,12 @@ fn put_members<K: Sink>(
     first: IntervalList,
 ) -> Result<u64, RunFault>
     requires well_formed { IsWellFormed (form_of expr.now) }
-    requires first { first ≡ page_from 0 (members_asked asked (concordance (text_asked own.now (version_text engine.now.version)) (form_of expr.now))) }
+    requires first { first ≡ page_from 0 (members_found asked own.now engine.now expr.now) }
     ensures puts { OnOk result (Puts (K.written sink.old) (K.written sink.new) out.old.items out.new.items
-        (text_of_lines (map interval_line (members_asked asked (concordance (text_asked own.now (version_text engine.now.version)) (form_of expr.now)))))) }
+        (text_of_lines (map interval_line (members_found asked own.now engine.now expr.now)))) }
     ensures part { PutsPart (K.written sink.old) (K.written sink.new) out.old.items
-        (text_of_lines (map interval_line (members_asked asked (concordance (text_asked own.now (version_text engine.now.version)) (form_of expr.now))))) }
-    ensures count { IfOk result (λ count. count ≡ length (members_asked asked (concordance (text_asked own.now (version_text engine.now.version)) (form_of expr.now)))) }
+        (text_of_lines (map interval_line (members_found asked own.now engine.now expr.now))) }
+    ensures count { IfOk result (λ count. count ≡ length (members_found asked own.now engine.now expr.now)) }
     ensures causes { (n : ℕ) → HasCauses (K.faults sink.old) (K.faults sink.new) n n result }
     ensures calm { OnOk result (K.faults sink.new ≡ K.faults sink.old) }
 {
@@ -132,8 +132,9 @@ pub fn put_answer<K: Sink>(
     found: Found,
 ) -> Result<bool, RunFault>
     requires found { found ≡ answer_in (version_text engine.now.version) ask.now }
-    ensures puts { OnOk result (Puts (K.written sink.old) (K.written sink.new) out.old.items out.new.items (text_of_lines (ask_lines (version_text engine.now.version) ask.now))) }
-    ensures part { PutsPart (K.written sink.old) (K.written sink.new) out.old.items (text_of_lines (ask_lines (version_text engine.now.version) ask.now)) }
+    ensures puts { OnOk result (Puts (K.written sink.old) (K.written sink.new) out.old.items out.new.items
+        (ask_text (version_text engine.now.version) ask.now)) }
+    ensures part { PutsPart (K.written sink.old) (K.written sink.new) out.old.items (ask_text (version_text engine.now.version) ask.now) }
     ensures refusal { IfOk result (λ refusal. refusal ≡ list_any is_refusal (ask_lines (version_text engine.now.version) ask.now)) }
     ensures causes { (n : ℕ) → HasCauses (K.faults sink.old) (K.faults sink.new) n n result }
     ensures calm { OnOk result (K.faults sink.new ≡ K.faults sink.old) }

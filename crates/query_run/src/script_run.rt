@@ -35,14 +35,16 @@ pub fn run_script<R: Threads + Wait + Sync, F: Files, S: Source, K: Sink, G: Gat
     // it is an image of.
     ensures done { result ≡ Status.Done → WhereTold greatest_limits (Some first) (S.left source.old) (F.held files.old) (λ start script.
         IsAnswered start script false (S.left source.new) (F.held files.new) (K.written sink.old) (K.written sink.new)) }
-    ensures done_with_refusals { result ≡ Status.DoneWithRefusals → WhereTold greatest_limits (Some first) (S.left source.old) (F.held files.old) (λ start script.
+    ensures done_with_refusals { result ≡ Status.DoneWithRefusals →
+        WhereTold greatest_limits (Some first) (S.left source.old) (F.held files.old) (λ start script.
         IsAnswered start script true (S.left source.new) (F.held files.new) (K.written sink.old) (K.written sink.new)) }
 
     // Whatever the status, some lines are completed, the sink gets the beginning of the output, and the files hold exactly what these lines
     // leave; but where a keep answered an error that is so of every name but the one that the next line saves. None did, unless the status
     // names a fault of a file or want of memory.
     ensures stopped { WhereTold greatest_limits (Some first) (S.left source.old) (F.held files.old) (λ start script.
-        HasStopped greatest_limits start (lines most_line script) (F.unkept files.new ≡ F.unkept files.old) (F.held files.new) (K.written sink.old) (K.written sink.new)) }
+        HasStopped greatest_limits start (lines most_line script) (F.unkept files.new ≡ F.unkept files.old)
+        (F.held files.new) (K.written sink.old) (K.written sink.new)) }
     ensures sure { IsSureOfFiles result → F.unkept files.new ≡ F.unkept files.old }
     ensures part { WhereTold greatest_limits (Some first) (S.left source.old) (F.held files.old) (λ start script.
         GetsPart (K.written sink.old) (K.written sink.new) (output start script)) }

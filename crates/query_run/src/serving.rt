@@ -1,13 +1,14 @@
-ghost use Rattle.std.specs.Prelude.{◌≡◌, ◌+◌, ◌-◌, ◌≤◌, ◌<◌, [], ◌∷◌, Some, false, drop, IfOk, OnOk, IsErrOf, length};
+ghost use Rattle.std.specs.Prelude.{◌≡◌, ◌+◌, ◌-◌, ◌≤◌, ◌<◌, [], false, IfOk, OnOk, IsErrOf, length};
 ghost use Rattle.gcl_model.specs.Limits.{far, most_readers, most_script};
 ghost use Rattle.image_file.specs.Images.{CanBeSaved};
 ghost use Rattle.collection.specs.Engines.{merge_end};
-ghost use Rattle.script_lang.specs.Lines.{lines, line_of_cut, IsCut};
+ghost use Rattle.script_lang.specs.Lines.{lines, IsCut};
 ghost use Rattle.query_lanes.specs.Readers.{AreOf};
 ghost use Rattle.query_run.specs.States.{State, AreLimits};
 ghost use Rattle.query_run.specs.Answers.{answer, IsRead, names_kept_of, names_kept_of_line, names_of_line, names_of};
 ghost use Rattle.query_run.specs.Batches.{asks_query};
-ghost use Rattle.query_run.specs.Progress.{ComesOn, GoesOn, IsAt, HasWritten, HoldsAfter, StopsFrom, StopsWithin, HasCauses, WhoseLines, answer_text, wish};
+ghost use Rattle.query_run.specs.Progress.{Advances, ComesNext, GoesBetween, HasCauses, HasWritten, HoldsAfterLine, IsAt, Stops, StopsWithin};
+ghost use Rattle.query_run.specs.Progress.{answer_text, line_at_hand, lines_from, stand, wish};
 ghost use Rattle.query_run.specs.Runs.{GetsPart};
 
 use crate::answering::serve_queries;
@@ -64,25 +65,25 @@ fn serve_line<R: Wait, F: Files, K: Sink, G: Gate>(
     long: bool,
     line: &[u8],
 ) -> Result<bool, RunFault>
-    requires unasked { asks_query (record { long = long; bytes = line.now }) ≡ false }
+    requires unasked { asks_query (line_at_hand long line.now) ≡ false }
     requires limits { AreLimits limits.now }
     requires savable { CanBeSaved engine.old.version }
     requires number { engine.old.version.number + wish wanted.old < merge_end }
     requires room { completed.old < far }
-    ensures step { IfOk result (λ refusal. (state : State) → IsAt (F.held files.old) engine.old wanted.old state → IsRead state (record { long = long; bytes = line.now }) →
-        HasWritten limits.now state (record { long = long; bytes = line.now }) engine.new wanted.new refusal (K.written sink.old) (K.written sink.new)) }
-    ensures stop { (state : State) → IsAt (F.held files.old) engine.old wanted.old state → IsRead state (record { long = long; bytes = line.now }) →
-        StopsWithin state (answer limits.now state (record { long = long; bytes = line.now })) completed.old completed.new engine.new }
-    ensures part { (state : State) → IsAt (F.held files.old) engine.old wanted.old state → IsRead state (record { long = long; bytes = line.now }) →
-        GetsPart (K.written sink.old) (K.written sink.new) (answer_text limits.now state (record { long = long; bytes = line.now })) }
+    ensures step { IfOk result (λ refusal. (state : State) → IsAt (F.held files.old) engine.old wanted.old state → IsRead state (line_at_hand long line.now) →
+        HasWritten limits.now state (line_at_hand long line.now) engine.new wanted.new refusal (K.written sink.old) (K.written sink.new)) }
+    ensures stop { (state : State) → IsAt (F.held files.old) engine.old wanted.old state → IsRead state (line_at_hand long line.now) →
+        StopsWithin state (answer limits.now state (line_at_hand long line.now)) completed.old completed.new engine.new }
+    ensures part { (state : State) → IsAt (F.held files.old) engine.old wanted.old state → IsRead state (line_at_hand long line.now) →
+        GetsPart (K.written sink.old) (K.written sink.new) (answer_text limits.now state (line_at_hand long line.now)) }
     ensures completed { OnOk result (completed.new ≡ completed.old + 1) }
     ensures publisher { engine.new.publisher ≡ engine.old.publisher }
     ensures number { OnOk result (engine.new.version.number + wish wanted.new ≤ engine.old.version.number + wish wanted.old + 1) }
     ensures savable { OnOk result (CanBeSaved engine.new.version) }
-    ensures quiet { names_of_line (record { long = long; bytes = line.now }) ≡ [] → files.new ≡ files.old }
-    ensures unsaved { names_kept_of_line (record { long = long; bytes = line.now }) ≡ [] → F.held files.new ≡ F.held files.old }
+    ensures quiet { names_of_line (line_at_hand long line.now) ≡ [] → files.new ≡ files.old }
+    ensures unsaved { names_kept_of_line (line_at_hand long line.now) ≡ [] → F.held files.new ≡ F.held files.old }
     ensures files { (state : State) → IsAt (F.held files.old) engine.old wanted.old state →
-        HoldsAfter state (answer limits.now state (record { long = long; bytes = line.now })) (names_kept_of_line (record { long = long; bytes = line.now })) completed.old completed.new
+        HoldsAfterLine limits.now state (line_at_hand long line.now) completed.old completed.new
         (F.unkept files.new ≡ F.unkept files.old) (F.held files.new) result }
     ensures causes { HasCauses (K.faults sink.old) (K.faults sink.new) (F.faults files.old) (F.faults files.new) result }
     ensures sink_calm { OnOk result (K.faults sink.new ≡ K.faults sink.old) }
@@ -116,7 +117,7 @@ fn serve_some<R: Threads + Wait + Sync, F: Files, K: Sink, G: Gate + Sync>(
     cut: LineCut,
 ) -> Result<(), RunFault>
     requires cut { IsCut script.now course.old.at cut }
-    requires line { lines limits.now.line (drop course.old.at script.now) ≡ line_of_cut script.now cut ∷ lines limits.now.line (drop cut.after script.now) }
+    requires line { ComesNext limits.now.line script.now course.old.at cut }
     requires room { completed.old + (length script.now - course.old.at) ≤ most_script }
     requires asked { course.old.asked ≤ completed.old }
     requires limits { AreLimits limits.now }
@@ -125,11 +126,13 @@ fn serve_some<R: Threads + Wait + Sync, F: Files, K: Sink, G: Gate + Sync>(
     requires same { length works.old ≡ length readers.old }
     requires lanes { length readers.old ≤ most_readers }
     requires of { AreOf engine.old.publisher readers.old }
-    ensures goes { OnOk result (GoesOn (lines limits.now.line (drop course.old.at script.now)) (lines limits.now.line (drop course.new.at script.now)) completed.old completed.new) }
-    ensures come { OnOk result (WhoseLines (lines limits.now.line (drop course.old.at script.now)) completed.old (λ all. ComesOn limits.now all completed.old completed.new (F.held files.old) (F.held files.new)
-        engine.old engine.new wanted.old wanted.new course.old.refused course.new.refused (K.written sink.old) (K.written sink.new))) }
-    ensures stopped { WhoseLines (lines limits.now.line (drop course.old.at script.now)) completed.old (λ all. StopsFrom limits.now all completed.old completed.new (F.unkept files.new ≡ F.unkept files.old)
-        (F.held files.old) (F.held files.new) engine.old engine.new wanted.old course.old.refused (K.written sink.old) (K.written sink.new)) }
+    ensures goes { OnOk result (GoesBetween limits.now.line script.now course.old.at course.new.at completed.old completed.new) }
+    ensures come { OnOk result (Advances limits.now (lines_from limits.now.line script.now course.old.at)
+        (stand completed.old (F.held files.old) engine.old wanted.old course.old.refused)
+        (stand completed.new (F.held files.new) engine.new wanted.new course.new.refused) (K.written sink.old) (K.written sink.new)) }
+    ensures stopped { Stops limits.now (lines_from limits.now.line script.now course.old.at) (F.unkept files.new ≡ F.unkept files.old)
+        (stand completed.old (F.held files.old) engine.old wanted.old course.old.refused)
+        (stand completed.new (F.held files.new) engine.new wanted.new course.new.refused) (K.written sink.old) (K.written sink.new) }
     ensures further { OnOk result ((course.old.at < course.new.at) × (course.new.at ≤ length script.now)) }
     ensures counted { OnOk result ((completed.new + course.old.at ≤ completed.old + course.new.at) × (course.new.asked ≤ completed.new)) }
     ensures numbers { OnOk result (engine.new.version.number + wish wanted.new ≤ completed.new) }
@@ -137,8 +140,8 @@ fn serve_some<R: Threads + Wait + Sync, F: Files, K: Sink, G: Gate + Sync>(
     ensures of { AreOf engine.new.publisher readers.new }
     ensures same { length works.new ≡ length readers.new }
     ensures lanes { length readers.new ≤ most_readers }
-    ensures quiet { names_of (lines limits.now.line (drop course.old.at script.now)) ≡ [] → files.new ≡ files.old }
-    ensures unsaved { names_kept_of (lines limits.now.line (drop course.old.at script.now)) ≡ [] → F.held files.new ≡ F.held files.old }
+    ensures quiet { names_of (lines_from limits.now.line script.now course.old.at) ≡ [] → files.new ≡ files.old }
+    ensures unsaved { names_kept_of (lines_from limits.now.line script.now course.old.at) ≡ [] → F.held files.new ≡ F.held files.old }
     ensures causes { HasCauses (K.faults sink.old) (K.faults sink.new) (F.faults files.old) (F.faults files.new) result }
     ensures sink_calm { OnOk result (K.faults sink.new ≡ K.faults sink.old) }
     ensures files_calm { OnOk result (F.faults files.new ≡ F.faults files.old) }
@@ -195,10 +198,12 @@ pub(crate) fn serve_held<R: Threads + Wait + Sync, F: Files, K: Sink, G: Gate + 
     requires lanes { length readers.old ≤ most_readers }
     requires of { AreOf engine.old.publisher readers.old }
     ensures each { OnOk result (completed.new ≡ completed.old + length (lines limits.now.line script.now)) }
-    ensures come { OnOk result (WhoseLines (lines limits.now.line script.now) completed.old (λ all. ComesOn limits.now all completed.old completed.new (F.held files.old) (F.held files.new)
-        engine.old engine.new wanted.old wanted.new course.old.refused course.new.refused (K.written sink.old) (K.written sink.new))) }
-    ensures stopped { WhoseLines (lines limits.now.line script.now) completed.old (λ all. StopsFrom limits.now all completed.old completed.new (F.unkept files.new ≡ F.unkept files.old)
-        (F.held files.old) (F.held files.new) engine.old engine.new wanted.old course.old.refused (K.written sink.old) (K.written sink.new)) }
+    ensures come { OnOk result (Advances limits.now (lines limits.now.line script.now)
+        (stand completed.old (F.held files.old) engine.old wanted.old course.old.refused)
+        (stand completed.new (F.held files.new) engine.new wanted.new course.new.refused) (K.written sink.old) (K.written sink.new)) }
+    ensures stopped { Stops limits.now (lines limits.now.line script.now) (F.unkept files.new ≡ F.unkept files.old)
+        (stand completed.old (F.held files.old) engine.old wanted.old course.old.refused)
+        (stand completed.new (F.held files.new) engine.new wanted.new course.new.refused) (K.written sink.old) (K.written sink.new) }
     ensures counted { OnOk result ((completed.new ≤ completed.old + length script.now) × (course.new.asked ≤ completed.new)) }
     ensures numbers { OnOk result (engine.new.version.number + wish wanted.new ≤ completed.new) }
     ensures savable { OnOk result (CanBeSaved engine.new.version) }

@@ -49,14 +49,16 @@ fn serve_pieces<R: Threads + Wait + Sync, F: Files, S: Source, K: Sink, G: Gate 
         IsStopped limits.now start (lines limits.now.line script) completed.new engine.new.version (F.unkept files.new ≡ F.unkept files.old)
         (F.held files.new) (K.written sink.old) (K.written sink.new)) }
     ensures sure { IsSure result → F.unkept files.new ≡ F.unkept files.old }
-    ensures part_within { IsErrOf result StreamFault.TooLong → WhereTold limits.now (Some engine.old.version.first) (S.left source.old) (F.held files.old) (λ start script.
+    ensures part_within { IsErrOf result StreamFault.TooLong →
+        WhereTold limits.now (Some engine.old.version.first) (S.left source.old) (F.held files.old) (λ start script.
         GetsPart (K.written sink.old) (K.written sink.new) (output_by limits.now start (within limits.now.script script))) }
     ensures too_long { IsErrOf result StreamFault.TooLong → HandsOverMore limits.now.script (S.left source.old) (S.left source.new) }
     ensures took { TakesWithin limits.now.script (S.left source.old) (S.left source.new) }
     ensures short { OnOk result (IfSome (S.left source.old) (λ script. length script ≤ limits.now.script)) }
     ensures quiet { IfSome (S.left source.old) (λ script. names_of (lines limits.now.line script) ≡ [] → files.new ≡ files.old) }
     ensures unsaved { IfSome (S.left source.old) (λ script. names_kept_of (lines limits.now.line script) ≡ [] → F.held files.new ≡ F.held files.old) }
-    ensures causes { HasStreamCauses (S.faults source.old) (S.faults source.new) (K.faults sink.old) (K.faults sink.new) (F.faults files.old) (F.faults files.new) result }
+    ensures causes { HasStreamCauses (S.faults source.old) (S.faults source.new) (K.faults sink.old) (K.faults sink.new)
+        (F.faults files.old) (F.faults files.new) result }
     ensures source_calm { OnOk result (S.faults source.new ≡ S.faults source.old) }
     ensures sink_calm { OnOk result (K.faults sink.new ≡ K.faults sink.old) }
     ensures files_calm { OnOk result (F.faults files.new ≡ F.faults files.old) }
@@ -110,9 +112,11 @@ fn serve_pieces<R: Threads + Wait + Sync, F: Files, S: Source, K: Sink, G: Gate 
 
 /// Answers the script that a source hands out, on an engine that was just opened. Before the source is asked for more, each whole line that it
 /// has handed out is answered, and the answer is handed to the sink: so whoever waits for an answer before the next line is sent is not left
-/// waiting. Queries are answered in batches by the engine's readers, beside a merge that is wanted; before that other lines behind them may be done, but for those
-/// that save or open an image. `opened.lines` counts the lines that are completed: a query once its answer is put, or it is put off before such a line, any
-/// other line once its answer is made. It is not for this call to end the engine.
+/// waiting.
+///
+/// Queries are answered in batches by the engine's readers, beside a merge that is wanted; before that other lines behind them may be done, but
+/// for those that save or open an image. `opened.lines` counts the lines that are completed: a query once its answer is put, or it is put off
+/// before such a line, any other line once its answer is made. It is not for this call to end the engine.
 pub fn serve<R: Threads + Wait + Sync, F: Files, S: Source, K: Sink, G: Gate + Sync>(
     rt: &R,
     alloc: Global,
@@ -132,7 +136,8 @@ pub fn serve<R: Threads + Wait + Sync, F: Files, S: Source, K: Sink, G: Gate + S
     // hold what its lines leave.
     ensures done { result ≡ Status.Done → WhereTold limits.now (Some opened.old.engine.version.first) (S.left source.old) (F.held files.old) (λ start script.
         IsAnsweredBy limits.now start script false (S.left source.new) (F.held files.new) (K.written sink.old) (K.written sink.new)) }
-    ensures done_with_refusals { result ≡ Status.DoneWithRefusals → WhereTold limits.now (Some opened.old.engine.version.first) (S.left source.old) (F.held files.old) (λ start script.
+    ensures done_with_refusals { result ≡ Status.DoneWithRefusals →
+        WhereTold limits.now (Some opened.old.engine.version.first) (S.left source.old) (F.held files.old) (λ start script.
         IsAnsweredBy limits.now start script true (S.left source.new) (F.held files.new) (K.written sink.old) (K.written sink.new)) }
     ensures left { IsAllAnswered result → WhereTold limits.now (Some opened.old.engine.version.first) (S.left source.old) (F.held files.old) (λ start script.
         IsLeftBy limits.now start script opened.new.engine opened.new.lines) }
@@ -146,7 +151,8 @@ pub fn serve<R: Threads + Wait + Sync, F: Files, S: Source, K: Sink, G: Gate + S
     ensures sure { IsSureOfFiles result → F.unkept files.new ≡ F.unkept files.old }
     ensures part { WhereTold limits.now (Some opened.old.engine.version.first) (S.left source.old) (F.held files.old) (λ start script.
         GetsPart (K.written sink.old) (K.written sink.new) (output_by limits.now start script)) }
-    ensures part_within { result ≡ Status.ScriptTooLong → WhereTold limits.now (Some opened.old.engine.version.first) (S.left source.old) (F.held files.old) (λ start script.
+    ensures part_within { result ≡ Status.ScriptTooLong →
+        WhereTold limits.now (Some opened.old.engine.version.first) (S.left source.old) (F.held files.old) (λ start script.
         GetsPart (K.written sink.old) (K.written sink.new) (output_by limits.now start (within limits.now.script script))) }
 
     // Of no script more than one byte above its limit is asked for.

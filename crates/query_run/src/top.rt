@@ -40,14 +40,16 @@ pub fn run<R: Threads + Wait + Sync, F: Files, S: Source, K: Sink, G: Gate + Syn
     // it is an image of.
     ensures done { result ≡ Status.Done → WhereTold greatest_limits (first_of words.now) (S.left source.old) (F.held files.old) (λ start script.
         IsAnswered start script false (S.left source.new) (F.held files.new) (K.written sink.old) (K.written sink.new)) }
-    ensures done_with_refusals { result ≡ Status.DoneWithRefusals → WhereTold greatest_limits (first_of words.now) (S.left source.old) (F.held files.old) (λ start script.
+    ensures done_with_refusals { result ≡ Status.DoneWithRefusals →
+        WhereTold greatest_limits (first_of words.now) (S.left source.old) (F.held files.old) (λ start script.
         IsAnswered start script true (S.left source.new) (F.held files.new) (K.written sink.old) (K.written sink.new)) }
 
     // Whatever the status, some lines are completed, the sink gets the beginning of the output, and the files hold exactly what these lines
     // leave; but where a keep answered an error that is so of every name but the one that the next line saves. None did, unless the status
     // names a fault of a file or want of memory.
     ensures stopped { WhereTold greatest_limits (first_of words.now) (S.left source.old) (F.held files.old) (λ start script.
-        HasStopped greatest_limits start (lines most_line script) (F.unkept files.new ≡ F.unkept files.old) (F.held files.new) (K.written sink.old) (K.written sink.new)) }
+        HasStopped greatest_limits start (lines most_line script) (F.unkept files.new ≡ F.unkept files.old)
+        (F.held files.new) (K.written sink.old) (K.written sink.new)) }
     ensures sure { IsSureOfFiles result → F.unkept files.new ≡ F.unkept files.old }
     ensures part { WhereTold greatest_limits (first_of words.now) (S.left source.old) (F.held files.old) (λ start script.
         GetsPart (K.written sink.old) (K.written sink.new) (output start script)) }
@@ -83,10 +85,13 @@ pub fn run<R: Threads + Wait + Sync, F: Files, S: Source, K: Sink, G: Gate + Syn
 
     // Over a made corpus the sink gets the summary of the output, or the beginning of the summary, and no other object is touched.
     // Where it did not fail, all is answered, or memory is wanted.
-    ensures summed { result ≡ Status.Done → WhereMadeBy (options_of words.now) (λ made start. IsSummed made start false (K.written sink.old) (K.written sink.new)) }
-    ensures summed_with_refusals { result ≡ Status.DoneWithRefusals → WhereMadeBy (options_of words.now) (λ made start. IsSummed made start true (K.written sink.old) (K.written sink.new)) }
+    ensures summed { result ≡ Status.Done →
+        WhereMadeBy (options_of words.now) (λ made start. IsSummed made start false (K.written sink.old) (K.written sink.new)) }
+    ensures summed_with_refusals { result ≡ Status.DoneWithRefusals →
+        WhereMadeBy (options_of words.now) (λ made start. IsSummed made start true (K.written sink.old) (K.written sink.new)) }
     ensures part_summed { WhereMadeBy (options_of words.now) (λ made start. GetsPart (K.written sink.old) (K.written sink.new) (made_summary made start)) }
-    ensures complete_made { IfSome (options_of words.now) (λ options. IsSome options.made → ¬ Rose (K.faults sink.old) (K.faults sink.new) → IsFinished result) }
+    ensures complete_made { IfSome (options_of words.now) (λ options.
+        IsSome options.made → ¬ Rose (K.faults sink.old) (K.faults sink.new) → IsFinished result) }
     ensures untouched_by_made { IfSome (options_of words.now) (λ options. IsSome options.made → (source.new ≡ source.old) × (files.new ≡ files.old)) }
 {
     let options = match options_of(alloc, words) {

@@ -65,7 +65,8 @@ impl Window {
     /// Puts a query off, and says whether it is refused.
     fn put_one(&mut self, alloc: Global, engine: &Engine, ask: Ask) -> Result<bool, AllocError>
         requires { IsPaired self.old }
-        ensures owes { OnOk result ((text : Text) → window_text text self.new ≡ window_text text self.old ++ ask_text (version_text engine.now.version) ask) }
+        ensures owes { OnOk result ((text : Text) →
+            window_text text self.new ≡ window_text text self.old ++ ask_text (version_text engine.now.version) ask) }
         ensures refusal { IfOk result (λ refusal. refusal ≡ asks_refuse (version_text engine.now.version) (ask ∷ [])) }
         ensures paired { OnOk result (IsPaired self.new) }
     {
@@ -86,7 +87,8 @@ impl Window {
         asks: Vec<Ask>,
     ) -> Result<bool, AllocError>
         requires { IsPaired self.old }
-        ensures owes { OnOk result ((text : Text) → window_text text self.new ≡ window_text text self.old ++ asks_text (version_text engine.now.version) asks.items) }
+        ensures owes { OnOk result ((text : Text) →
+            window_text text self.new ≡ window_text text self.old ++ asks_text (version_text engine.now.version) asks.items) }
         ensures refusal { IfOk result (λ refusal. refusal ≡ asks_refuse (version_text engine.now.version) asks.items) }
         ensures paired { OnOk result (IsPaired self.new) }
     {
@@ -100,7 +102,8 @@ impl Window {
     /// Keeps the answer to a line that was done, which made an index of so many addresses.
     pub(crate) fn say(&mut self, answer: &[u8], made: u64) -> Result<(), AllocError>
         requires { IsPaired self.old }
-        ensures owes { OnOk result ((text : Text) → window_text text self.new ≡ window_text text self.old ++ answer.now) }
+        ensures owes { OnOk result ((text : Text) →
+            window_text text self.new ≡ window_text text self.old ++ answer.now) }
         ensures paired { OnOk result (IsPaired self.new) }
     {
         self.tail.extend_from_slice(answer)?;
