@@ -47,12 +47,6 @@ list_set_other (e ∷ es) zero (suc j) w other = refl
 list_set_other (e ∷ es) (suc i) zero w other = refl
 list_set_other (e ∷ es) (suc i) (suc j) w other = list_set_other es i j w (λ same. other (ap suc same))
 
--- a list with members is one of the lists
-pub filled_within : (es : Entries) (i : ℕ) → 1 ≤ filled (list_at es i) → i < length es
-filled_within [] i some = absurd (omega (arith, some))
-filled_within (e ∷ es) zero some = omega arith
-filled_within (e ∷ es) (suc i) some = let rest = filled_within es i some in omega (arith, rest)
-
 pub filled_le : (list : List ℕ) → filled list ≤ 1
 filled_le [] = omega arith
 filled_le (p ∷ ps) = omega arith
@@ -174,20 +168,10 @@ new_lists es fs name cs pushed = ap (λ l. unless_empty (unwrap_or (found l cs) 
 
 -- ---- what is read at a place
 
-pub name_read : (es : Entries) (i : ℕ) (k v : List ℕ) → slice_get es i ≡ Some (k, v) → name_at es i ≡ k
-name_read [] i k v is = absurd cc
-name_read (e ∷ es) zero k v is = ap (λ (o : Option (List ℕ × List ℕ)). (unwrap_or o e).0) is
-name_read (e ∷ es) (suc i) k v is = name_read es i k v is
-
 pub list_read : (es : Entries) (i : ℕ) (v : List ℕ) → slice_get (values_of es) i ≡ Some v → list_at es i ≡ v
 list_read [] i v is = absurd cc
 list_read (e ∷ es) zero v is = ap (λ o. unwrap_or o e.1) is
 list_read (e ∷ es) (suc i) v is = list_read es i v is
-
-pub none_read : (es : Entries) (i : ℕ) → None ≡ slice_get es i → name_at es i ≡ []
-none_read [] i is = refl
-none_read (e ∷ es) zero is = absurd cc
-none_read (e ∷ es) (suc i) is = none_read es i is
 
 -- to write what is there changes nothing
 pub same_written : (es : Entries) (i : ℕ) (w : List ℕ) → list_at es i ≡ w → i < length es → set_value_at es i w ≡ es
