@@ -5,7 +5,6 @@ use Rattle.std.proofs.lemmas.Bool.{cases_Bool}
 use Rattle.std.proofs.lemmas.Bool.Decides.{nat_tests}
 use Rattle.std.proofs.lemmas.List.{length-append, length-map}
 use Rattle.std.proofs.lemmas.Slice.Eq.{bytes_eq-Decides}
-use Rattle.std.specs.Prelude.{Result, Ok, Err, OnErr}
 use Rattle.outside.specs.Contents.{Contents, BeginsContent, ChangesOnly, changed_at}
 use Rattle.gcl_model.specs.Limits.{most_file}
 use Rattle.gcl_model.specs.Tokens.{tokens_of}
@@ -117,11 +116,6 @@ stops_after_opening state bytes old opened new n m image adopts reading more = i
 pub holds_as : (state : State) (told now : Option Reply) (names names' : List (List ℕ)) (n m : ℕ) (kept : Type 0) (held : Option Contents) → now ≡ told → names' ≡ names → HoldsWithin state told names n m kept held → HoldsWithin state now names' n m kept held
 holds_as state told now names names' n m kept held is same holds =
     subst (λ (o : Option Reply). HoldsWithin state o names' n m kept held) (sym is) (subst (λ (l : List (List ℕ)). HoldsWithin state told l n m kept held) (sym same) holds)
-
--- what holds anyhow holds of an error
-pub on_err : {T E : Type 0} (P : Type 0) (result : Result T E) → P → OnErr result P
-on_err P (Ok value) p = tt
-on_err P (Err fault) p = p
 
 -- what can be saved stays so
 

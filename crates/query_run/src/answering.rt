@@ -2,10 +2,9 @@
 ghost use Rattle.std.specs.Prelude.{◌≡◌, ◌+◌, ◌-◌, ◌≤◌, ◌<◌, ◌++◌, [], ◌∷◌, ℕ, false, map, take, drop, flat_map, IfOk, IfSome, OnOk, length};
 ghost use Rattle.std.specs.Io.KnownBytes.{Appends};
 ghost use Rattle.std.specs.List.{list_any};
-ghost use Rattle.gcl_model.specs.Limits.{far, most_readers, most_script};
+ghost use Rattle.gcl_model.specs.Limits.{far, merge_end, most_readers, most_script};
 ghost use Rattle.image_file.specs.Images.{CanBeSaved};
 ghost use Rattle.live_version.specs.Contents.{version_text};
-ghost use Rattle.collection.specs.Engines.{merge_end};
 ghost use Rattle.script_lang.specs.Answers.{is_refusal};
 ghost use Rattle.script_lang.specs.Lines.{lines, line_of_cut, text_of_lines, IsCut};
 ghost use Rattle.query_lanes.specs.Answers.{answer_in};

@@ -9,9 +9,6 @@ use Rattle.std.proofs.lemmas.Cmp.{nat_list_eq_equiv}
 use Rattle.std.proofs.lemmas.List.{length-map}
 use Rattle.std.proofs.lemmas.List.Quantifiers.{position-Some}
 use Rattle.std.proofs.lemmas.Slice.Eq.{bytes_eq-Decides}
-use Rattle.std.specs.Result.{OnErr}
-use Rattle.std.specs.declared.result.Result.{Result}
-use Rattle.std.specs.declared.result.Result.TheVariants.{Ok, Err}
 use Rattle.indexmap.specs.IndexMap.{set_value_at}
 use Rattle.index_shard.proofs.TableLaws.{all_at}
 use Rattle.shard_build.specs.Groups.{unless_empty}
@@ -178,8 +175,3 @@ pub same_written : (es : Entries) (i : ℕ) (w : List ℕ) → list_at es i ≡ 
 same_written [] i w is lt = absurd (omega (arith, lt))
 same_written (e ∷ es) zero w is lt = ap (λ v. (e.0, v) ∷ es) (sym is)
 same_written (e ∷ es) (suc i) w is lt = ap (λ l. e ∷ l) (same_written es i w is (omega (arith, lt)))
-
--- what holds anyhow holds of an error
-pub on_err : {T E : Type 0} (P : Type 0) (result : Result T E) → P → OnErr result P
-on_err P (Ok value) p = tt
-on_err P (Err fault) p = p
