@@ -3,7 +3,7 @@ use Rattle.std.proofs.Common.{◌≡◌, ℕ, ◌+◌, ◌-◌, ◌*◌, ◌<◌
 use Rattle.std.proofs.lemmas.List.{length-map}
 use Rattle.gcl_model.specs.Collections.{Collection, File, AreFilesFrom, IsSound, with_file, without_file, width_of}
 use Rattle.gcl_model.specs.Laws.{AreTiers}
-use Rattle.gcl_model.specs.Limits.{address_end, most_tiers, number_end}
+use Rattle.gcl_model.specs.Limits.{address_end, merge_end, most_tiers, version_end}
 use Rattle.gcl_model.specs.Slots.{SlotRange, slot_range, slots_after_add, slots_after_merge, slots_after_open}
 use Rattle.gcl_model.specs.Steps.{IsStep}
 use Rattle.address_space.proofs.CollectionLemmas.{start_is_sound, steps_keep_soundness}
@@ -16,7 +16,7 @@ use Rattle.logbook.specs.Pages.{Book}
 use Rattle.manifest_publish.specs.Histories.{IsLatest, IsNext}
 use Rattle.manifest_publish.proofs.HistoryLemmas.{lawful-snoc}
 use Rattle.manifest_publish.proofs.Stands.{latest-stands, opening-stands}
-use Rattle.collection.specs.Engines.{EngineContent, IsEngine, engine_content, last_of, merge_end, with_version}
+use Rattle.collection.specs.Engines.{EngineContent, IsEngine, engine_content, last_of, with_version}
 use Rattle.collection.specs.Changes.{AddsFileTo, Adopts, DeletesFileFrom, IsOpened, MergesSlotsOf}
 
 -- the last version of a history
@@ -152,8 +152,8 @@ pub record HasRoom (v : VersionContent) : Type 0 where
   pub ordered : v.first ≤ v.next
   pub in_range : v.next ≤ address_end
   pub few : length v.slots ≤ most_tiers
-  pub ids : v.next_id < number_end
-  pub number : v.number + 1 < number_end
+  pub ids : v.next_id < version_end
+  pub number : v.number + 1 < version_end
 
 pub engine-room : (e : EngineContent) → IsEngine e → IsVersion e.version → HasRoom e.version
 engine-room e is version =

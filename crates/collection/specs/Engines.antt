@@ -1,5 +1,6 @@
 -- What contracts see of an engine, and what is always true of one.
 use Rattle.std.specs.Prelude.{◌≡◌, ℕ, ◌+◌, ◌^◌, ◌≤◌, List, [], ◌∷◌, ◌++◌}
+use Rattle.gcl_model.specs.Limits.{merge_end}
 use Rattle.gcl_model.specs.Collections.{Collection, IsSound}
 use Rattle.gcl_model.specs.Laws.{AreTiers}
 use Rattle.live_version.specs.Changes.{empty_version}
@@ -31,10 +32,6 @@ with_version e v = engine_content e.publisher (e.history ++ v ∷ [])
 -- what a pass and a receipt of the last version tell
 abbrev pub published : EngineContent → Account
 published e = account e.publisher e.history
-
--- a merge and an opening need a number below this, so that the numbers above are left for adds and deletions
-abbrev pub merge_end : ℕ
-merge_end = 2 ^ 62
 
 -- The history is lawful and ends with the version. This stands for a sound collection, its slots are tiers, and the numbers that are left
 -- are enough for each add and each deletion that may still come

@@ -1,7 +1,7 @@
 ghost use Rattle.std.specs.Prelude.{◌≡◌, ◌+◌, ◌-◌, ◌<◌, ◌≤◌, ◌↔◌, true, ℕ, length, IfOk, IfErr, IsErr, IsErrOf, OnOk, OnErr};
 ghost use Rattle.std.specs.List.{AllByRecursion};
 ghost use Rattle.gcl_model.specs.Collections.{IsToken, width_of};
-ghost use Rattle.gcl_model.specs.Limits.{address_end, most_slots, number_end};
+ghost use Rattle.gcl_model.specs.Limits.{address_end, most_slots, version_end};
 ghost use Rattle.gcl_model.specs.Names.{is_name};
 ghost use Rattle.gcl_model.specs.Slots.{slot_range};
 ghost use Rattle.gcl_model.specs.Tokens.{tokens_of};
@@ -87,8 +87,8 @@ fn with_file(
     need: u64,
 ) -> Result<Version, AllocError>
     requires few { length last.now.slots < most_slots }
-    requires ids { last.now.next_id < number_end }
-    requires number { last.now.number + 1 < number_end }
+    requires ids { last.now.next_id < version_end }
+    requires number { last.now.number + 1 < version_end }
     requires need { need ≡ width_of (tokens_of bytes.now) }
     requires fits { last.now.next + width_of (tokens_of bytes.now) ≤ address_end }
     requires named { is_name name.now ≡ true }
@@ -109,7 +109,7 @@ fn with_file(
 /// A version that grew by one slot, with the last slots made one as far as the rule of adding goes.
 fn settled(alloc: Global, last: &Version, grown: Version) -> Result<Version, AllocError>
     requires grown { Grows last.now grown }
-    requires number { last.now.number + 1 < number_end }
+    requires number { last.now.number + 1 < version_end }
     ensures { IfOk result (Settles last.now grown) }
 {
     let count = grown.tail();

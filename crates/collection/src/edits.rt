@@ -1,10 +1,9 @@
 ghost use Rattle.std.specs.Prelude.{◌≡◌, ◌↔◌, ◌<◌, ℕ, [], length, None, IfOk, IsErrOf, IsSome, IsTrue, OnErr};
 ghost use Rattle.address_space.specs.declared.file_id.FileId.{FileId};
-ghost use Rattle.gcl_model.specs.Limits.{number_end};
+ghost use Rattle.gcl_model.specs.Limits.{merge_end, version_end};
 ghost use Rattle.live_version.specs.Changes.{file_with_id};
 ghost use Rattle.live_version.specs.Contents.{dead_of, files_of};
 ghost use Rattle.collection.specs.Changes.{DeletesFileFrom, IsAdoption, IsDelete, IsMerge, IsOpened, MergesSlotsOf};
-ghost use Rattle.collection.specs.Engines.{merge_end};
 ghost use Rattle.collection.specs.declared.faults.AdoptFault.TheVariants.{NotEmpty};
 ghost use Rattle.collection.specs.declared.faults.DeleteFault.TheVariants.{NotLive};
 
@@ -69,7 +68,7 @@ impl Engine {
 /// The version without the file of this id.
 fn without_file(last: &Version, id: FileId) -> Result<Version, AllocError>
     requires survives { IsSome (file_with_id id.0 (files_of last.now.slots)) }
-    requires number { last.now.number < number_end }
+    requires number { last.now.number < version_end }
     ensures { IfOk result (λ version. DeletesFileFrom last.now version id.0) }
 {
     let version = last.without_file(id)?;
@@ -78,7 +77,7 @@ fn without_file(last: &Version, id: FileId) -> Result<Version, AllocError>
 
 /// The version with all slots made one, or with none where no file survives. One slot of which nothing is dead stays.
 fn merged(alloc: Global, last: &Version) -> Result<Version, AllocError>
-    requires { last.now.number < number_end }
+    requires { last.now.number < version_end }
     ensures { IfOk result (MergesSlotsOf last.now) }
 {
     let count = last.slot_count();

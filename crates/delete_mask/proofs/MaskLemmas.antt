@@ -43,11 +43,6 @@ dead_range-dead mask p range e = here (is_dead mask p) refl
     here true is = refl
     here false is = let none = (dead_range-none mask p).0 is in absurd cc
 
-pub AreRangesWithin-later : (low end later : ℕ) (mask : List SlotRange) → end ≤ later → AreRangesWithin low end mask → AreRangesWithin low later mask
-AreRangesWithin-later low end later [] le h = tt
-AreRangesWithin-later low end later (range ∷ mask) le h =
-    (h.0, h.1, let last : range.last < end = h.2 in omega arith, AreRangesWithin-later (range.last + 1) end later mask le h.3)
-
 -- no address before all ranges is dead
 pub dead_range-before : (low end : ℕ) (mask : List SlotRange) (p : ℕ) → AreRangesWithin low end mask → p < low → dead_range mask p ≡ None
 dead_range-before low end [] p h below = refl

@@ -10,8 +10,12 @@ abbrev pub far : ℕ
 far = 2 ^ 62
 
 -- numbers of versions, editions and ids are below this
-abbrev pub number_end : ℕ
-number_end = 2 ^ 63
+abbrev pub version_end : ℕ
+version_end = 2 ^ 63
+
+-- a merge and an opening need a number below this, so that the numbers above are left for adds and deletions
+abbrev pub merge_end : ℕ
+merge_end = 2 ^ 62
 
 -- how many slots a version has at most, also while the last ones are not made one yet
 abbrev pub most_slots : ℕ

@@ -16,8 +16,8 @@ use Rattle.index_shard.proofs.ShardWords.{rising_places}
 use Rattle.live_version.specs.Contents.{VersionContent, IsVersion, files_of, live_of}
 use Rattle.live_version.proofs.WordLemmas.{live_of_rise}
 use Rattle.slot_terms.specs.Parts.{PartContent, IsNext, part_of, past, postings_left}
-use Rattle.shard_merge.proofs.Runs.{left_places, parts_are_tables}
-use Rattle.shard_merge.proofs.TermByTerm.{AllBefore, all_before, before_missed, IsMerging, merging_begins, merging_skips, merging_pushes, merged_all}
+use Rattle.shard_merge.proofs.Runs.{left_places}
+use Rattle.shard_merge.proofs.TermByTerm.{AllBefore, all_before, before_missed, IsMerging, merging_skips, merging_pushes, merged_all}
 use Rattle.image_file.specs.declared.format.Format.TheVariants.{Two}
 use Rattle.gcl_model.specs.Collections.{Collection, IsSound}
 use Rattle.live_version.specs.StandsFor.{StandsFor}
@@ -44,20 +44,6 @@ pub record IsWriting (v : VersionContent) (parts : List PartContent) (number : �
 
 abbrev pub Writes : VersionContent → List PartContent → ℕ → List ℕ → Type 0
 Writes v parts count bytes = (table : List TermEntry) × IsWriting v parts count bytes table
-
-pub writing_begins : (v : VersionContent) → IsVersion v → Writes v (map part_of v.slots) 0 []
-writing_begins v is = (
-  [],
-  record {
-    merging = merging_begins (map part_of v.slots) (parts_are_tables v.slots is.slots);
-    rising = tt;
-    some = tt;
-    short = tt;
-    count = refl;
-    bytes = refl;
-    few = omega arith;
-  },
-)
 
 pub writing_skips : (v : VersionContent) (parts : List PartContent) (count : ℕ) (bytes term : List ℕ) → Writes v parts count bytes → IsNext parts term [] → Writes v (map (past term) parts) count bytes
 writing_skips v parts count bytes term w next = (

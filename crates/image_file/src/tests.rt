@@ -1,7 +1,7 @@
 ghost use Rattle.std.specs.Prelude.{◌≡◌, ◌+◌, ◌≤◌, ◌<◌, ◌^◌, true, length, IfOk, IfSome, IsTrue};
 ghost use Rattle.std.specs.List.{AllByRecursion};
 ghost use Rattle.gcl_model.specs.Collections.{IsToken, width_of};
-ghost use Rattle.gcl_model.specs.Limits.{address_end, most_slots, number_end};
+ghost use Rattle.gcl_model.specs.Limits.{address_end, most_slots, version_end};
 ghost use Rattle.gcl_model.specs.Names.{is_name};
 ghost use Rattle.address_space.specs.Runs.{range_of};
 ghost use Rattle.live_version.specs.Changes.{HasTokens};
@@ -83,8 +83,8 @@ fn saved(
     requires id { file.id ≡ version.now.next_id }
     requires base { file.base ≡ version.now.next }
     requires range { shard.range ≡ range_of file }
-    requires ids { version.now.next_id < number_end }
-    requires number { version.now.number < number_end }
+    requires ids { version.now.next_id < version_end }
+    requires number { version.now.number < version_end }
     requires has { HasTokens file shard tokens.now }
     requires fits { version.now.next + width_of tokens.now ≤ address_end }
     requires named { is_name file.name ≡ true }

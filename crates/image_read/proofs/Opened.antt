@@ -124,7 +124,3 @@ span_within first next next_id (e ∷ es) range small all span =
     let end : e.base + e.len ≤ next = all.0.end in
     let last = is.least next (omega (arith, end, two)) (all_end next next_id 0 first (e ∷ es) all) in
     subst (IsWithin first next) (sym same) record { low = omega (arith, base, begins); high = omega (arith, last) }
-
-pub no_span : (files : List FileEntry) → [] ≡ ranges_spanned (map range_of files) → files ≡ []
-no_span [] span = refl
-no_span (e ∷ es) span = absurd cc

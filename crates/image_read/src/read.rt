@@ -59,7 +59,7 @@ fn version_of(
     ensures some { IfOk result (λ found. IfSome found (λ v. IsReadFrom head.format head.first head.next head.next_id front.entry.files front.entry.rest.now v)) }
     ensures none { IfOk result (λ found. IsNone found → HasNoTerms head.format head.first head.next front.entry.files front.entry.rest.now) }
 {
-    let Some(range) = range_of(&front) else {
+    let Some(range) = range_of_files(&front) else {
         return empty_version(alloc, head, front.rest);
     };
     let Some(shard) = shard_of(alloc, head, range, &front)? else {
@@ -109,7 +109,7 @@ fn empty_version(alloc: Global, head: Head, bytes: &[u8]) -> Result<Option<Versi
 }
 
 /// From the base of the first file to the last address of the last one.
-fn range_of(front: &FilesFront<'_>) -> Option<Range>
+fn range_of_files(front: &FilesFront<'_>) -> Option<Range>
     ensures some { IfSome result (λ range. IsRangeOf range front.now.files) }
     ensures spanned { option_to_list result ≡ ranges_spanned (map range_of front.now.files) }
 {

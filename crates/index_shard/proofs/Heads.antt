@@ -1,13 +1,12 @@
 -- The first bytes of two terms as numbers, against the order of the terms.
-use Rattle.std.proofs.Common.{◌≡◌, ℕ, zero, suc, ◌+◌, ◌-◌, ◌*◌, ◌^◌, ◌<◌, ◌≤◌, List, [], ◌∷◌, length, take, drop, min, get_or, nat_cmp, inl, inr, refl, sym, ap, ◌∙◌, subst, arith}
+use Rattle.std.proofs.Common.{◌≡◌, ℕ, zero, suc, ◌+◌, ◌-◌, ◌*◌, ◌^◌, ◌<◌, ◌≤◌, List, [], ◌∷◌, drop, get_or, nat_cmp, inl, inr, refl, sym, ap, ◌∙◌, subst, arith}
 use Rattle.std.specs.declared.cmp.Ordering.TheVariants.{Less, Equal, Greater}
 use Rattle.std.specs.Ordering.{ordering_reverse, ordering_then}
 use Rattle.std.specs.Cmp.{nat_cmp_is}
 use Rattle.std.specs.Cmp.Lexicographic.{slice_cmp}
 use Rattle.std.proofs.lemmas.Cmp.{nat_list_cmp_total}
 use Rattle.std.proofs.lemmas.Bool.{cases_lt}
-use Rattle.std.proofs.lemmas.List.{take_min, drop_min}
-use Rattle.index_shard.specs.Kept.{leading, part_of, AreBytes}
+use Rattle.index_shard.specs.Kept.{leading, AreBytes}
 
 later : (x : ℕ) (xs : List ℕ) → AreBytes (x ∷ xs) → AreBytes xs
 later x xs bytes = λ k. bytes (suc k)
@@ -84,12 +83,6 @@ room_next zero m h b n_is byte = absurd (omega (arith, n_is))
 room_next (suc n) m h b n_is byte =
     let same : n ≡ m = omega (arith, n_is) in
     subst (λ k. leading m (h * 256 + b + 1) [] ≤ leading k ((h + 1) * 256) []) (sym same) (least m (h * 256 + b + 1) ((h + 1) * 256) [] (omega (arith, byte)))
-
--- a part that is cut by the ends of what there is
-pub part_cut : (bytes : List ℕ) (start size from upto : ℕ) (rest : List ℕ) → from ≡ min start (length bytes) → rest ≡ drop from bytes → upto ≡ min size (length rest) → take upto rest ≡ part_of bytes start size
-part_cut bytes start size from upto rest from_is rest_is upto_is =
-    let there : rest ≡ drop start bytes = rest_is ∙ ap (λ k. drop k bytes) from_is ∙ drop_min start bytes in
-    ap (λ k. take k rest) upto_is ∙ take_min size rest ∙ ap (take size) there
 
 pub head_room : (n m h b : ℕ) → n ≡ suc m → b < 256 → leading n (h + 1) [] ≤ 2 ^ 64 → (h * 256 + b < 2 ^ 64) × (leading m (h * 256 + b + 1) [] ≤ 2 ^ 64)
 head_room n m h b n_is byte room =

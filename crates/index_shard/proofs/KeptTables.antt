@@ -3,7 +3,6 @@ use Rattle.std.proofs.Common.{◌≡◌, ℕ, zero, suc, ◌+◌, ◌<◌, ◌�
 use Rattle.std.specs.declared.cmp.Ordering.TheVariants.{Less, Equal, Greater}
 use Rattle.std.specs.Ordering.{ordering_index, ordering_then}
 use Rattle.std.specs.Cmp.Lexicographic.{slice_cmp}
-use Rattle.std.specs.Prelude.{Result, Ok, Err, OnErr}
 use Rattle.std.specs.List.{AllByRecursion, slice_get}
 use Rattle.std.specs.List.Sorted.{IsNonDecreasingBy, IsPartitionPoint}
 use Rattle.std.proofs.lemmas.List.{get_or-map, get_or_append_left, get_or-append-add, length-map, map-append, take-append-le, take-append-drop, drop-append-le, length-append, length-drop, take_all}
@@ -13,7 +12,7 @@ use Rattle.posting_code.specs.Postings.{ArePostings}
 use Rattle.posting_code.specs.Packed.{kept, last_of, packed_of, IsKeptTo}
 use Rattle.posting_code.proofs.Shorts.{short_of}
 use Rattle.index_shard.specs.Tables.{TermEntry, IsTable, addresses_at, place_of, least_term}
-use Rattle.index_shard.specs.Kept.{leading, AreBytes, part_of, list_in, entry_in, entry_of, table_in, IsTermIn, IsListIn, AreKeptIn, IsPutShort, order_in}
+use Rattle.index_shard.specs.Kept.{leading, AreBytes, part_of, list_in, entry_in, kept_entry, table_in, IsTermIn, IsListIn, AreKeptIn, IsPutShort, order_in}
 use Rattle.index_shard.specs.declared.entry.Entry.{Entry}
 use Rattle.index_shard.specs.declared.entry.Kept.{Kept}
 use Rattle.index_shard.specs.declared.entry.Kept.TheVariants.{Short, Long}
@@ -158,10 +157,10 @@ pub record IsPushed (bytes packed : List ℕ) (long : List (List ℕ)) (es : Lis
   pub is : table_in bytes packed long es ≡ table ++ record { term = term; addresses = addresses } ∷ []
 
 pushed_here : (bytes packed p : List ℕ) (long l : List (List ℕ)) (es : List Entry) (table : List TermEntry) (term addresses : List ℕ) (list : Kept) → table_in bytes packed long es ≡ table → AreKeptIn bytes packed long es →
-    list_in (packed ++ p) (long ++ l) list ≡ addresses → IsListIn (packed ++ p) (long ++ l) list → IsPushed (bytes ++ term) (packed ++ p) (long ++ l) (es ++ entry_of bytes term list ∷ []) table term addresses
+    list_in (packed ++ p) (long ++ l) list ≡ addresses → IsListIn (packed ++ p) (long ++ l) list → IsPushed (bytes ++ term) (packed ++ p) (long ++ l) (es ++ kept_entry bytes term list ∷ []) table term addresses
 pushed_here bytes packed p long l es table term addresses list same are is within =
     let all : List ℕ = bytes ++ term in
-    let e : Entry = entry_of bytes term list in
+    let e : Entry = kept_entry bytes term list in
     let mine : part_of all (length bytes) (length term) ≡ term = ap (take (length term)) (drop-append_seam bytes term) ∙ take_all (length term) term (le_refl (length term)) in
     let wide = length-append bytes term in
     let one : IsTermIn all e = record { within = omega (arith, wide); head = ap (leading 8 0) (sym mine) } in
@@ -182,7 +181,7 @@ front_split : {X : Type 0} (xs ys : List X) → take (length xs) ys ≡ xs → y
 front_split xs ys is = sym (take-append-drop (length xs) ys) ∙ ap (λ front. front ++ drop (length xs) ys) is
 
 pub pushed : (bytes packed : List ℕ) (long : List (List ℕ)) (es : List Entry) (table : List TermEntry) (term addresses : List ℕ) (list : Kept) (bytes' packed' : List ℕ) (long' : List (List ℕ)) (more : List Entry) →
-    table_in bytes packed long es ≡ table → AreKeptIn bytes packed long es → bytes' ≡ bytes ++ term → take (length packed) packed' ≡ packed → take (length long) long' ≡ long → more ≡ es ++ entry_of bytes term list ∷ [] →
+    table_in bytes packed long es ≡ table → AreKeptIn bytes packed long es → bytes' ≡ bytes ++ term → take (length packed) packed' ≡ packed → take (length long) long' ≡ long → more ≡ es ++ kept_entry bytes term list ∷ [] →
     list_in packed' long' list ≡ addresses → IsListIn packed' long' list → IsPushed bytes' packed' long' more table term addresses
 pushed bytes packed long es table term addresses list bytes' packed' long' more same are bytes_is packed_is long_is more_is is within =
     let p = drop (length packed) packed' in
@@ -213,11 +212,6 @@ unchanged bytes packed long es table bytes' packed' long' more same are bytes_is
     (subst (λ q. IsUnchanged (bytes ++ b) (packed ++ p) q more table) (sym (front_split long long' long_is))
     (subst (λ q. IsUnchanged (bytes ++ b) (packed ++ p) (long ++ l) q table) (sym more_is)
     record { kept = kept_more bytes b packed p long l es are; is = table_more bytes b packed p long l es are ∙ same })))
-
--- what holds whatever came back
-pub on_err : {T E : Type 0} (P : Type 0) (result : Result T E) → P → OnErr result P
-on_err P (Ok value) p = tt
-on_err P (Err fault) p = p
 
 -- a row begins as itself
 pub itself : {X : Type 0} (xs : List X) → take (length xs) xs ≡ xs

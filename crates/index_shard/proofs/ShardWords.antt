@@ -206,7 +206,3 @@ rising_apart next low (w ∷ ws) a b rise other q has =
             | inr eb ↦ rw eb (rest has)
           ]
     ]
-
--- so it is of the words of a shard
-pub shard_apart : (shard : ShardContent) (a b : List ℕ) → IsShard shard → (a ≡ b → ⊥) → AreApart (places (words_of shard) a) (places (words_of shard) b)
-shard_apart shard a b is other = rising_apart (shard.range.last + 1) shard.range.first (words_of shard) a b (shard_words_rise shard is) other

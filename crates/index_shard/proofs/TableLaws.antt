@@ -82,12 +82,6 @@ pub postings_missed : (es : List TermEntry) (term : List ℕ) → ((k : ℕ) (d 
 postings_missed [] term none = refl
 postings_missed (x ∷ xs) term none = rw (none 0 x (omega arith)) (postings_missed xs term (λ k d lt. none (suc k) d (omega arith)))
 
--- the postings at a place
-pub addresses_here : (es : List TermEntry) (i : ℕ) (d : TermEntry) → i < length es → addresses_at es i ≡ (get_or es i d).addresses
-addresses_here [] i d lt = absurd (omega arith)
-addresses_here (x ∷ xs) zero d lt = refl
-addresses_here (x ∷ xs) (suc i) d lt = addresses_here xs i d (omega arith)
-
 -- halving that met an entry found its place
 pub place_met : (range : SlotRange) (es : List TermEntry) (i : ℕ) (term : List ℕ) (d : TermEntry) → IsTable range es → i < length es →
     slice_cmp nat_cmp (get_or es i d).term term ≡ Equal → place_of es term ≡ Some i

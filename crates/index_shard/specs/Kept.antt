@@ -71,5 +71,5 @@ pub record IsPutShort (packed : List ℕ) (addresses : List ℕ) (list : Kept) :
   pub within : (long : List (List ℕ)) → IsListIn packed long list
 
 -- the entry of a term that is put behind the bytes
-abbrev pub entry_of : List ℕ → List ℕ → Kept → Entry
-entry_of bytes term list = record { head = leading 8 0 term; start = length bytes; size = length term; list = list }
+abbrev pub kept_entry : List ℕ → List ℕ → Kept → Entry
+kept_entry bytes term list = record { head = leading 8 0 term; start = length bytes; size = length term; list = list }

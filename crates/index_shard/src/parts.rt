@@ -1,7 +1,7 @@
 ghost use Rattle.std.specs.Prelude.{◌≡◌, ◌≤◌, ◌++◌, ◌∷◌, [], List, ℕ, length, take, IfOk, OnOk, OnErr};
 ghost use Rattle.std.specs.List.{concat};
 ghost use Rattle.posting_code.specs.Postings.{ArePostings};
-ghost use Rattle.index_shard.specs.Kept.{AreEndsOf, IsPutShort, entry_of, leading};
+ghost use Rattle.index_shard.specs.Kept.{AreEndsOf, IsPutShort, kept_entry, leading};
 
 use crate::entry::{Entry, Kept};
 use posting_code::{PostingList, PostingMaker, Postings, put_joined};
@@ -101,7 +101,7 @@ pub(crate) fn put_entry(
 ) -> Result<(), AllocError>
     requires head { head ≡ leading 8 0 term.now }
     ensures bytes { OnOk result (bytes.new.items ≡ bytes.old.items ++ term.now) }
-    ensures entry { OnOk result (entries.new.items ≡ entries.old.items ++ entry_of bytes.old.items term.now list ∷ []) }
+    ensures entry { OnOk result (entries.new.items ≡ entries.old.items ++ kept_entry bytes.old.items term.now list ∷ []) }
     ensures err { OnErr result (entries.new.items ≡ entries.old.items) }
     ensures same_bytes { OnErr result (take (length bytes.old.items) bytes.new.items ≡ bytes.old.items) }
 {

@@ -13,25 +13,11 @@ use Rattle.address_space.proofs.RunLemmas.{IsFileRun-push}
 use Rattle.index_shard.specs.Tables.{ShardContent, IsShard, words_of}
 use Rattle.index_shard.proofs.ShardWords.{shard_words_rise}
 use Rattle.live_version.specs.Contents.{SlotContent, VersionContent, IsSlot, IsVersion, LiesIn, is_of_file, is_of_files, ranges_of, files_of, dead_of, live_of, live_words}
-use Rattle.live_version.specs.Changes.{empty_version, opened, slot_of_file, version_with_file}
+use Rattle.live_version.specs.Changes.{opened, slot_of_file, version_with_file}
 use Rattle.live_version.specs.StandsFor.{StandsFor, entry_of}
 use Rattle.gcl_model.proofs.Lists.{all_append, all_weaker, all_both, all_filter, filter_all}
 use Rattle.live_version.proofs.ChangeRanges.{ranges_push}
 use Rattle.live_version.proofs.ChangeFiles.{is_of_file-inside, last_of_all, run_length}
-
-pub empty_is_version : (first : ℕ) → first ≤ address_end → IsVersion (empty_version first)
-empty_is_version first le = record {
-  numbered = omega arith;
-  ordered = omega arith;
-  in_range = le;
-  few = omega arith;
-  apart = tt;
-  slots = tt;
-  run = tt;
-  ids = tt;
-  used = omega arith;
-  dead = omega arith;
-}
 
 opened_none : (first next next_id : ℕ) → first ≤ next → next ≤ address_end → IsVersion (opened first next next_id None)
 opened_none first next next_id le in_range = record {

@@ -129,18 +129,3 @@ stands_placed v at count slot c same stands =
       files = placed.files ∙ stands.files;
       words = placed.words ∙ stands.words;
     }
-
--- a version under other numbers is one
-pub renumbered : (v : VersionContent) (number edition : ℕ) → edition ≤ number → IsVersion v → IsVersion (record v { number = number; edition = edition })
-renumbered v number edition le is = record {
-  numbered = le;
-  ordered = is.ordered;
-  in_range = is.in_range;
-  few = is.few;
-  apart = is.apart;
-  slots = is.slots;
-  run = is.run;
-  ids = is.ids;
-  used = is.used;
-  dead = is.dead;
-}

@@ -1,7 +1,7 @@
 ghost use Rattle.std.specs.Prelude.{◌≡◌, ◌+◌, ◌++◌, ◌∷◌, ◌≤◌, ◌<◌, [], length, Option, IfOk, IfSome, IsSome};
 ghost use Rattle.std.specs.List.{AllByRecursion};
 ghost use Rattle.std.specs.Option.{option_to_list};
-ghost use Rattle.gcl_model.specs.Limits.{address_end, most_slots, number_end};
+ghost use Rattle.gcl_model.specs.Limits.{address_end, most_slots, version_end};
 ghost use Rattle.live_version.specs.Contents.{files_of, ranges_of};
 ghost use Rattle.live_version.specs.Changes.{empty_version, opened, version_with_file, file_with_id, version_without_file, slots_at, version_with_slot, whole_range, LiesInside, IsSameLive, AreSettledAlone, JoinsTail, KillsFile};
 ghost use Rattle.address_space.specs.Runs.{range_of};
@@ -52,8 +52,8 @@ impl Version {
         requires id { file.id ≡ self.now.next_id }
         requires base { file.base ≡ self.now.next }
         requires range { shard.range ≡ range_of file }
-        requires ids { self.now.next_id < number_end }
-        requires number { self.now.number < number_end }
+        requires ids { self.now.next_id < version_end }
+        requires number { self.now.number < version_end }
         ensures value { IfOk result (λ version. version ≡ version_with_file self.now file shard) }
         ensures stands { IfOk result (λ version. AddsFile self.now file shard version) }
         ensures ranges { IfOk result (λ version. ranges_of version.slots ≡ ranges_of self.now.slots ++ range_of file ∷ []) }
@@ -76,7 +76,7 @@ impl Version {
     /// The version without the file of this id. Each slot keeps its addresses and its index.
     pub fn without_file(&self, id: FileId) -> Result<Version, AllocError>
         requires survives { IsSome (file_with_id id.0 (files_of self.now.slots)) }
-        requires number { self.now.number < number_end }
+        requires number { self.now.number < version_end }
         ensures value { IfOk result (λ version. version ≡ version_without_file self.now id.0) }
         ensures stands { IfOk result (λ version. DeletesFile self.now id.0 version) }
         ensures ranges { IfOk result (λ version. ranges_of version.slots ≡ ranges_of self.now.slots) }
@@ -115,7 +115,7 @@ impl Version {
         requires range { IfSome slot (λ s. LiesInside s.range (whole_range (ranges_of (slots_at at count self.now.slots)))) }
         requires alive { IfSome slot (λ s. s.mask ≡ []) }
         requires same { IsSameLive (slots_at at count self.now.slots) (option_to_list slot) }
-        requires number { self.now.number < number_end }
+        requires number { self.now.number < version_end }
         ensures value { IfOk result (λ version. version ≡ version_with_slot self.now at count slot) }
         ensures live { IfOk result (λ version. IsSameLive self.now.slots version.slots) }
         ensures stands { IfOk result (λ version. Keeps self.now version) }

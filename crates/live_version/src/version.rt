@@ -1,5 +1,5 @@
 ghost use Rattle.std.specs.Prelude.{◌≡◌, ◌+◌, ◌≤◌, ◌<◌, length, slice_index_or};
-ghost use Rattle.gcl_model.specs.Limits.{most_slots, number_end};
+ghost use Rattle.gcl_model.specs.Limits.{most_slots, version_end};
 ghost use Rattle.live_version.specs.Contents.{IsVersion, version_content};
 ghost use Rattle.live_version.specs.StandsFor.{Keeps};
 
@@ -136,7 +136,7 @@ impl Version {
 
     /// The same version under the numbers that follow those of another one.
     pub fn after(mut self, previous: &Version) -> Version
-        requires { previous.now.number < number_end }
+        requires { previous.now.number < version_end }
         ensures value { result ≡ record self { number = previous.now.number + 1; edition = previous.now.edition + 1 } }
         ensures stands { Keeps self result }
     {

@@ -3,7 +3,7 @@ use Rattle.std.proofs.Common.{◌≡◌, ◌+◌, Bool, true, false, IsTrue, Lis
 use Rattle.std.proofs.lemmas.List.{same_from_push}
 use mathlib.Core.List.{IsPrefix}
 use Rattle.live_version.specs.Contents.{VersionContent}
-use Rattle.manifest_publish.specs.Histories.{IsOpening, IsNext, Follow, IsLawful, IsLatest}
+use Rattle.manifest_publish.specs.Histories.{IsNext, Follow, IsLawful, IsLatest}
 use Rattle.manifest_publish.specs.Accounts.{EndsWith}
 use Rattle.manifest_publish.proofs.Prefixes.{prefix_whole, prefix_shorter, prefix_length}
 
@@ -19,16 +19,6 @@ lawful-snoc_at (x ∷ xs) v w h next = (h.0, follow-snoc x xs v w h.1 next)
 pub lawful-snoc : (history : List VersionContent) (v w : VersionContent) → IsLawful history → IsLatest history v → IsNext v w → IsLawful (history ++ w ∷ [])
 lawful-snoc history v w h last next =
     subst (λ l. IsLawful (l ++ w ∷ [])) (sym last.1) (lawful-snoc_at last.0 v w (subst IsLawful last.1 h) next)
-
-pub latest-snoc : (history : List VersionContent) (w : VersionContent) → IsLatest (history ++ w ∷ []) w
-latest-snoc history w = (history, refl)
-
--- the opening version alone
-pub lawful-opening : (v : VersionContent) → IsOpening v → IsLawful (v ∷ [])
-lawful-opening v opening = (opening, tt)
-
-pub latest-opening : (v : VersionContent) → IsLatest (v ∷ []) v
-latest-opening v = ([], refl)
 
 follow-number : (u : VersionContent) (before : List VersionContent) (v : VersionContent) → Follow u (before ++ v ∷ []) → v.number ≡ u.number + length before + 1
 follow-number u [] v h = let n = h.0.number in omega arith

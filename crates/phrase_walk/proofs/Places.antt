@@ -38,12 +38,6 @@ pub record IsHeldIn (text : Text) (token : List ℕ) (k w : ℕ) : Type 0 where
   pub from : k ≤ place
   pub upto : place ≤ w
 
-pub held_wider : (text : Text) (token : List ℕ) (s e t f : ℕ) → t ≤ s → e ≤ f → IsHeldIn text token s e → IsHeldIn text token t f
-held_wider text token s e t f a b i =
-    let x : s ≤ i.place = i.from in
-    let y : i.place ≤ e = i.upto in
-    record { place = i.place; held = i.held; from = omega arith; upto = omega arith }
-
 covers_held : (text : Text) (token : List ℕ) → IsText text → (p k w : ℕ) → Held text token p → k ≤ p → p ≤ w → covers (concordance text (term token)) (extent k w) ≡ true
 covers_held text token sound p k w held from upto =
     let within = held_within text.next text.first text.words token p sound.rising held in

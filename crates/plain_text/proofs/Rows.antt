@@ -1,5 +1,5 @@
 -- All pairs of addresses that pass a test, row by row.
-use Rattle.std.proofs.Common.{◌≡◌, ℕ, suc, ◌+◌, ◌-◌, ◌<◌, ◌≤◌, Bool, true, false, cond, List, [], ◌∷◌, ◌++◌, map, filter, ap, sym, ◌∙◌, arith}
+use Rattle.std.proofs.Common.{◌≡◌, ℕ, suc, ◌+◌, ◌-◌, ◌<◌, Bool, true, false, cond, List, [], ◌∷◌, ◌++◌, map, filter, ap, sym, ◌∙◌, arith}
 use Rattle.std.specs.List.{range_with_len, flat_map}
 use Rattle.std.proofs.lemmas.List.{append_assoc}
 use Rattle.std.proofs.lemmas.List.Elements.{filter-append}
@@ -18,9 +18,6 @@ range_more a b lt = let e : b - a ≡ suc (b - (a + 1)) = omega arith in ap (ran
 
 row_step : (test : Extent → Bool) (p q next : ℕ) → q < next → row test p q next ≡ cond (test (extent p q)) (extent p q ∷ row test p (q + 1) next) (row test p (q + 1) next)
 row_step test p q next lt = ap (λ ns. filter test (map (λ q. extent p q) ns)) (range_more q next lt)
-
-pub row_end : (test : Extent → Bool) (p q next : ℕ) → next ≤ q → row test p q next ≡ []
-row_end test p q next le = let e : next - q ≡ 0 = omega arith in ap (λ n. filter test (map (λ q. extent p q) (range_with_len q n))) e
 
 -- the pair is put behind those so far
 pub row_put : (test : Extent → Bool) (p q next : ℕ) (list more whole : List Extent) → q < next → test (extent p q) ≡ true → more ≡ list ++ extent p q ∷ [] → list ++ row test p q next ≡ whole → more ++ row test p (q + 1) next ≡ whole

@@ -10,9 +10,6 @@ pub record IsHalved (whole left before now : ℕ) : Type 0 where
   pub few : 2 ^ turns ≤ 2 * whole + 1
   pub part : 2 ^ turns * left ≤ whole
 
-pub halved_not : (whole before : ℕ) → IsHalved whole whole before before
-halved_not whole before = record { turns = 0; counted = omega arith; few = omega arith; part = omega arith }
-
 pub halved_once : (whole left next before now later : ℕ) → IsHalved whole left before now → later ≡ now + 1 → 0 < left → 2 * next ≤ left → IsHalved whole next before later
 halved_once whole left next before now later h is some half =
     let power = 2 ^ h.turns in
@@ -29,9 +26,6 @@ halved_once whole left next before now later h is some half =
       few = omega (arith, double, one, part);
       part = rw double fits;
     }
-
-pub halved_digits : (whole left before now : ℕ) → IsHalved whole left before now → RisesByDigits whole before now
-halved_digits whole left before now h = let counted = h.counted in record { digits = h.turns; few = h.few; most = omega (arith, counted); rises = omega (arith, counted) }
 
 -- a list has no more blocks than members
 pub digits_of_blocks : (n blocks before now : ℕ) → blocks ≡ (n + 63) / 64 → RisesByDigits blocks before now → RisesByDigits n before now

@@ -1,8 +1,7 @@
 ghost use Rattle.std.specs.Prelude.{◌≡◌, ◌≤◌, ◌<◌, ◌⊎◌, length, map, IfOk, OnOk, OnErr};
 ghost use Rattle.std.specs.Thread.{IsSync};
 ghost use Rattle.gcl_model.specs.Collections.{Collection, text_of};
-ghost use Rattle.gcl_model.specs.Limits.{most_readers};
-ghost use Rattle.collection.specs.Engines.{merge_end};
+ghost use Rattle.gcl_model.specs.Limits.{merge_end, most_readers};
 ghost use Rattle.live_version.specs.Contents.{version_text};
 ghost use Rattle.live_version.specs.StandsFor.{StandsFor, Keeps};
 ghost use Rattle.query_lanes.specs.Answers.{answer_in};

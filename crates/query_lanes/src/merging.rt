@@ -1,5 +1,5 @@
 ghost use Rattle.std.specs.Prelude.{◌≡◌, ◌<◌, OnOk, OnErr};
-ghost use Rattle.collection.specs.Engines.{merge_end};
+ghost use Rattle.gcl_model.specs.Limits.{merge_end};
 ghost use Rattle.query_lanes.specs.Merges.{IsMerged, HasOneText};
 
 use collection::Engine;

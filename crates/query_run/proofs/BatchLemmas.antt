@@ -48,10 +48,6 @@ pub no_fault : (fault : Option QueryFault) → ((wrong : QueryFault) → fault �
 no_fault None none = refl
 no_fault (Some wrong) none = absurd (none wrong refl)
 
--- a batch of no line
-pub begins_none : (all : List Line) → Begins [] all all
-begins_none all = record { batch = []; whole = refl; are = tt }
-
 asked_more : (asks : List Ask) (batch : List Line) (ask : Ask) (line : Line) → AreAsked asks batch → AsksLine ask line → AreAsked (asks ++ ask ∷ []) (batch ++ line ∷ [])
 asked_more [] [] ask line are is = (is, tt)
 asked_more [] (other ∷ batch) ask line are is = absurd are
@@ -66,10 +62,6 @@ begins_more asks all left rest ask line begins next is = record {
   are = asked_more asks begins.batch ask line begins.are is;
 }
 
--- no query comes first where the first line asks none
-pub begin_with_none : (all rest : List Line) (line : Line) → all ≡ line ∷ rest → asks_query line ≡ false → BeginWithNone all
-begin_with_none all rest line is none = subst BeginWithNone (sym is) none
-
 -- beside a batch the engine keeps the state, with the merge made where it was wanted
 pub merged_keeps : (wanted : Bool) (old new : EngineContent) (state : State) → IsMergedWhere wanted old new → Keeps old wanted state → Keeps new false state
 merged_keeps true old new state merged keeps = record {
@@ -77,13 +69,6 @@ merged_keeps true old new state merged keeps = record {
   slots = keeps.slots ∙ sym (merged.1.change.ranges state.collection keeps.stands);
 }
 merged_keeps false old new state merged keeps = subst (λ (e : EngineContent). Keeps e false state) (sym merged) keeps
-
--- a merge that was wanted took one number
-pub merged_number : (wanted : Bool) (old new : EngineContent) → IsMergedWhere wanted old new → new.version.number ≤ old.version.number + wish wanted
-merged_number true old new merged = let next = merged.1.change.number in omega (arith, next)
-merged_number false old new merged =
-    let same : new.version.number ≡ old.version.number = ap (λ (e : EngineContent). e.version.number) merged in
-    omega (arith, same)
 
 -- of a command that asks a query
 asked_reply : (limits : Limits) (state : State) (ask : Ask) (command : Command) → IsAskedBy ask command
@@ -101,34 +86,12 @@ asked_reply limits state ask (Save name) asks = absurd asks
 asked_reply limits state ask (Load name) asks = absurd asks
 asked_reply limits state ask Wrong asks = absurd asks
 
-asks_no_name : (ask : Ask) (command : Command) → IsAskedBy ask command → (names_asked command ≡ []) × (names_kept command ≡ [])
-asks_no_name ask (Find query) asks = (refl, refl)
-asks_no_name ask (Count query) asks = (refl, refl)
-asks_no_name ask (Top most query) asks = (refl, refl)
-asks_no_name ask Blank asks = absurd asks
-asks_no_name ask (Add name) asks = absurd asks
-asks_no_name ask (Del id) asks = absurd asks
-asks_no_name ask Files asks = absurd asks
-asks_no_name ask Merge asks = absurd asks
-asks_no_name ask Shards asks = absurd asks
-asks_no_name ask (Save name) asks = absurd asks
-asks_no_name ask (Load name) asks = absurd asks
-asks_no_name ask Wrong asks = absurd asks
-
 -- the answer to a line that asks a query is that to the query, and changes nothing
 pub batch_answers : (limits : Limits) (state : State) (ask : Ask) (line : Line) → AsksLine ask line
     → answer limits state line ≡ Some (unchanged state (ask_lines (text_of state.collection) ask))
 batch_answers limits state ask line asks =
     ap (λ (long : Bool). if long then Some (unchanged state (refusal_lines LongLine)) else reply limits state (command_of line.bytes)) asks.short
     ∙ asked_reply limits state ask (command_of line.bytes) asks.asks
-
-line_names : (ask : Ask) (line : Line) → AsksLine ask line → names_of_line line ≡ []
-line_names ask line asks =
-    ap (λ (long : Bool). if long then [] else names_asked (command_of line.bytes)) asks.short ∙ (asks_no_name ask (command_of line.bytes) asks.asks).0
-
-line_names_kept : (ask : Ask) (line : Line) → AsksLine ask line → names_kept_of_line line ≡ []
-line_names_kept ask line asks =
-    ap (λ (long : Bool). if long then [] else names_kept (command_of line.bytes)) asks.short ∙ (asks_no_name ask (command_of line.bytes) asks.asks).1
 
 -- a batch changes nothing
 pub batch_state : (limits : Limits) (state : State) (asks : List Ask) (batch : List Line) → AreAsked asks batch → state_after limits state batch ≡ state
@@ -156,20 +119,6 @@ batch_answered limits state (ask ∷ asks) [] are = absurd are
 batch_answered limits state (ask ∷ asks) (line ∷ batch) are =
     let is = batch_answers limits state ask line are.0 in
     (subst IsSome (sym is) refl, subst (λ (o : Option Reply). AllAnswered limits (after_reply state o) batch) (sym is) (batch_answered limits state asks batch are.1))
-
--- it asks the files for nothing
-pub batch_names : (asks : List Ask) (batch : List Line) → AreAsked asks batch → names_of batch ≡ []
-batch_names [] [] are = refl
-batch_names [] (line ∷ batch) are = absurd are
-batch_names (ask ∷ asks) [] are = absurd are
-batch_names (ask ∷ asks) (line ∷ batch) are = ap (λ names. names ++ names_of batch) (line_names ask line are.0) ∙ batch_names asks batch are.1
-
--- and gives them nothing
-pub batch_names_kept : (asks : List Ask) (batch : List Line) → AreAsked asks batch → names_kept_of batch ≡ []
-batch_names_kept [] [] are = refl
-batch_names_kept [] (line ∷ batch) are = absurd are
-batch_names_kept (ask ∷ asks) [] are = absurd are
-batch_names_kept (ask ∷ asks) (line ∷ batch) are = ap (λ names. names ++ names_kept_of batch) (line_names_kept ask line are.0) ∙ batch_names_kept asks batch are.1
 
 -- it has a query for each line
 pub batch_length : (asks : List Ask) (batch : List Line) → AreAsked asks batch → length batch ≡ length asks

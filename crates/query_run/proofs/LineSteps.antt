@@ -10,10 +10,6 @@ use Rattle.query_run.specs.Progress.{ComesOn, GoesOn, StopsFrom, WhoseLines}
 use Rattle.query_run.specs.declared.limits.Limits.{Limits}
 use Rattle.query_run.proofs.Scripts.{drop_more, more_within, stopped_as}
 
--- no line was completed yet
-pub goes_none : (ahead left : List Line) (n : ℕ) → ahead ≡ left → GoesOn ahead left n n
-goes_none ahead left n is = record { taken = []; whole = is; count = omega arith }
-
 -- some lines more
 pub goes_more : (ahead mid left : List Line) (n k m : ℕ) → GoesOn ahead mid n k → GoesOn mid left k m → GoesOn ahead left n m
 goes_more ahead mid left n k m first then = record {
@@ -21,12 +17,6 @@ goes_more ahead mid left n k m first then = record {
   whole = first.whole ∙ ap (λ l. first.taken ++ l) then.whole ∙ sym (append_assoc first.taken then.taken left);
   count = let a = first.count in let b = then.count in let long = length-append first.taken then.taken in omega (arith, a, b, long);
 }
-
--- all of them
-pub goes_all : (ahead left : List Line) (n m : ℕ) → GoesOn ahead left n m → left ≡ [] → m ≡ n + length ahead
-goes_all ahead left n m goes none =
-    let same : ahead ≡ goes.taken = goes.whole ∙ ap (λ l. goes.taken ++ l) none ∙ append-nil goes.taken in
-    goes.count ∙ ap (λ (l : List Line). n + length l) (sym same)
 
 -- a script that goes on with some lines goes on with those that are left of them, once the others are completed
 pub behind : (ahead left all rest : List Line) (n k : ℕ) → GoesOn ahead left n k → n ≤ length all → drop n all ≡ ahead ++ rest → (k ≤ length all) × (drop k all ≡ left ++ rest)

@@ -29,10 +29,6 @@ members_text list = text_of_lines (map interval_line list)
 texts_on : (xs ys : List Extent) → members_text (xs ++ ys) ≡ members_text xs ++ members_text ys
 texts_on xs ys = ap text_of_lines (map-append interval_line xs ys) ∙ flat_map-append _ (map interval_line xs) (map interval_line ys)
 
--- the text of the first page
-pub first_text : (list page : List Extent) → page ≡ page_from 0 list → members_text page ≡ members_text (take (length page) list)
-first_text list page is = ap members_text (sym (first_page list page is).0)
-
 -- with the text of the next page
 pub more_text : (list page : List Extent) (put : ℕ) → page ≡ page_from put list → members_text (take put list) ++ members_text page ≡ members_text (take (put + length page) list)
 more_text list page put is = sym (ap members_text (next_page list page put is).0 ∙ texts_on (take put list) page)

@@ -12,27 +12,6 @@ piece_front (suc n) zero xs le = absurd (omega (arith, le))
 piece_front (suc n) (suc m) [] le = refl
 piece_front (suc n) (suc m) (x ∷ xs) le = ap (λ l. x ∷ l) (piece_front n m xs (omega (arith, le)))
 
--- what is held back was put
-pub puts_none : (w : Option (List ℕ)) (h : List ℕ) → Puts w w h h []
-puts_none w h = λ old text put. subst (IsPut old w h) (sym (append-nil text)) put
-
--- what was held back is written
-pub handed : (w w' : Option (List ℕ)) (h h' : List ℕ) → h' ≡ [] → Appends w w' h → Puts w w' h h' []
-handed w w' h h' none written = λ old text put. record {
-  part = put.part ++ h;
-  whole = append-nil text ∙ put.whole ∙ sym (append-nil (put.part ++ h)) ∙ ap (λ l. (put.part ++ h) ++ l) (sym none);
-  written = Appends-trans old w w' put.part h put.written written;
-}
-
--- a part of it is written
-pub handed_part : (w w' : Option (List ℕ)) (h : List ℕ) → GetsPart w w' h → PutsPart w w' h []
-handed_part w w' h part = λ old text put. record {
-  part = put.part ++ part.part;
-  rest = part.rest;
-  whole = append-nil text ∙ put.whole ∙ ap (λ l. put.part ++ l) part.whole ∙ sym (append_assoc put.part part.part part.rest);
-  written = Appends-trans old w w' put.part part.part put.written part.written;
-}
-
 -- more is held back
 pub held_more : (w : Option (List ℕ)) (h h' more : List ℕ) → h' ≡ h ++ more → Puts w w h h' more
 held_more w h h' more is = λ old text put. record {

@@ -62,12 +62,6 @@ files_said files total old mid new is_mid is_new = record {
   refusal_is = sym (last_plain (record_lines files) total (records_plain files));
 }
 
--- the files of a version are those of the collection that it stands for
-pub files_listed : (v : VersionContent) (c : Collection) → StandsFor v c → record_lines (files_of v.slots) ++ total_line (length (files_of v.slots)) ∷ [] ≡ files_lines c
-files_listed v c stands =
-    let number : length (map entry_of c.files) ≡ length c.files = length-map c.files entry_of in
-    ap (λ (files : List FileEntry). record_lines files ++ total_line (length files) ∷ []) stands.files ∙ ap (λ (n : ℕ). record_lines (map entry_of c.files) ++ total_line n ∷ []) number
-
 -- a reply that there is
 pub gives : (told : Option Reply) (reply : Reply) (engine : EngineContent) (wanted : Bool) (old new : List ℕ) (refusal : Bool) → told ≡ Some reply → Follows reply engine wanted old new refusal →
     Gives told engine wanted old new refusal
@@ -128,11 +122,6 @@ said_by_add old new state name content added out out' keeps is text =
       refusal_is = refl;
     })
 
--- an accepted add that was not answered: the line is completed
-pub stops_after_add : (old new : EngineContent) (state : State) (name content : List ℕ) (added : Added) (n m : ℕ) → Keeps old false state → IsAdd old new name (tokens_of content) added →
-    m ≡ n + 1 → StopsWithin state (Some (content_reply state name content)) n m new
-stops_after_add old new state name content added n m keeps is more = inr (more, (kept_by_add old new state name content added keeps is).stands)
-
 -- a file that is begun by one byte more than it may have is refused
 pub too_long : (limits : Limits) (state : State) (name text rest : List ℕ) → length text ≡ limits.file + 1 → state.files name ≡ Some (text ++ rest) →
     reply limits state (Add name) ≡ Some (unchanged state (refusal_lines TooLong))
@@ -141,26 +130,9 @@ too_long limits state name text rest len begins =
     let over : nat_lt limits.file (length (text ++ rest)) ≡ true = grind (arith, nat_tests, size, len) in
     rw begins (rw over refl)
 
--- and one that is no longer than it may be is replied to by its content
-pub not_long : (limits : Limits) (state : State) (name content : List ℕ) → length content ≤ limits.file → state.files name ≡ Some content →
-    reply limits state (Add name) ≡ Some (content_reply state name content)
-not_long limits state name content short is =
-    let few : nat_lt limits.file (length content) ≡ false = grind (arith, nat_tests) in
-    rw is (rw few refl)
-
 -- a surviving file is deleted
 pub deletes : (state : State) (id : ℕ) → has_file state.collection id ≡ true → del_reply state id ≡ record { lines = gone_line id ∷ []; after = state_without_file state id }
 deletes state id has = rw has refl
-
-pub kept_by_delete : (old new : EngineContent) (state : State) (id : ℕ) → Keeps old false state → ((c : Collection) → StandsFor old.version c → (has_file c id ≡ true) × StandsFor new.version (without_file c id)) →
-    ranges_of new.version.slots ≡ ranges_of old.version.slots → Keeps new false (del_reply state id).after
-kept_by_delete old new state id keeps step ranges =
-    let made = step state.collection keeps.stands in
-    subst (λ (r : Reply). Keeps new false r.after) (sym (deletes state id made.0)) (record { stands = made.1; slots = keeps.slots ∙ sym ranges })
-
-pub said_by_delete : (old : EngineContent) (state : State) (id : ℕ) (out out' : List ℕ) → has_file state.collection id ≡ true → out' ≡ out ++ gone_line id ++ 10 ∷ [] → Says (del_reply state id).lines out out' false
-said_by_delete old state id out out' has text =
-    subst (λ (r : Reply). Says r.lines out out' false) (sym (deletes state id has)) (record { text = one_line (gone_line id) out out' text; refusal_is = refl })
 
 -- no surviving file has the id
 pub not_there : (v : VersionContent) (state : State) (id : ℕ) → StandsFor v state.collection → file_with_id id (files_of v.slots) ≡ None → del_reply state id ≡ unchanged state (refusal_lines (NoFile id))
@@ -170,64 +142,8 @@ not_there v state id stands none = by_case (has_file state.collection id) refl
     by_case false is = rw is refl
     by_case true is = let some = (has_files v state.collection id stands).1 is in absurd (cc (rw none at some))
 
--- after a merge the engine keeps the same state, and nothing is wanted
-pub kept_by_merge : (old new : EngineContent) (state : State) → Keeps old true state → ((c : Collection) → StandsFor old.version c → StandsFor new.version c) →
-    ((c : Collection) → StandsFor old.version c → ranges_of new.version.slots ≡ slots_after_merge (ranges_of old.version.slots) c.files) → Keeps new false state
-kept_by_merge old new state keeps stands ranges = record {
-  stands = stands state.collection keeps.stands;
-  slots = keeps.slots ∙ sym (ranges state.collection keeps.stands);
-}
-
--- a merge that is wanted makes the state the merged one
-pub kept_by_wish : (engine : EngineContent) (state : State) → Keeps engine false state → Keeps engine true (state_merged state)
-kept_by_wish engine state keeps = record {
-  stands = keeps.stands;
-  slots = ap (λ (w : List SlotRange). slots_after_merge w state.collection.files) keeps.slots;
-}
-
--- the number of slots is that of the state
-pub slots_counted : (engine : EngineContent) (state : State) → Keeps engine false state → length engine.version.slots ≡ length state.slots
-slots_counted engine state keeps = sym (ap length keeps.slots ∙ length-map engine.version.slots (λ (slot : SlotContent). slot.range))
-
 -- a refusal, which changes nothing
 pub refused_follows : (reply : Reply) (state : State) (lines : List (List ℕ)) (before after : EngineContent) (old new : List ℕ) (refusal : Bool) → reply ≡ unchanged state lines →
     Keeps before false state → after ≡ before → Says lines old new refusal → Follows reply after false old new refusal
 refused_follows reply state lines before after old new refusal is keeps same says =
     subst (λ (r : Reply). Follows r after false old new refusal) (sym is) (record { keeps = subst (λ (e : EngineContent). Keeps e false state) (sym same) keeps; says = says })
-
--- lines that change nothing, where no merge is wanted
-pub tells_now : (told : Option Reply) (state : State) (lines : List (List ℕ)) (engine : EngineContent) (wanted : Bool) (old new : List ℕ) (refusal : Bool) → wanted ≡ false →
-    told ≡ Some (unchanged state lines) → Keeps engine false state → Says lines old new refusal → Gives told engine wanted old new refusal
-tells_now told state lines engine wanted old new refusal none is keeps says =
-    tells told state lines engine wanted old new refusal is (subst (λ (w : Bool). Keeps engine w state) (sym none) keeps) says
-
--- the list of the files
-pub tells_files : (told : Option Reply) (state : State) (engine : EngineContent) (version : VersionContent) (wanted : Bool) (old new : List ℕ) (refusal : Bool) → wanted ≡ false → version ≡ engine.version →
-    told ≡ Some (unchanged state (files_lines state.collection)) → Keeps engine false state →
-    Says (record_lines (files_of version.slots) ++ total_line (length (files_of version.slots)) ∷ []) old new refusal → Gives told engine wanted old new refusal
-tells_files told state engine version wanted old new refusal none same is keeps says =
-    let stands : StandsFor version state.collection = subst (λ (v : VersionContent). StandsFor v state.collection) (sym same) keeps.stands in
-    tells_now told state (files_lines state.collection) engine wanted old new refusal none is keeps
-    (subst (λ (lines : List (List ℕ)). Says lines old new refusal) (files_listed version state.collection stands) says)
-
--- the number of slots
-pub tells_slots : (told : Option Reply) (state : State) (engine : EngineContent) (version : VersionContent) (wanted : Bool) (old new : List ℕ) (refusal : Bool) → wanted ≡ false → version ≡ engine.version →
-    told ≡ Some (unchanged state (shards_line (length state.slots) ∷ [])) → Keeps engine false state → Says (shards_line (length version.slots) ∷ []) old new refusal → Gives told engine wanted old new refusal
-tells_slots told state engine version wanted old new refusal none same is keeps says =
-    let number : length version.slots ≡ length state.slots = ap (λ (v : VersionContent). length v.slots) same ∙ slots_counted engine state keeps in
-    tells_now told state (shards_line (length state.slots) ∷ []) engine wanted old new refusal none is keeps
-    (subst (λ (n : ℕ). Says (shards_line n ∷ []) old new refusal) number says)
-
--- a merge is wanted from now on
-pub tells_merge : (told : Option Reply) (state : State) (engine : EngineContent) (wanted : Bool) (old new : List ℕ) (refusal : Bool) → wanted ≡ true →
-    told ≡ Some record { lines = merging_line ∷ []; after = state_merged state } → Keeps engine false state → Says (merging_line ∷ []) old new refusal → Gives told engine wanted old new refusal
-tells_merge told state engine wanted old new refusal some is keeps says = record {
-  reply = record { lines = merging_line ∷ []; after = state_merged state };
-  is = is;
-  follows = record { keeps = subst (λ (w : Bool). Keeps engine w (state_merged state)) (sym some) (kept_by_wish engine state keeps); says = says };
-}
-
--- what was given of one reply is given of another that is the same
-pub gives_as : (told now : Option Reply) (engine : EngineContent) (w w' : Bool) (old new : List ℕ) (refusal : Bool) → now ≡ told → w' ≡ w → Gives told engine w old new refusal → Gives now engine w' old new refusal
-gives_as told now engine w w' old new refusal is same given =
-    subst (λ (o : Option Reply). Gives o engine w' old new refusal) (sym is) (subst (λ (v : Bool). Gives told engine v old new refusal) (sym same) given)

@@ -5,7 +5,6 @@ use Rattle.std.proofs.lemmas.Bool.{cases_Bool}
 use Rattle.std.proofs.lemmas.Bool.Decides.{nat_tests}
 use Rattle.std.proofs.lemmas.List.{length-append, length-map}
 use Rattle.std.proofs.lemmas.Slice.Eq.{bytes_eq-Decides}
-use Rattle.std.specs.Prelude.{Result, Ok, Err, OnErr}
 use Rattle.outside.specs.Contents.{Contents, BeginsContent, ChangesOnly, changed_at}
 use Rattle.gcl_model.specs.Limits.{most_file}
 use Rattle.gcl_model.specs.Tokens.{tokens_of}
@@ -31,12 +30,6 @@ use Rattle.query_run.specs.declared.limits.Limits.{Limits}
 use Rattle.query_run.proofs.ImageLemmas.{reads, spelled_short, tokens_short}
 use Rattle.query_run.proofs.Replies.{one_line, gives, tells, refused_follows}
 
--- bytes that are too many are refused, and others are kept
-too_many : (limits : Limits) (state : State) (name bytes : List ℕ) → limits.image < length bytes → bytes_reply limits state name bytes ≡ unchanged state (refusal_lines TooLong)
-too_many limits state name bytes over =
-    let much : nat_lt limits.image (length bytes) ≡ true = grind (arith, nat_tests) in
-    rw much refl
-
 not_many : (limits : Limits) (state : State) (name bytes : List ℕ) → length bytes ≤ limits.image →
     bytes_reply limits state name bytes ≡ record { lines = saved_line (length bytes) ∷ []; after = state_keeping state name bytes }
 not_many limits state name bytes fits =
@@ -50,12 +43,6 @@ IsImage v bytes = (c : Collection) → StandsFor v c → bytes ≡ image_of c
 saved_reply : (limits : Limits) (state : State) (name bytes : List ℕ) (v : VersionContent) → IsImage v bytes → StandsFor v state.collection → reply limits state (Save name) ≡ Some (bytes_reply limits state name bytes)
 saved_reply limits state name bytes v image stands = ap (λ (b : List ℕ). Some (bytes_reply limits state name b)) (sym (image state.collection stands))
 
-pub saving_refused : (limits : Limits) (state : State) (name bytes : List ℕ) (engine : EngineContent) (held : Option Contents) (out out' : List ℕ) (refusal : Bool) → IsImage engine.version bytes →
-    limits.image < length bytes → IsAt held engine false state → Says (refusal_lines TooLong) out out' refusal → Gives (reply limits state (Save name)) engine false out out' refusal
-saving_refused limits state name bytes engine held out out' refusal image over at said =
-    tells (reply limits state (Save name)) state (refusal_lines TooLong) engine false out out' refusal
-    (saved_reply limits state name bytes engine.version image at.keeps.stands ∙ ap Some (too_many limits state name bytes over)) at.keeps said
-
 pub saving_given : (limits : Limits) (state : State) (name bytes : List ℕ) (engine : EngineContent) (held : Option Contents) (out out' : List ℕ) → IsImage engine.version bytes →
     length bytes ≤ limits.image → IsAt held engine false state → out' ≡ out ++ saved_line (length bytes) ++ 10 ∷ [] → Gives (reply limits state (Save name)) engine false out out' false
 saving_given limits state name bytes engine held out out' image fits at text = record {
@@ -65,35 +52,6 @@ saving_given limits state name bytes engine held out out' image fits at text = r
     keeps = record { stands = at.keeps.stands; slots = at.keeps.slots };
     says = record { text = one_line (saved_line (length bytes)) out out' text; refusal_is = refl };
   };
-}
-
--- what was saved and not answered: the line is completed
-pub saving_stopped : (limits : Limits) (state : State) (name bytes : List ℕ) (engine : EngineContent) (held : Option Contents) (n m : ℕ) → IsImage engine.version bytes →
-    length bytes ≤ limits.image → IsAt held engine false state → m ≡ n + 1 → StopsWithin state (reply limits state (Save name)) n m engine
-saving_stopped limits state name bytes engine held n m image fits at more =
-    let is = saved_reply limits state name bytes engine.version image at.keeps.stands ∙ ap Some (not_many limits state name bytes fits) in
-    inr (more, subst (λ (o : Option Reply). StandsFor engine.version (after_reply state o).collection) (sym is) at.keeps.stands)
-
--- what the files hold then
-pub saved_held : (limits : Limits) (state : State) (name bytes : List ℕ) (engine : EngineContent) (before now : Option Contents) → IsImage engine.version bytes →
-    length bytes ≤ limits.image → IsAt before engine false state → now ≡ option_map (changed_at name (Some bytes)) before → now ≡ Some (after_reply state (reply limits state (Save name))).files
-saved_held limits state name bytes engine before now image fits at kept =
-    let is = saved_reply limits state name bytes engine.version image at.keeps.stands ∙ ap Some (not_many limits state name bytes fits) in
-    kept ∙ ap (option_map (changed_at name (Some bytes))) at.files ∙ sym (ap (λ (o : Option Reply). Some (after_reply state o).files) is)
-
-pub refused_held : (limits : Limits) (state : State) (name bytes : List ℕ) (engine : EngineContent) (before now : Option Contents) → IsImage engine.version bytes →
-    limits.image < length bytes → IsAt before engine false state → now ≡ before → now ≡ Some (after_reply state (reply limits state (Save name))).files
-refused_held limits state name bytes engine before now image over at same =
-    let is = saved_reply limits state name bytes engine.version image at.keeps.stands ∙ ap Some (too_many limits state name bytes over) in
-    same ∙ at.files ∙ sym (ap (λ (o : Option Reply). Some (after_reply state o).files) is)
-
--- files that did not change hold what they held
-pub held_before : (state : State) (told : Option Reply) (names : List (List ℕ)) (n m : ℕ) (kept : Type 0) (engine : EngineContent) (wanted : Bool) (before now : Option Contents) → IsAt before engine wanted state → now ≡ before → m ≡ n →
-    HoldsWithin state told names n m kept now
-held_before state told names n m kept engine wanted before now at same stays = record {
-  early = λ is. record { contents = state.files; is = same ∙ at.files; same = λ name. inl refl };
-  exact = λ all_kept is. same ∙ at.files;
-  late = λ is. absurd (omega (arith, is, stays));
 }
 
 -- and after a keep that failed, all names but one
@@ -112,81 +70,17 @@ held_but_one state told name n m failed failed' engine wanted before now at chan
   late = λ is. absurd (omega (arith, is, stays));
 }
 
--- a line that is completed leaves what it says
-pub held_late : (state : State) (told : Option Reply) (names : List (List ℕ)) (n m : ℕ) (kept : Type 0) (now : Option Contents) → now ≡ Some (after_reply state told).files → m ≡ n + 1 → HoldsWithin state told names n m kept now
-held_late state told names n m kept now is more = record { early = λ stays. absurd (omega (arith, stays, more)); exact = λ all_kept stays. absurd (omega (arith, stays, more)); late = λ late. is }
-
 -- once a file was added nothing is opened
 has_files : (limits : Limits) (state : State) (name : List ℕ) → 0 < state.collection.next_id → reply limits state (Load name) ≡ Some (unchanged state (refusal_lines NotEmpty))
 has_files limits state name some =
     let much : nat_lt 0 state.collection.next_id ≡ true = grind (arith, nat_tests) in
     rw much refl
 
-has_none : (limits : Limits) (state : State) (name : List ℕ) → state.collection.next_id ≡ 0 → reply limits state (Load name) ≡ option_map (image_reply limits state) (state.files name)
-has_none limits state name none =
-    let few : nat_lt 0 state.collection.next_id ≡ false = grind (arith, nat_tests) in
-    rw few refl
-
-pub opening_refused : (limits : Limits) (state : State) (name : List ℕ) (engine : EngineContent) (held : Option Contents) (out out' : List ℕ) (refusal : Bool) → 0 < engine.version.next_id →
-    IsAt held engine false state → Says (refusal_lines NotEmpty) out out' refusal → Gives (reply limits state (Load name)) engine false out out' refusal
-opening_refused limits state name engine held out out' refusal some at said =
-    let ids : engine.version.next_id ≡ state.collection.next_id = at.keeps.stands.next_id in
-    tells (reply limits state (Load name)) state (refusal_lines NotEmpty) engine false out out' refusal (has_files limits state name (omega (arith, some, ids))) at.keeps said
-
-pub opening_long : (limits : Limits) (state : State) (name text : List ℕ) (engine : EngineContent) (held : Option Contents) (out out' : List ℕ) (refusal : Bool) → engine.version.next_id ≡ 0 →
-    length text ≡ limits.image + 1 → IfSome held (λ contents. BeginsContent contents name text) → IsAt held engine false state → Says (refusal_lines TooLong) out out' refusal →
-    Gives (reply limits state (Load name)) engine false out out' refusal
-opening_long limits state name text engine held out out' refusal none len begins at said =
-    let begin = IfSome-at (λ contents. BeginsContent contents name text) held state.files at.files begins in
-    let size : length (text ++ begin.rest) ≡ length text + length begin.rest = length-append text begin.rest in
-    let over : nat_lt limits.image (length (text ++ begin.rest)) ≡ true = grind (arith, nat_tests, size, len) in
-    let refuses : image_reply limits state (text ++ begin.rest) ≡ unchanged state (refusal_lines TooLong) = rw over refl in
-    tells (reply limits state (Load name)) state (refusal_lines TooLong) engine false out out' refusal
-    (has_none limits state name (sym at.keeps.stands.next_id ∙ none) ∙ ap (option_map (image_reply limits state)) begin.is ∙ ap Some refuses) at.keeps said
-
-opening_reply : (limits : Limits) (state : State) (name content : List ℕ) (engine : EngineContent) (held : Option Contents) → engine.version.next_id ≡ 0 → length content ≤ limits.image →
-    IfSome held (λ contents. contents name ≡ Some content) → IsAt held engine false state → reply limits state (Load name) ≡ Some (reading_reply state (state.images content))
-opening_reply limits state name content engine held none fits is at =
-    let found = IfSome-at (λ contents. contents name ≡ Some content) held state.files at.files is in
-    let few : nat_lt limits.image (length content) ≡ false = grind (arith, nat_tests) in
-    let opens : image_reply limits state content ≡ reading_reply state (state.images content) = rw few refl in
-    has_none limits state name (sym at.keeps.stands.next_id ∙ none) ∙ ap (option_map (image_reply limits state)) found ∙ ap Some opens
-
-reading_at : (state : State) (name content : List ℕ) (held : Option Contents) → held ≡ Some state.files → IfSome held (λ contents. contents name ≡ Some content) → IsReadBy state (Load name) → IsReading content (state.images content)
-reading_at state name content held files is read =
-    let found = IfSome-at (λ contents. contents name ≡ Some content) held state.files files is in
-    let Read : Option (List ℕ) → Type 0 = λ o. IfSome o (λ (bytes : List ℕ). IsReading bytes (state.images bytes)) in
-    subst Read found read
-
-pub opening_given : (limits : Limits) (state : State) (name content : List ℕ) (engine after : EngineContent) (held : Option Contents) (out out' : List ℕ) (refusal : Bool) → engine.version.next_id ≡ 0 →
-    length content ≤ limits.image → IfSome held (λ contents. contents name ≡ Some content) → IsAt held engine false state → IsReadBy state (Load name) →
-    (Keeps engine false state → IsReading content (state.images content) → Follows (reading_reply state (state.images content)) after false out out' refusal) → Gives (reply limits state (Load name)) after false out out' refusal
-opening_given limits state name content engine after held out out' refusal none fits is at read follows =
-    gives (reply limits state (Load name)) (reading_reply state (state.images content)) after false out out' refusal (opening_reply limits state name content engine held none fits is at)
-    (follows at.keeps (reading_at state name content held at.files is read))
-
-pub opening_stopped : (limits : Limits) (state : State) (name content : List ℕ) (engine after : EngineContent) (held : Option Contents) (n m : ℕ) → engine.version.next_id ≡ 0 →
-    length content ≤ limits.image → IfSome held (λ contents. contents name ≡ Some content) → IsAt held engine false state → IsReadBy state (Load name) →
-    (Keeps engine false state → IsReading content (state.images content) → StopsWithin state (Some (reading_reply state (state.images content))) n m after) → StopsWithin state (reply limits state (Load name)) n m after
-opening_stopped limits state name content engine after held n m none fits is at read stops =
-    let told = opening_reply limits state name content engine held none fits is at in
-    subst (λ (o : Option Reply). StopsWithin state o n m after) (sym told) (stops at.keeps (reading_at state name content held at.files is read))
-
 -- what is no image is refused
 pub reading_refused : (state : State) (bytes : List ℕ) (engine : EngineContent) (out out' : List ℕ) (refusal : Bool) → ((o : Option Collection) → IsReading bytes o → o ≡ None) → Keeps engine false state →
     IsReading bytes (state.images bytes) → Says (refusal_lines NotImage) out out' refusal → Follows (reading_reply state (state.images bytes)) engine false out out' refusal
 reading_refused state bytes engine out out' refusal none keeps reading said =
     refused_follows (reading_reply state (state.images bytes)) state (refusal_lines NotImage) engine engine out out' refusal (ap (reading_reply state) (none (state.images bytes) reading)) keeps refl said
-
--- an opened version is one that an engine adopts
-pub opened_fits : (bytes : List ℕ) (v : VersionContent) → IsImageOf bytes v → IsOpened v
-opened_fits bytes v image = record {
-  fresh = image.3.dels;
-  collection = image.1;
-  sound = image.2.said.sound;
-  stands = image.3.stands;
-  ranges = image.3.ranges;
-}
 
 -- the collection that it was read as
 read_as : (state : State) (bytes : List ℕ) (v : VersionContent) → (image : IsImageOf bytes v) → IsReading bytes (state.images bytes) → reading_reply state (state.images bytes) ≡ reading_reply state (Some image.1)
@@ -223,11 +117,6 @@ pub holds_as : (state : State) (told now : Option Reply) (names names' : List (L
 holds_as state told now names names' n m kept held is same holds =
     subst (λ (o : Option Reply). HoldsWithin state o names' n m kept held) (sym is) (subst (λ (l : List (List ℕ)). HoldsWithin state told l n m kept held) (sym same) holds)
 
--- what holds anyhow holds of an error
-pub on_err : {T E : Type 0} (P : Type 0) (result : Result T E) → P → OnErr result P
-on_err P (Ok value) p = tt
-on_err P (Err fault) p = p
-
 -- what can be saved stays so
 
 pub opened_savable : (bytes : List ℕ) (old opened new : VersionContent) → IsImageOf bytes opened → Adopts old opened new → CanBeSaved new
@@ -249,9 +138,6 @@ added_savable old new name content can adds few =
 
 pub deleted_savable : (old new : VersionContent) (id : ℕ) → CanBeSaved old → DeletesFileFrom old new id → CanBeSaved new
 deleted_savable old new id can deletes = deleted_saves old new id can (λ c stands. (deletes.stands c stands).1)
-
-pub merged_savable : (old new : VersionContent) → ((c : Collection) → StandsFor old c → StandsFor new c) → CanBeSaved old → CanBeSaved new
-merged_savable old new keeps can = (can.0, record { stands = keeps can.0 can.1.stands; sound = can.1.sound; short = can.1.short })
 
 -- so can an engine that was just opened
 pub fresh_savable : (engine : EngineContent) (lines : ℕ) → IsFresh engine lines → IsEngine engine → CanBeSaved engine.version

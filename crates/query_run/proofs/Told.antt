@@ -32,19 +32,6 @@ told_as limits first None held P Q h p = tt
 told_as limits first (Some script) None P Q h p = tt
 told_as limits first (Some script) (Some contents) P Q h p = λ images read. h (opening first contents images) script (p images read)
 
--- what holds where the contents are known holds of the script that was read to its end
-pub told_read : (limits : Limits) (first : ℕ) (left after : Option (List ℕ)) (held : Option Contents) (bytes : List ℕ) (P : State → List ℕ → Type 0) →
-    Consumes left after bytes → IsAtEnd after →
-    ((contents : Contents) (images : Images) → held ≡ Some contents → AreRead limits (opening first contents images) (lines limits.line bytes) → P (opening first contents images) bytes) →
-    WhereTold limits (Some first) left held P
-told_read limits first None after held bytes P from end p = tt
-told_read limits first (Some script) after None bytes P from end p = tt
-told_read limits first (Some script) after (Some contents) bytes P from end p =
-    let same : bytes ≡ script = all_read (Some script) after script bytes from end refl in
-    λ images read.
-    let here : AreRead limits (opening first contents images) (lines limits.line bytes) = subst (λ (l : List ℕ). AreRead limits (opening first contents images) (lines limits.line l)) (sym same) read in
-    subst (λ (l : List ℕ). P (opening first contents images) l) same (p contents images refl here)
-
 -- no line is completed, nothing was written, and the files are as they were
 pub stopped_before : (limits : Limits) (engine : EngineContent) (completed : ℕ) (kept : Type 0) (left : Option (List ℕ)) (held : Option Contents) (sink : Option (List ℕ)) → IsFresh engine completed →
     WhereTold limits (Some engine.version.first) left held (λ start script. IsStopped limits start (lines limits.line script) completed engine.version kept held sink sink)
@@ -95,11 +82,6 @@ some_stopped limits first kept left held held' old new completed version = told_
 pub part_stopped : (limits : Limits) (start : State) (script : List ℕ) (completed : ℕ) (version : VersionContent) (kept : Type 0) (held : Option Contents) (old new : Option (List ℕ)) →
     IsStopped limits start (lines limits.line script) completed version kept held old new → GetsPart old new (output_by limits start script)
 part_stopped limits start script completed version kept held old new stop = part_of_all limits start (lines limits.line script) (completed + 1) old new stop.part
-
--- what was answered was read to its end
-pub answered_read : (limits : Limits) (start : State) (script : List ℕ) (refusal : Bool) (after : Option (List ℕ)) (held : Option Contents) (old new : Option (List ℕ)) → length script ≤ limits.script → IsAtEnd after →
-    HasAnswered limits start script refusal held old new → IsAnsweredBy limits start script refusal after held old new
-answered_read limits start script refusal after held old new short end all = record { short = short; read = end; answered = all }
 
 -- by the address that the words give, and by limits that are the same
 pub by_words : (o : Option ℕ) (limits limits' : Limits) (first : ℕ) (left : Option (List ℕ)) (held : Option Contents) (P : Limits → State → List ℕ → Type 0) → Some first ≡ o → limits ≡ limits' →

@@ -1,10 +1,9 @@
 //! Queries that were put off are answered, and those behind them.
 ghost use Rattle.std.specs.Prelude.{◌≡◌, ◌+◌, ◌-◌, ◌≤◌, ◌<◌, ◌++◌, [], ℕ, false, map, take, IfOk, IfSome, OnOk, length};
 ghost use Rattle.std.specs.Io.KnownBytes.{Appends};
-ghost use Rattle.gcl_model.specs.Limits.{far, most_readers, most_script};
+ghost use Rattle.gcl_model.specs.Limits.{far, merge_end, most_readers, most_script};
 ghost use Rattle.image_file.specs.Images.{CanBeSaved};
 ghost use Rattle.live_version.specs.Contents.{version_text};
-ghost use Rattle.collection.specs.Engines.{merge_end};
 ghost use Rattle.script_lang.specs.Lines.{line_of_cut, IsCut};
 ghost use Rattle.query_lanes.specs.Answers.{answer_in};
 ghost use Rattle.query_lanes.specs.Readers.{AreOf};

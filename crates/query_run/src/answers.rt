@@ -1,7 +1,6 @@
 ghost use Rattle.std.specs.Prelude.{◌≡◌, ◌+◌, ◌≤◌, ◌<◌, true, false, [], ◌∷◌, IfOk, OnOk, OnErr};
-ghost use Rattle.gcl_model.specs.Limits.{far};
+ghost use Rattle.gcl_model.specs.Limits.{far, merge_end};
 ghost use Rattle.image_file.specs.Images.{CanBeSaved};
-ghost use Rattle.collection.specs.Engines.{merge_end};
 ghost use Rattle.outside.specs.Causes.{HasFileCause};
 ghost use Rattle.script_lang.specs.Answers.{merging_line};
 ghost use Rattle.script_lang.specs.Commands.{IsNamed};

@@ -1,6 +1,6 @@
 ghost use Rattle.std.specs.Prelude.{◌≡◌, ◌+◌, ◌≤◌, ◌<◌, false, OnOk, OnErr};
+ghost use Rattle.gcl_model.specs.Limits.{merge_end};
 ghost use Rattle.image_file.specs.Images.{CanBeSaved};
-ghost use Rattle.collection.specs.Engines.{merge_end};
 ghost use Rattle.query_run.specs.States.{State, Keeps};
 ghost use Rattle.query_run.specs.Progress.{wish};
 

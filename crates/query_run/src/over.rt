@@ -1,7 +1,6 @@
 //! Lines that are done while the queries before them are put off.
 ghost use Rattle.std.specs.Prelude.{◌≡◌, ◌+◌, ◌-◌, ◌≤◌, ◌<◌, [], false, ℕ, length, IfOk, IfSome, IsTrue, OnOk, OnErr};
-ghost use Rattle.gcl_model.specs.Limits.{far, most_script};
-ghost use Rattle.collection.specs.Engines.{merge_end};
+ghost use Rattle.gcl_model.specs.Limits.{far, merge_end, most_script};
 ghost use Rattle.image_file.specs.Images.{CanBeSaved};
 ghost use Rattle.script_lang.specs.Commands.{command_of};
 ghost use Rattle.script_lang.specs.Lines.{line_of_cut, IsCut};

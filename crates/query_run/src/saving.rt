@@ -1,11 +1,10 @@
 ghost use Rattle.std.specs.Prelude.{◌≡◌, ◌+◌, ◌≤◌, ◌<◌, false, Some, IfOk, OnOk, OnErr};
 ghost use Rattle.gcl_model.specs.Collections.{Collection};
-ghost use Rattle.gcl_model.specs.Limits.{far};
+ghost use Rattle.gcl_model.specs.Limits.{far, merge_end};
 ghost use Rattle.outside.specs.Causes.{HasFileCause};
 ghost use Rattle.live_version.specs.StandsFor.{StandsFor};
 ghost use Rattle.image_file.specs.Images.{CanBeSaved};
 ghost use Rattle.image_read.specs.Answers.{IsImageOf};
-ghost use Rattle.collection.specs.Engines.{merge_end};
 ghost use Rattle.script_lang.specs.declared.commands.Command.TheVariants.{Save, Load};
 ghost use Rattle.query_run.specs.Images.{IsReading, image_of};
 ghost use Rattle.query_run.specs.States.{State, Keeps};

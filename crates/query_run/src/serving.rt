@@ -1,7 +1,6 @@
 ghost use Rattle.std.specs.Prelude.{◌≡◌, ◌+◌, ◌-◌, ◌≤◌, ◌<◌, [], false, IfOk, OnOk, IsErrOf, length};
-ghost use Rattle.gcl_model.specs.Limits.{far, most_readers, most_script};
+ghost use Rattle.gcl_model.specs.Limits.{far, merge_end, most_readers, most_script};
 ghost use Rattle.image_file.specs.Images.{CanBeSaved};
-ghost use Rattle.collection.specs.Engines.{merge_end};
 ghost use Rattle.script_lang.specs.Lines.{lines, IsCut};
 ghost use Rattle.query_lanes.specs.Readers.{AreOf};
 ghost use Rattle.query_run.specs.States.{State, AreLimits};

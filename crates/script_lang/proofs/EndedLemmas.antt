@@ -1,17 +1,16 @@
 -- The whole lines at the front of a text: its bytes up to the last newline.
-use Rattle.std.proofs.Common.{◌≡◌, ℕ, suc, ◌+◌, ◌-◌, ◌<◌, ◌≤◌, Bool, true, false, not, ◌||◌, List, [], ◌∷◌, ◌++◌, length, take, drop, get_or, get_or-drop, refl, sym, ap, ◌∙◌, arith, cond, length-append, length-drop, append_assoc}
+use Rattle.std.proofs.Common.{◌≡◌, ℕ, ◌+◌, ◌-◌, ◌<◌, ◌≤◌, Bool, true, false, not, ◌||◌, List, [], ◌∷◌, ◌++◌, length, take, drop, get_or, get_or-drop, refl, sym, ap, ◌∙◌, arith, cond, length-append, length-drop, append_assoc}
 use Rattle.std.specs.Prelude.{◌==◌}
-use Rattle.std.specs.List.{onto_first}
-use Rattle.std.proofs.lemmas.List.{append-nil, append_cancel_left, length-map, take-append-le, take-append-drop, take_all, drop-drop}
+use Rattle.std.proofs.lemmas.List.{append-nil, append_cancel_left, take-append-le, take-append-drop, take_all, drop-drop}
 use Rattle.std.proofs.lemmas.List.Folds.{list_any-append}
 use Rattle.std.proofs.lemmas.List.Sums.{prefix_len-le-length}
 use Rattle.std.proofs.Math.Seq.{take-length}
 use Rattle.std.proofs.Math.ListN.{drop_of_length-le}
-use Rattle.script_lang.specs.Lines.{Line, line_of, lines, line_end, cut_at_newlines, before_any, ended}
+use Rattle.script_lang.specs.Lines.{Line, line_of, lines, line_end, before_any, ended}
 use Rattle.memchr.specs.Find.{NoneAfter, Nowhere, Passes, is_byte}
 use Rattle.script_lang.specs.Feeds.{has_newline}
 use Rattle.script_lang.proofs.LineLemmas.{lines-first}
-use Rattle.script_lang.proofs.FeedLemmas.{first_newline, newline-none, newline-behind, lines-last, lines-split, piece-parts, has_newline-nowhere, has_newline-behind, is_newline, take-none}
+use Rattle.script_lang.proofs.FeedLemmas.{first_newline, newline-none, newline-behind, lines-split, piece-parts, has_newline-nowhere, has_newline-behind, is_newline, take-none}
 
 -- The last newline.
 
@@ -165,24 +164,6 @@ done_is_ended most read held done taken none =
     fronts-same done (lines most (ended read)) (line_of most held) (line_of most parts.behind) (sym as_taken ∙ as_ended)
 
 -- How many lines there are.
-
-step_few : (t : Bool) (b n : ℕ) (parts : List (List ℕ)) → length parts ≤ n → length (cond t ([] ∷ parts) (onto_first b parts)) ≤ suc n
-step_few true b n parts few = omega arith
-step_few false b n [] few = omega arith
-step_few false b n (part ∷ parts) few = omega arith
-
-cut_few : (bytes : List ℕ) → length (cut_at_newlines bytes) ≤ length bytes
-cut_few [] = omega arith
-cut_few (b ∷ bytes) = step_few (b == 10) b (length bytes) (cut_at_newlines bytes) (cut_few bytes)
-
--- each line takes a byte at least
-pub lines_few : (most : ℕ) (bytes : List ℕ) → length (lines most bytes) ≤ length bytes
-lines_few most bytes = omega (arith, cut_few bytes, length-map (cut_at_newlines bytes) (line_of most))
-
--- bytes without a newline are one line at most
-pub one_line_left : (most : ℕ) (held : List ℕ) → has_newline held ≡ false → length (lines most held) ≤ 1
-one_line_left most [] none = omega arith
-one_line_left most (b ∷ held) none = omega (arith, ap length (lines-last most (b ∷ held) none (omega arith)))
 
 -- A feed.
 

@@ -1,6 +1,6 @@
 -- Digits of a number.
-use Rattle.std.proofs.Common.{◌≡◌, ℕ, ◌+◌, ◌*◌, ◌^◌, ◌<◌, ◌≤◌, arith, add-one}
-use Rattle.std.proofs.Math.Nat.{pow-le-pow_right, pow-suc}
+use Rattle.std.proofs.Common.{ℕ, ◌^◌, ◌<◌, ◌≤◌, arith}
+use Rattle.std.proofs.Math.Nat.{pow-le-pow_right}
 
 -- the number of 17 digits at most
 pub number_before : (number i : ℕ) → number < 10 ^ i → i < 18 → number < 10 ^ 17
@@ -8,8 +8,3 @@ number_before number i small few =
     let base : 0 < 10 = omega arith in
     let short : i ≤ 17 = omega arith in
     let most : 10 ^ i ≤ 10 ^ 17 = pow-le-pow_right {n = 10} base short in omega arith
-
--- a digit more
-pub number_after : (number i digit : ℕ) → number < 10 ^ i → digit < 10 → number * 10 + digit < 10 ^ (i + 1)
-number_after number i digit small few =
-    let more : 10 ^ (i + 1) ≡ 10 ^ i * 10 = rw (add-one) (pow-suc 10 i) in omega arith

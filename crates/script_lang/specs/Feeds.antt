@@ -1,7 +1,6 @@
 -- What a feed of lines holds, and what is taken from it.
-use Rattle.std.specs.Prelude.{◌≡◌, ℕ, ◌+◌, ◌<◌, ◌≤◌, ◌==◌, Bool, true, false, List, [], ◌∷◌, ◌++◌, length, drop, flat_map, Option, None, Some}
+use Rattle.std.specs.Prelude.{◌≡◌, ℕ, ◌+◌, ◌<◌, ◌≤◌, ◌==◌, Bool, true, false, List, [], ◌∷◌, ◌++◌, length, drop, Option, None, Some}
 use Rattle.std.specs.List.{list_any}
-use Rattle.std.specs.Option.{option_to_list}
 use Rattle.script_lang.specs.Lines.{Line as ScriptLine, lines, line_end}
 use Rattle.script_lang.specs.declared.taken.Taken.{Taken}
 use Rattle.script_lang.specs.declared.taken.Taken.TheVariants.{Line, Long, More}
@@ -29,10 +28,6 @@ abbrev pub line_taken : Taken → Option ScriptLine
 line_taken (Line bytes) = Some (record { long = false; bytes = bytes })
 line_taken Long = Some (record { long = true; bytes = [] })
 line_taken More = None
-
--- the lines that were taken, in order
-abbrev pub lines_taken : List Taken → List ScriptLine
-lines_taken = flat_map (λ taken. option_to_list (line_taken taken))
 
 -- the line is the first of what was held, whatever follows, and the rest is held now
 pub record IsTakenFrom (old new : Feed) (line : ScriptLine) : Type 0 where

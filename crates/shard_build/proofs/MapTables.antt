@@ -1,5 +1,5 @@
 -- A map from tokens to lists, seen as a table.
-use Rattle.std.proofs.Common.{◌≡◌, ℕ, ◌+◌, ◌≤◌, List, [], ◌∷◌, ◌++◌, length, bytes_eq, nat_cmp, inl, inr, refl, sym, ap, ◌∙◌, subst}
+use Rattle.std.proofs.Common.{◌≡◌, ℕ, ◌+◌, ◌≤◌, List, [], ◌∷◌, length, bytes_eq, nat_cmp, inl, inr, refl, sym, ap, ◌∙◌}
 use Rattle.std.specs.declared.cmp.Ordering.TheVariants.{Less}
 use Rattle.std.specs.List.{AllByRecursion}
 use Rattle.std.specs.List.Sorted.{IsStrictlySortedBy}
@@ -9,10 +9,9 @@ use Rattle.std.proofs.lemmas.Bool.{cases_Bool}
 use Rattle.std.proofs.lemmas.Cmp.{nat_list_eq_equiv}
 use Rattle.gcl_model.specs.Slots.{SlotRange, slot_range}
 use Rattle.gcl_model.specs.Collections.{words_from}
-use Rattle.index_shard.specs.Tables.{TermEntry, ShardContent, ComesBefore, IsTable, words_of}
-use Rattle.shard_build.specs.Groups.{group_of, table_entry, table_of}
-use Rattle.shard_build.specs.Handed.{ComesNext}
-use Rattle.shard_build.proofs.Tables.{entry_of, term_cmp, all_groups, groups_are_table, groups_have_words, comes_next}
+use Rattle.index_shard.specs.Tables.{ShardContent, ComesBefore, IsTable, words_of}
+use Rattle.shard_build.specs.Groups.{group_of, table_of}
+use Rattle.shard_build.proofs.Tables.{entry_of, term_cmp, all_groups, groups_are_table, groups_have_words}
 
 -- the entry of a token is what the map has for it
 pub entry_of-table_of : (entries : List (List ℕ × List ℕ)) (token : List ℕ) →
@@ -44,13 +43,6 @@ map_is_table entries tokens range width sorted found =
     let rise = table_rises entries sorted in
     groups_are_table tokens range (table_of entries) width rise
     (all_groups (words_from range.first tokens) (table_of entries) rise (λ token ps is. sym (entry_of-table_of entries token ∙ found token) ∙ is))
-
--- the next entry of a map goes behind those before it
-pub next_entry : (range : SlotRange) (entries left after : List (List ℕ × List ℕ)) (done : List TermEntry) (x : List ℕ × List ℕ) →
-    IsTable range (table_of entries) → done ++ table_of left ≡ table_of entries → left ≡ x ∷ after → ComesNext range done (table_entry x)
-next_entry range entries left after done x table rest is =
-    let whole : done ++ table_of (x ∷ after) ≡ table_of entries = ap (λ l. done ++ table_of l) (sym is) ∙ rest in
-    comes_next range done (table_of after) (table_entry x) (subst (IsTable range) (sym whole) table)
 
 -- the words of the shard that a map makes
 pub map_has_words : (entries : List (List ℕ × List ℕ)) (tokens : List (List ℕ)) (shard : ShardContent) (first last : ℕ) → last + 1 ≡ first + length tokens → first ≤ last →

@@ -9,9 +9,6 @@ use Rattle.std.proofs.lemmas.Cmp.{nat_list_eq_equiv}
 use Rattle.std.proofs.lemmas.List.{length-map}
 use Rattle.std.proofs.lemmas.List.Quantifiers.{position-Some}
 use Rattle.std.proofs.lemmas.Slice.Eq.{bytes_eq-Decides}
-use Rattle.std.specs.Result.{OnErr}
-use Rattle.std.specs.declared.result.Result.{Result}
-use Rattle.std.specs.declared.result.Result.TheVariants.{Ok, Err}
 use Rattle.indexmap.specs.IndexMap.{set_value_at}
 use Rattle.index_shard.proofs.TableLaws.{all_at}
 use Rattle.shard_build.specs.Groups.{unless_empty}
@@ -46,12 +43,6 @@ list_set_other (e ∷ es) zero zero w other = absurd (other refl)
 list_set_other (e ∷ es) zero (suc j) w other = refl
 list_set_other (e ∷ es) (suc i) zero w other = refl
 list_set_other (e ∷ es) (suc i) (suc j) w other = list_set_other es i j w (λ same. other (ap suc same))
-
--- a list with members is one of the lists
-pub filled_within : (es : Entries) (i : ℕ) → 1 ≤ filled (list_at es i) → i < length es
-filled_within [] i some = absurd (omega (arith, some))
-filled_within (e ∷ es) zero some = omega arith
-filled_within (e ∷ es) (suc i) some = let rest = filled_within es i some in omega (arith, rest)
 
 pub filled_le : (list : List ℕ) → filled list ≤ 1
 filled_le [] = omega arith
@@ -174,28 +165,13 @@ new_lists es fs name cs pushed = ap (λ l. unless_empty (unwrap_or (found l cs) 
 
 -- ---- what is read at a place
 
-pub name_read : (es : Entries) (i : ℕ) (k v : List ℕ) → slice_get es i ≡ Some (k, v) → name_at es i ≡ k
-name_read [] i k v is = absurd cc
-name_read (e ∷ es) zero k v is = ap (λ (o : Option (List ℕ × List ℕ)). (unwrap_or o e).0) is
-name_read (e ∷ es) (suc i) k v is = name_read es i k v is
-
 pub list_read : (es : Entries) (i : ℕ) (v : List ℕ) → slice_get (values_of es) i ≡ Some v → list_at es i ≡ v
 list_read [] i v is = absurd cc
 list_read (e ∷ es) zero v is = ap (λ o. unwrap_or o e.1) is
 list_read (e ∷ es) (suc i) v is = list_read es i v is
-
-pub none_read : (es : Entries) (i : ℕ) → None ≡ slice_get es i → name_at es i ≡ []
-none_read [] i is = refl
-none_read (e ∷ es) zero is = absurd cc
-none_read (e ∷ es) (suc i) is = none_read es i is
 
 -- to write what is there changes nothing
 pub same_written : (es : Entries) (i : ℕ) (w : List ℕ) → list_at es i ≡ w → i < length es → set_value_at es i w ≡ es
 same_written [] i w is lt = absurd (omega (arith, lt))
 same_written (e ∷ es) zero w is lt = ap (λ v. (e.0, v) ∷ es) (sym is)
 same_written (e ∷ es) (suc i) w is lt = ap (λ l. e ∷ l) (same_written es i w is (omega (arith, lt)))
-
--- what holds anyhow holds of an error
-pub on_err : {T E : Type 0} (P : Type 0) (result : Result T E) → P → OnErr result P
-on_err P (Ok value) p = tt
-on_err P (Err fault) p = p

@@ -19,20 +19,6 @@ pub record AreFrom (es : Entries) (number : ℕ) (seen : List Seen) : Type 0 whe
   pub behind : (i : ℕ) → number ≤ i → times i seen ≡ filled (list_at es i)
   pub noted : AllByRecursion (IsNoted (keys_of es)) seen
 
--- there are no names from the end on
-past_filled : (es : Entries) (i : ℕ) → length es ≤ i → filled (list_at es i) ≡ 0
-past_filled [] i le = refl
-past_filled (e ∷ es) zero le = absurd (omega (arith, le))
-past_filled (e ∷ es) (suc i) le = past_filled es i (omega (arith, le))
-
--- before the first step none is noted
-pub from_end : (es : Entries) (number : ℕ) (seen : List Seen) → number ≡ length es → seen ≡ [] → AreFrom es number seen
-from_end es number seen end none = record {
-  before = λ i lt. ap (times i) none;
-  behind = λ i le. ap (times i) none ∙ sym (past_filled es i (omega (arith, end, le)));
-  noted = subst (AllByRecursion (IsNoted (keys_of es))) (sym none) tt;
-}
-
 -- what is not before a number and not that number is behind it
 behind_it : (number i next : ℕ) → number ≤ i → number + 1 ≡ next → (number ≡ i → ⊥) → next ≤ i
 behind_it zero zero next le follows other = absurd (other refl)
@@ -86,14 +72,6 @@ from_empty es number next seen follows none names = record {
             names.before i (omega (arith, same, follows)) ∙ sym none ∙ ap (λ j. filled (list_at es j)) same
         | inr h ↦ names.behind i (behind_it number i next le follows (not_same number i h))
       ];
-  noted = names.noted;
-}
-
--- when all are gone through, the names are noted
-pub from_start : (es : Entries) (number : ℕ) (seen : List Seen) → number ≡ 0 → IsDistinct bytes_eq (keys_of es) → AreFrom es number seen → AreNames (names_of es seen)
-from_start es number seen start distinct names = record {
-  distinct = distinct;
-  once = λ i. names.behind i (omega (arith, start));
   noted = names.noted;
 }
 

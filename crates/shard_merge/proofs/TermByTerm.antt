@@ -22,9 +22,6 @@ pub record IsMerging (start parts : List PartContent) (table : List TermEntry) :
   pub after : AllByRecursion (λ e. AllPartsAfter e.term parts) table
   pub together : (term : List ℕ) → postings_of table term ++ postings_left parts term ≡ postings_left start term
 
-pub merging_begins : (start : List PartContent) → AllByRecursion IsPart start → IsMerging start start []
-merging_begins start tables = record { tables = tables; groups = tt; after = tt; together = λ term. refl }
-
 -- all entries come before the term
 abbrev pub AllBefore : List ℕ → List TermEntry → Type 0
 AllBefore term es = AllByRecursion (λ e. ComesBefore e.term term) es

@@ -23,7 +23,7 @@ pub fn merge(alloc: Global, version: &Version, at: usize, count: usize) -> Resul
     ensures same { IfOk result (λ slot. IsSameLive (slots_at at count version.now.slots) (slot ∷ [])) }
 {
     let slots = &version.slots()[at..at + count];
-    let range = range_of(slots);
+    let range = range_of_slots(slots);
     let files = records_of(alloc, slots)?;
     let mut terms = SlotTerms::new(alloc, slots)?;
     let shard = merge_terms(alloc, range, &mut terms)?;
@@ -31,7 +31,7 @@ pub fn merge(alloc: Global, version: &Version, at: usize, count: usize) -> Resul
 }
 
 /// From the first address of the first slot to the last address of the last one.
-fn range_of(slots: &[Slot]) -> Range
+fn range_of_slots(slots: &[Slot]) -> Range
     requires some { 1 ≤ length slots.now }
     requires apart { (low : ℕ) × (end : ℕ) × AreRangesWithin low end (ranges_of slots.now) }
     ensures { whole_range (ranges_of slots.now) ≡ Some result }

@@ -2,7 +2,7 @@
 use Rattle.std.proofs.Common.{◌≡◌, ℕ, zero, suc, ◌+◌, ◌-◌, ◌*◌, ◌^◌, ◌<◌, ◌≤◌, true, false, not, cond, List, [], ◌∷◌, ◌++◌, length, length-append, length-drop, take, drop, get_or, append_assoc, ltb, refl, sym, ap, inl, inr, ◌∙◌, subst, arith}
 use Rattle.std.specs.List.{prefix_len}
 use Rattle.std.proofs.lemmas.Bool.{cases_Bool, or_from}
-use Rattle.std.proofs.lemmas.List.{append-nil, drop_more, take-append-drop, take_all, nil_from_length}
+use Rattle.std.proofs.lemmas.List.{drop_more, take-append-drop, take_all}
 use Rattle.std.proofs.lemmas.List.Elements.{filter-append}
 use Rattle.std.proofs.Math.ListN.{drop_of_length-le}
 use Rattle.gcl_model.specs.Limits.{address_end}
@@ -170,11 +170,6 @@ pub between_ends : (ranges : List SlotRange) (block out put rest : List ℕ) (i 
 between_ends ranges block out put rest i le was =
     let none : drop i ranges ≡ [] = drop_of_length-le ranges le in
     ap (λ l. put ++ l) (sym (all_alive [] rest refl)) ∙ ap (λ m. put ++ alive m rest) (sym none) ∙ was.all
-
--- and where no rest is, nothing is left to do
-pub between_empty : (ranges : List SlotRange) (block out put rest : List ℕ) (i : ℕ) → 0 ≡ length rest → IsBetween ranges block out put rest i → put ≡ out ++ alive ranges block
-between_empty ranges block out put rest i none was =
-    sym (append-nil put) ∙ ap (λ l. put ++ alive (drop i ranges) l) (sym (nil_from_length rest (sym none))) ∙ was.all
 
 -- the stretch from the first of some postings to the last is a range
 pub is_stretch : (list : List ℕ) (first last : ℕ) → ArePostings list → 0 < length list → first ≡ get_or list 0 0 → last ≡ last_of list → (first ≤ last) × (last < 2 ^ 56)

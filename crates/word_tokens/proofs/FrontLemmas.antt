@@ -16,11 +16,6 @@ pub name_at-letter : (text : List ℕ) → is_ascii_alphabetic (get_or text 0 0)
 name_at-letter [] e = refl
 name_at-letter (b ∷ bytes) e = rw (take_while-cons is_name_byte b bytes, e) refl
 
--- and no name is there without a letter
-pub name_at-other : (text : List ℕ) → is_ascii_alphabetic (get_or text 0 0) ≡ false → name_at text ≡ []
-name_at-other [] e = refl
-name_at-other (b ∷ bytes) e = rw e refl
-
 -- the run is what stands before its end
 pub take-take_while : (p : ℕ → Bool) (text : List ℕ) → take (length (take_while p text)) text ≡ take_while p text
 take-take_while p text = ap (λ n. take n text) (length-prefix_len p text)

@@ -1,11 +1,11 @@
 use Rattle.std.proofs.Common.{◌≡◌, List, [], ◌∷◌, ◌++◌, drop, sym, ap, ◌∙◌, arith, rules, append_assoc, length-append}
+use Rattle.gcl_model.proofs.Cases.{on_err}
 use Rattle.script_lang.specs.Lines.{Line, lines, line_of_cut}
 use Rattle.query_run.specs.Answers.{names_of_line}
 use Rattle.query_run.specs.Progress.{GoesOn, WhoseLines}
 use Rattle.query_run.specs.Windows.{HaltsOver}
 use Rattle.query_run.proofs.BatchLemmas.{batch_length}
 use Rattle.query_run.proofs.LineSteps.{behind}
-use Rattle.query_run.proofs.SaveReplies.{on_err}
 use Rattle.query_run.proofs.WindowLemmas.{does_halts, no_name_behind, over_does, over_halts}
 use Rattle.query_run.proofs.over.go_on.Goals as goal
 

@@ -1,5 +1,6 @@
 use Rattle.std.proofs.Common.{◌≡◌, ◌<◌, refl, arith}
-use Rattle.query_run.proofs.SaveReplies.{follows_opening, on_err, stops_after_opening, opened_savable}
+use Rattle.gcl_model.proofs.Cases.{on_err}
+use Rattle.query_run.proofs.SaveReplies.{follows_opening, stops_after_opening, opened_savable}
 use Rattle.query_run.proofs.saving.adopt.Goals as goal
 
 pub returns-in_err-put_opened-in-Ok-clause-stop : goal.returns-in_err-put_opened-in-Ok-clause-stop

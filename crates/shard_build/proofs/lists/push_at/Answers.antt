@@ -1,7 +1,8 @@
 use Rattle.std.proofs.Common.{[], ◌∷◌, ◌++◌, length, nat_eq, sym, ap, ◌∙◌, subst}
+use Rattle.gcl_model.proofs.Cases.{on_err}
 use Rattle.indexmap.specs.IndexMap.{set_value_at}
 use Rattle.posting_code.specs.Postings.{ArePostings}
-use Rattle.shard_build.proofs.NameLists.{list_read, same_written, on_err}
+use Rattle.shard_build.proofs.NameLists.{list_read, same_written}
 use Rattle.shard_build.proofs.lists.push_at.Goals as goal
 
 pub push-requires : goal.push-requires

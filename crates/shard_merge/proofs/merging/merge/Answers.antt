@@ -9,8 +9,8 @@ use Rattle.shard_merge.specs.Merged.{AreWordsOf}
 use Rattle.shard_merge.proofs.Runs.{run_lent, range_of_run, files_lie, parts_are_tables, words_of_run, words_owned, merged_words, slots_lent, same_live, lies_inside}
 use Rattle.shard_merge.proofs.merging.merge.Goals as goal
 
-pub range_of-range-requires-clause-apart : goal.range_of-range-requires-clause-apart
-range_of-range-requires-clause-apart c =
+pub range_of_slots-range-requires-clause-apart : goal.range_of_slots-range-requires-clause-apart
+range_of_slots-range-requires-clause-apart c =
     let run = run_lent c.args.version.now c.slots.result.now c.args.at c.args.count (c.args.at + c.args.count - c.args.at) c.slots.ensures.version c.slots.ensures.value (omega arith) in
     run.apart
 
@@ -28,27 +28,27 @@ pub merge_terms-requires-clause-words : goal.merge_terms-requires-clause-words
 merge_terms-requires-clause-words c =
     let slots = take (c.args.at + c.args.count - c.args.at) (drop c.args.at c.slots.result.now) in
     let run = run_lent c.args.version.now c.slots.result.now c.args.at c.args.count (c.args.at + c.args.count - c.args.at) c.slots.ensures.version c.slots.ensures.value (omega arith) in
-    let range = c.range_of-range.result in (
+    let range = c.range_of_slots-range.result in (
       live_of slots,
       subst (λ parts. AreWordsOf range parts (live_of slots)) (sym c.in_ok-terms.ensures.value)
-          (words_of_run range slots run (range_of_run slots range run c.range_of-range.ensures)),
+          (words_of_run range slots run (range_of_run slots range run c.range_of_slots-range.ensures)),
     )
 
 pub new-requires-2-clause-files : goal.new-requires-2-clause-files
 new-requires-2-clause-files c =
     let slots = take (c.args.at + c.args.count - c.args.at) (drop c.args.at c.slots.result.now) in
     let run = run_lent c.args.version.now c.slots.result.now c.args.at c.args.count (c.args.at + c.args.count - c.args.at) c.slots.ensures.version c.slots.ensures.value (omega arith) in
-    let range = c.range_of-range.result in
-    subst (AllByRecursion (LiesIn range)) (sym c.in_ok-files.ensures) (files_lie range slots run (range_of_run slots range run c.range_of-range.ensures))
+    let range = c.range_of_slots-range.result in
+    subst (AllByRecursion (LiesIn range)) (sym c.in_ok-files.ensures) (files_lie range slots run (range_of_run slots range run c.range_of_slots-range.ensures))
 
 pub new-requires-2-clause-owned : goal.new-requires-2-clause-owned
 new-requires-2-clause-owned c =
     let slots = take (c.args.at + c.args.count - c.args.at) (drop c.args.at c.slots.result.now) in
     let run = run_lent c.args.version.now c.slots.result.now c.args.at c.args.count (c.args.at + c.args.count - c.args.at) c.slots.ensures.version c.slots.ensures.value (omega arith) in
-    let range = c.range_of-range.result in
+    let range = c.range_of_slots-range.result in
     let shard = c.in_ok-shard.shard in
     let words =
-    merged_words range slots c.in_ok-terms.terms shard run c.range_of-range.ensures c.in_ok-terms.ensures.value c.in_ok-shard.ensures.shard c.in_ok-shard.ensures.range
+    merged_words range slots c.in_ok-terms.terms shard run c.range_of_slots-range.ensures c.in_ok-terms.ensures.value c.in_ok-shard.ensures.shard c.in_ok-shard.ensures.range
     c.in_ok-shard.ensures.postings in
     subst (λ ws. AllByRecursion (λ w. is_of_files c.in_ok-files.files w.address ≡ true) ws) (sym words)
     (subst (λ files. AllByRecursion (λ w. is_of_files files w.address ≡ true) (live_of slots)) (sym c.in_ok-files.ensures) (words_owned slots run.all))
@@ -57,7 +57,7 @@ pub returns-clause-range : goal.returns-clause-range
 returns-clause-range c =
     let all = c.args.version.now.slots in
     let same = slots_lent c.slots.result.now all c.args.at c.args.count (c.args.at + c.args.count - c.args.at) c.slots.ensures.value (omega arith) in
-    let whole : whole_range (ranges_of (slots_at c.args.at c.args.count all)) ≡ Some c.range_of-range.result = ap (λ slots. whole_range (ranges_of slots)) (sym same) ∙ c.range_of-range.ensures in
+    let whole : whole_range (ranges_of (slots_at c.args.at c.args.count all)) ≡ Some c.range_of_slots-range.result = ap (λ slots. whole_range (ranges_of slots)) (sym same) ∙ c.range_of_slots-range.ensures in
     IfOk-weaker c.new-2.result _ (λ slot. whole_range (ranges_of (slots_at c.args.at c.args.count all)) ≡ Some slot.range)
     (λ slot is. whole ∙ ap (λ (s : SlotContent). Some s.range) (sym is)) c.new-2.ensures.value
 
@@ -65,7 +65,7 @@ pub returns-clause-inside : goal.returns-clause-inside
 returns-clause-inside c =
     let all = c.args.version.now.slots in
     let same = slots_lent c.slots.result.now all c.args.at c.args.count (c.args.at + c.args.count - c.args.at) c.slots.ensures.value (omega arith) in
-    let whole : whole_range (ranges_of (slots_at c.args.at c.args.count all)) ≡ Some c.range_of-range.result = ap (λ slots. whole_range (ranges_of slots)) (sym same) ∙ c.range_of-range.ensures in
+    let whole : whole_range (ranges_of (slots_at c.args.at c.args.count all)) ≡ Some c.range_of_slots-range.result = ap (λ slots. whole_range (ranges_of slots)) (sym same) ∙ c.range_of_slots-range.ensures in
     IfOk-weaker c.new-2.result _ (λ slot. LiesInside slot.range (whole_range (ranges_of (slots_at c.args.at c.args.count all))))
     (λ slot is. lies_inside slot.range (whole_range (ranges_of (slots_at c.args.at c.args.count all))) (whole ∙ ap (λ (s : SlotContent). Some s.range) (sym is))) c.new-2.ensures.value
 
@@ -76,7 +76,7 @@ returns-clause-words c =
     let run = run_lent c.args.version.now c.slots.result.now c.args.at c.args.count n c.slots.ensures.version c.slots.ensures.value (omega arith) in
     let shard = c.in_ok-shard.shard in
     let words =
-    merged_words c.range_of-range.result slots c.in_ok-terms.terms shard run c.range_of-range.ensures c.in_ok-terms.ensures.value c.in_ok-shard.ensures.shard
+    merged_words c.range_of_slots-range.result slots c.in_ok-terms.terms shard run c.range_of_slots-range.ensures c.in_ok-terms.ensures.value c.in_ok-shard.ensures.shard
     c.in_ok-shard.ensures.range c.in_ok-shard.ensures.postings in
     let same = slots_lent c.slots.result.now c.args.version.now.slots c.args.at c.args.count n c.slots.ensures.value (omega arith) in
     IfOk-weaker c.new-2.result _ (λ slot. words_of slot.shard ≡ live_of (slots_at c.args.at c.args.count c.args.version.now.slots))
@@ -89,7 +89,7 @@ returns-clause-same c =
     let run = run_lent c.args.version.now c.slots.result.now c.args.at c.args.count n c.slots.ensures.version c.slots.ensures.value (omega arith) in
     let shard = c.in_ok-shard.shard in
     let words =
-    merged_words c.range_of-range.result slots c.in_ok-terms.terms shard run c.range_of-range.ensures c.in_ok-terms.ensures.value c.in_ok-shard.ensures.shard
+    merged_words c.range_of_slots-range.result slots c.in_ok-terms.terms shard run c.range_of_slots-range.ensures c.in_ok-terms.ensures.value c.in_ok-shard.ensures.shard
     c.in_ok-shard.ensures.range c.in_ok-shard.ensures.postings in
     let same = slots_lent c.slots.result.now c.args.version.now.slots c.args.at c.args.count n c.slots.ensures.value (omega arith) in
     IfOk-weaker c.new-2.result _ (λ slot. IsSameLive (slots_at c.args.at c.args.count c.args.version.now.slots) (slot ∷ []))

@@ -1,5 +1,6 @@
 use Rattle.std.proofs.Common.{arith}
-use Rattle.index_shard.proofs.KeptTables.{on_err, pushed, unchanged, itself, behind_front, long_here}
+use Rattle.gcl_model.proofs.Cases.{on_err}
+use Rattle.index_shard.proofs.KeptTables.{pushed, unchanged, itself, behind_front, long_here}
 use Rattle.index_shard.proofs.table.TermTable.push_long.Goals as goal
 
 pub invariant_of-self-in_err-put_entry : goal.invariant_of-self-in_err-put_entry

@@ -1,6 +1,7 @@
 use Rattle.std.proofs.Common.{refl}
 use Rattle.std.specs.List.{concat}
-use Rattle.index_shard.proofs.KeptTables.{on_err, pushed, unchanged, itself}
+use Rattle.gcl_model.proofs.Cases.{on_err}
+use Rattle.index_shard.proofs.KeptTables.{pushed, unchanged, itself}
 use Rattle.index_shard.proofs.table.TermTable.push_parts.Goals as goal
 
 pub invariant_of-self : goal.invariant_of-self

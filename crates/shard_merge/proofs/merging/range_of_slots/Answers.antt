@@ -1,7 +1,7 @@
 use Rattle.std.proofs.Common.{Some, ◌-◌, arith, length, refl, sym, ap, ◌∙◌}
 use Rattle.gcl_model.specs.Slots.{SlotRange, slot_range}
 use Rattle.shard_merge.proofs.Runs.{range_found}
-use Rattle.shard_merge.proofs.merging.range_of.Goals as goal
+use Rattle.shard_merge.proofs.merging.range_of_slots.Goals as goal
 
 pub invariant_of-result : goal.invariant_of-result
 invariant_of-result c =

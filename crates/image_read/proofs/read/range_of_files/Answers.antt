@@ -2,7 +2,7 @@ use Rattle.std.proofs.Common.{◌≡◌, ◌+◌, ◌-◌, [], ◌∷◌, map, a
 use Rattle.gcl_model.specs.Slots.{SlotRange, ranges_spanned, slot_range}
 use Rattle.address_space.specs.Runs.{FileEntry, range_of}
 use Rattle.image_read.proofs.Spans.{run_lies, run_spanned}
-use Rattle.image_read.proofs.read.range_of.Goals as goal
+use Rattle.image_read.proofs.read.range_of_files.Goals as goal
 
 pub returns-in-len2-up-clause-spanned : goal.returns-in-len2-up-clause-spanned
 returns-in-len2-up-clause-spanned c =
