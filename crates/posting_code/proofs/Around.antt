@@ -4,6 +4,7 @@ use Rattle.std.specs.Option.{option_or}
 use Rattle.std.proofs.lemmas.Bool.{lt-ltb, le-ltb, lt-leb, le-leb}
 use Rattle.std.proofs.lemmas.List.{reverse-append, take_min, take-append-le, take_all}
 use Rattle.std.proofs.lemmas.List.Folds.{find-append}
+use Rattle.std.proofs.Math.Seq.{take-add}
 use Rattle.posting_code.specs.declared.head.Head.{Head}
 use Rattle.posting_code.specs.Postings.{RiseWithin, ArePostings, blocks_of, block_of}
 use Rattle.posting_code.specs.Packed.{members_behind, kept, CanUnpack, IsHead, IsKept, head_at}
@@ -54,6 +55,55 @@ take_rises low end (x ∷ xs) (suc n) r = (r.0, r.1, take_rises (x + 1) end xs n
 -- the members of a block rise
 pub block_rises : (xs : List ℕ) (b : ℕ) → ArePostings xs → ArePostings (block_of xs b)
 block_rises xs b r = take_rises 0 (2 ^ 56) (drop (64 * b) xs) 64 (rise_drop 0 (2 ^ 56) xs (64 * b) r)
+
+rise_ahead : (low end : ℕ) (zs : List ℕ) (y : ℕ) (ys : List ℕ) → RiseWithin low end (zs ++ y ∷ ys) → low ≤ y
+rise_ahead low end [] y ys r = r.0
+rise_ahead low end (z ∷ zs) y ys r =
+    let here = r.0 in
+    let ahead = rise_ahead (z + 1) end zs y ys r.2 in
+    omega (arith, here, ahead)
+
+-- what stands in front of a member below k is below it too
+none_in_front : (k low end : ℕ) (zs : List ℕ) (y : ℕ) (ys : List ℕ) → RiseWithin low end (zs ++ y ∷ ys) → y < k → from_in k zs ≡ None
+none_in_front k low end [] y ys r lt = refl
+none_in_front k low end (z ∷ zs) y ys r lt =
+    let ahead = rise_ahead (z + 1) end zs y ys r.2 in
+    let other : leb k z ≡ false = lt-leb k z (omega (arith, ahead, lt)) in
+    rw other (none_in_front k (z + 1) end zs y ys r.2 lt)
+
+-- a walk may begin at a member further on, if that one is below k
+pub around_leaps : (packed : List ℕ) (first at behind k steps value after : ℕ) → CanUnpack packed first at → behind ≤ length (members_behind packed first at) → steps ≤ behind →
+    drop steps (first ∷ members_behind packed first at) ≡ value ∷ members_behind packed value after → CanUnpack packed value after → (0 < steps → value < k) → IsAround packed first at behind k value after (behind - steps) None
+around_leaps packed first at behind k zero value after can enough few is there below =
+    let none : behind - zero ≡ behind = omega arith in
+    let same : first ∷ take behind (members_behind packed first at) ≡ value ∷ take (behind - zero) (members_behind packed value after) =
+    ap (take (suc behind)) is ∙ ap (λ n. value ∷ take n (members_behind packed value after)) (sym none) in
+    let long = ap length is in
+    record { can = there; enough = omega (arith, enough, long); under = ap (below_in k) same ∙ option_or-none _; from = ap (from_in k) same }
+around_leaps packed first at behind k (suc m) value after can enough few is there below =
+    let ms = members_behind packed first at in
+    let left = behind - suc m in
+    let ys = take left (members_behind packed value after) in
+    let lt = below (omega arith) in
+    let size : suc m + suc left ≡ suc behind = omega (arith, few) in
+    let whole : first ∷ take behind ms ≡ first ∷ (take m ms ++ value ∷ ys) =
+    ap (λ n. take n (first ∷ ms)) (sym size) ∙ take-add (suc m) (suc left) (first ∷ ms) ∙ ap (λ xs. take (suc m) (first ∷ ms) ++ take (suc left) xs) is in
+    let tails : take behind ms ≡ take m ms ++ value ∷ ys = ap (drop 1) whole in
+    let rises = subst (RiseWithin (first + 1) (2 ^ 56)) tails (take_rises (first + 1) (2 ^ 56) ms behind can.rising) in
+    let ahead = rise_ahead (first + 1) (2 ^ 56) (take m ms) value ys rises in
+    let other : leb k first ≡ false = lt-leb k first (omega (arith, ahead, lt)) in
+    let none : from_in k (first ∷ take m ms) ≡ None = rw other (none_in_front k (first + 1) (2 ^ 56) (take m ms) value ys rises lt) in
+    let some : below_in k (value ∷ ys) ≡ option_or (below_in k ys) (Some value) = below_in-cons k value ys ∙ ap (λ b. option_or (below_in k ys) (cond b (Some value) None)) (lt-ltb value k lt) in
+    let front = below_in k (first ∷ take m ms) in
+    let long = length-drop (suc m) (first ∷ ms) in
+    let parts = ap length is in
+    record {
+      can = there;
+      enough = omega (arith, enough, few, long, parts);
+      under = ap (below_in k) whole ∙ ap (find (λ p. ltb p k)) (reverse-append (first ∷ take m ms) (value ∷ ys)) ∙ find-append (λ p. ltb p k) (reverse (value ∷ ys)) (reverse (first ∷ take m ms))
+          ∙ ap (λ o. option_or o front) some ∙ option_or-assoc (below_in k ys) (Some value) front ∙ sym (option_or-assoc (below_in k ys) (Some value) None) ∙ ap (λ o. option_or o None) (sym some);
+      from = ap (from_in k) whole ∙ find-append (λ p. leb k p) (first ∷ take m ms) (value ∷ ys) ∙ ap (λ o. option_or o (from_in k (value ∷ ys))) none;
+    }
 
 pub around_goes : (packed : List ℕ) (first at behind k value after left next next_after : ℕ) (below : Option ℕ) → IsAround packed first at behind k value after left below → value < k → 0 < left →
     members_behind packed value after ≡ next ∷ members_behind packed next next_after → CanUnpack packed next next_after →

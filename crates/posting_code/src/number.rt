@@ -20,6 +20,11 @@ pub fn put_number(out: &mut Vec<u8>, n: u64) -> Result<(), AllocError>
     ensures ok { OnOk result (out.new.items ≡ out.old.items ++ spelling n) }
     ensures err { OnErr result (out.new.items ≡ out.old.items) }
 {
+    // most numbers have one byte
+    if n < 128 {
+        out.push(n as u8)?;
+        return Ok(());
+    }
     let before = out.len();
     match put_bytes(out, n) {
         Ok(()) => Ok(()),

@@ -5,9 +5,41 @@ ghost use Rattle.posting_code.specs.Cuts.{IsCut};
 use crate::head::Head;
 use crate::number::{Number, get_number};
 
+/// The byte at a place, and 0 where there is none.
+#[inline(always)]
+fn byte_at(packed: &[u8], at: usize) -> u8
+    ensures { result ≡ get_or packed.now at 0 }
+{
+    packed.get(at).copied().unwrap_or(0)
+}
+
 /// The member behind another one, and the place behind its difference.
+// Where differences of one byte and of two stand in no order, a branch between them would be guessed wrong time and again. So
+// both are read alike, and only longer ones by a branch.
 #[inline(always)]
 fn next_member(packed: &[u8], before: u64, at: usize) -> Number
+    requires can { CanUnpack packed.now before at }
+    requires some { 0 < length (members_behind packed.now before at) }
+    ensures next { members_behind packed.now before at ≡ result.value ∷ members_behind packed.now result.value result.after }
+    ensures above { before < result.value }
+    ensures within { at ≤ length packed.now → result.after ≤ length packed.now }
+    ensures can { CanUnpack packed.now result.value result.after }
+{
+    let first = packed[at];
+    let second = byte_at(packed, at + 1);
+    let more = first / 128;
+    if more + second / 128 < 2 {
+        let value = (first % 128) as u64 + more as u64 * (128 * second as u64);
+        return Number {
+            value: before + value,
+            after: at + 1 + more as usize,
+        };
+    }
+    longer_member(packed, before, at)
+}
+
+/// The same, whatever the length of the difference.
+fn longer_member(packed: &[u8], before: u64, at: usize) -> Number
     requires can { CanUnpack packed.now before at }
     requires some { 0 < length (members_behind packed.now before at) }
     ensures next { members_behind packed.now before at ≡ result.value ∷ members_behind packed.now result.value result.after }
@@ -61,6 +93,45 @@ fn put_run(packed: &[u8], before: u64, at: usize, into: &mut [u64], place: usize
     member
 }
 
+/// Puts so many of the next members from a place on, and gives the last of them and the place behind its difference.
+fn put_each(packed: &[u8], before: Number, into: &mut [u64], place: usize, count: usize) -> Number
+    requires can { CanUnpack packed.now before.value before.after }
+    requires enough { count ≤ length (members_behind packed.now before.value before.after) }
+    requires room { place + count ≤ length into.old }
+    ensures long { length into.new ≡ length into.old }
+    ensures members { take (place + count) into.new ≡ take place into.old ++ take count (members_behind packed.now before.value before.after) }
+    ensures rest { drop count (members_behind packed.now before.value before.after) ≡ members_behind packed.now result.value result.after }
+    ensures can { CanUnpack packed.now result.value result.after }
+{
+    let mut member = before;
+    for i in 0..count {
+        member = next_member(packed, member.value, member.after);
+        into[place + i] = member.value;
+    }
+    member
+}
+
+/// Puts the next seven members from a place on, whatever their differences, and gives the last of them and the place behind its difference.
+#[inline(always)]
+fn put_seven(packed: &[u8], before: Number, into: &mut [u64], place: usize) -> Number
+    requires can { CanUnpack packed.now before.value before.after }
+    requires enough { 7 ≤ length (members_behind packed.now before.value before.after) }
+    requires room { place + 7 ≤ length into.old }
+    ensures long { length into.new ≡ length into.old }
+    ensures members { take (place + 7) into.new ≡ take place into.old ++ take 7 (members_behind packed.now before.value before.after) }
+    ensures rest { drop 7 (members_behind packed.now before.value before.after) ≡ members_behind packed.now result.value result.after }
+    ensures can { CanUnpack packed.now result.value result.after }
+{
+    if are_short(packed, before.after) {
+        let value = put_run(packed, before.value, before.after, into, place);
+        return Number {
+            value,
+            after: before.after + RUN,
+        };
+    }
+    put_each(packed, before, into, place, RUN)
+}
+
 /// Fills `into` with the first member and those behind it.
 pub(crate) fn unpack(packed: &[u8], first: u64, at: usize, into: &mut [u64])
     requires can { CanUnpack packed.now first at }
@@ -73,21 +144,68 @@ pub(crate) fn unpack(packed: &[u8], first: u64, at: usize, into: &mut [u64])
         value: first,
         after: at,
     };
-    let mut i = 1;
-    while i < into.len() {
-        if RUN <= into.len() - i && are_short(packed, member.after) {
-            let last = put_run(packed, member.value, member.after, into, i);
-            member = Number {
-                value: last,
-                after: member.after + RUN,
-            };
-            i += RUN;
-        } else {
-            member = next_member(packed, member.value, member.after);
-            into[i] = member.value;
-            i += 1;
-        }
+    let mut place = 1;
+    while RUN <= into.len() - place {
+        member = put_seven(packed, member, into, place);
+        place += RUN;
     }
+    let left = into.len() - place;
+    put_each(packed, member, into, place, left);
+}
+
+/// The last member of a run behind a member, where each difference is one byte.
+#[inline(always)]
+fn pass_run(packed: &[u8], before: u64, at: usize) -> u64
+    requires can { CanUnpack packed.now before at }
+    requires enough { 7 ≤ length (members_behind packed.now before at) }
+    requires short { (i : ℕ) → i < 7 → get_or packed.now (at + i) 0 < 128 }
+    ensures rest { drop 7 (before ∷ members_behind packed.now before at) ≡ result ∷ members_behind packed.now result (at + 7) }
+    ensures can { CanUnpack packed.now result (at + 7) }
+{
+    let mut member = before;
+    for i in 0..RUN {
+        member += packed[at + i] as u64;
+    }
+    member
+}
+
+/// The place of the member that stands so many behind another one, by a look at each.
+fn pass_each(packed: &[u8], head: Head, steps: usize) -> Head
+    requires can { CanUnpack packed.now head.first head.at }
+    requires enough { steps ≤ length (members_behind packed.now head.first head.at) }
+    ensures rest { drop steps (head.first ∷ members_behind packed.now head.first head.at) ≡ result.first ∷ members_behind packed.now result.first result.at }
+    ensures can { CanUnpack packed.now result.first result.at }
+    ensures within { head.at ≤ length packed.now → result.at ≤ length packed.now }
+{
+    let mut member = head;
+    for step in 0..steps {
+        let _ = step;
+        let next = next_member(packed, member.first, member.at);
+        member = Head {
+            first: next.value,
+            at: next.after,
+        };
+    }
+    member
+}
+
+/// The place of the member that stands seven behind another one.
+#[inline(always)]
+fn pass_seven(packed: &[u8], head: Head) -> Head
+    requires can { CanUnpack packed.now head.first head.at }
+    requires enough { 7 ≤ length (members_behind packed.now head.first head.at) }
+    ensures rest { drop 7 (head.first ∷ members_behind packed.now head.first head.at) ≡ result.first ∷ members_behind packed.now result.first result.at }
+    ensures can { CanUnpack packed.now result.first result.at }
+    ensures within { head.at ≤ length packed.now → result.at ≤ length packed.now }
+{
+    if are_short(packed, head.at) {
+        let first = pass_run(packed, head.first, head.at);
+        return Head {
+            first,
+            at: head.at + RUN,
+        };
+    }
+    pass_each(packed, head, RUN)
 }
 
 /// The place of the member that stands so many behind another one.
@@ -100,15 +218,47 @@ pub(crate) fn walk(packed: &[u8], head: Head, steps: usize) -> Head
     ensures within { result.at ≤ length packed.now }
 {
     let mut member = head;
-    for step in 0..steps {
-        let _ = step;
-        let next = next_member(packed, member.first, member.at);
-        member = Head {
-            first: next.value,
-            at: next.after,
+    let mut left = steps;
+    while RUN <= left {
+        member = pass_seven(packed, member);
+        left -= RUN;
+    }
+    pass_each(packed, member, left)
+}
+
+/// A member, and how many steps behind the first it stands.
+#[derive(Clone, Copy)]
+struct Stop {
+    steps: usize,
+    member: Head,
+}
+
+/// The first member, or one further on that is below `k`, at most `behind` steps on. It goes by sevens, as long as they end below.
+#[inline(always)]
+fn leap_below(packed: &[u8], first: Head, behind: usize, k: u64) -> Stop
+    requires can { CanUnpack packed.now first.first first.at }
+    requires enough { behind ≤ length (members_behind packed.now first.first first.at) }
+    ensures rest { drop result.steps (first.first ∷ members_behind packed.now first.first first.at) ≡ result.member.first ∷ members_behind packed.now result.member.first result.member.at }
+    ensures can { CanUnpack packed.now result.member.first result.member.at }
+    ensures within { first.at ≤ length packed.now → result.member.at ≤ length packed.now }
+    ensures few { result.steps ≤ behind }
+    ensures below { 0 < result.steps → result.member.first < k }
+{
+    let mut stop = Stop {
+        steps: 0,
+        member: first,
+    };
+    while RUN <= behind - stop.steps {
+        let member = pass_seven(packed, stop.member);
+        if k <= member.first {
+            return stop;
+        }
+        stop = Stop {
+            steps: stop.steps + RUN,
+            member,
         };
     }
-    member
+    stop
 }
 
 /// A place between two members: the steps from the first to the last before it, and where that one and the one behind it stand.
@@ -130,8 +280,9 @@ pub(crate) fn cut_before(packed: &[u8], first: Head, behind: usize, k: u64) -> O
     ensures from { IfSome result (λ cut. k ≤ cut.behind.first) }
     ensures none { IsNone result → last_of (first.first ∷ take behind (members_behind packed.now first.first first.at)) < k }
 {
-    let mut before = first;
-    for steps in 0..behind {
+    let stop = leap_below(packed, first, behind, k);
+    let mut before = stop.member;
+    for steps in stop.steps..behind {
         let next = next_member(packed, before.first, before.at);
         let next = Head {
             first: next.value,
@@ -162,11 +313,12 @@ pub(crate) fn around_in(
     ensures below { result.0 ≡ find (λ p. nat_lt p k) (reverse (first ∷ take behind (members_behind packed.now first at))) }
     ensures from { result.1 ≡ find (λ p. nat_le k p) (first ∷ take behind (members_behind packed.now first at)) }
 {
+    let stop = leap_below(packed, Head { first, at }, behind, k);
     let mut member = Number {
-        value: first,
-        after: at,
+        value: stop.member.first,
+        after: stop.member.at,
     };
-    let mut left = behind;
+    let mut left = behind - stop.steps;
     let mut below = None;
     while member.value < k {
         below = Some(member.value);

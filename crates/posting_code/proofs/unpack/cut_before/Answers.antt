@@ -2,7 +2,13 @@ use Rattle.std.proofs.Common.{◌≡◌, ◌∷◌, length-drop, length, take, a
 use Rattle.posting_code.specs.Packed.{last_of, members_behind}
 use Rattle.posting_code.proofs.Unpacking.{take_next}
 use Rattle.posting_code.proofs.Cuts.{stretch}
+use Rattle.posting_code.proofs.Runs.{first_or_below}
 use Rattle.posting_code.proofs.unpack.cut_before.Goals as goal
+
+pub loop-steps-init : goal.loop-steps-init
+loop-steps-init c =
+    let stop = c.leap_below-stop.ensures in
+    record { stands = record { can = stop.can; within = stop.within c.requires.within; is = stop.rest }; below = first_or_below c.args.packed.now c.args.first.first c.args.first.at c.args.k _ _ _ stop.rest stop.below c.requires.below }
 
 pub next_member-next-requires-clause-some : goal.next_member-next-requires-clause-some
 next_member-next-requires-clause-some c =

@@ -1,7 +1,10 @@
-use Rattle.std.proofs.Common.{◌≡◌, ◌+◌, ◌<◌, get_or, take, drop, length, refl, sym, ap, ◌∙◌, ◌++◌, arith}
-use Rattle.posting_code.specs.Packed.{members_behind}
-use Rattle.posting_code.proofs.Runs.{bytes_enough, run_next, run_goes}
+use Rattle.std.proofs.Common.{◌≡◌, ◌+◌, ◌<◌, ◌++◌, get_or, take, drop, refl, sym, ap, ◌∙◌, subst, arith}
+use Rattle.posting_code.specs.Packed.{members_behind, CanUnpack}
+use Rattle.posting_code.proofs.Runs.{bytes_enough, run_starts, run_byte}
 use Rattle.posting_code.proofs.unpack.put_run.Goals as goal
+
+pub loop-i-init : goal.loop-i-init
+loop-i-init c = run_starts _ _ _ _ _ _ c.requires.can (omega arith)
 
 pub bounds-packed-at : goal.bounds-packed-at
 bounds-packed-at c =
@@ -15,8 +18,7 @@ loop-i-preserved c =
     let enough = c.requires.enough in
     let long = c.loop-i.invariant.long in
     let room = c.requires.room in
-    let next = run_next _ _ _ _ _ _ _ _ _ c.loop-i.invariant (omega (arith, few, enough)) refl (c.requires.short c.loop-i.i few) in
-    run_goes _ _ _ _ _ _ _ _ _ c.loop-i.invariant next (omega (arith, few, long, room))
+    run_byte _ _ _ _ _ _ _ _ _ c.loop-i.invariant (omega (arith, few, enough)) refl (c.requires.short c.loop-i.i few) (omega (arith, few, long, room))
 
 pub returns-clause-members : goal.returns-clause-members
 returns-clause-members c =
@@ -29,3 +31,8 @@ returns-clause-rest c =
     let all : c.loop-i.i ≡ 7 = omega (arith, c.loop-i-test.false, c.loop-i.auto.i-end) in
     let ms = members_behind c.args.packed.now c.args.before c.args.at in
     ap (λ n. drop n ms) (sym all) ∙ c.loop-i.invariant.rest ∙ ap (λ n. members_behind c.args.packed.now c.loop-i.member (c.args.at + n)) all
+
+pub returns-clause-can : goal.returns-clause-can
+returns-clause-can c =
+    let all : c.loop-i.i ≡ 7 = omega (arith, c.loop-i-test.false, c.loop-i.auto.i-end) in
+    subst (λ n. CanUnpack c.args.packed.now c.loop-i.member (c.args.at + n)) all c.loop-i.invariant.can

@@ -3,12 +3,12 @@ use Rattle.posting_code.proofs.Unpacking.{IsUnpacking}
 use Rattle.posting_code.proofs.unpack.unpack.Given as goal
 
 -- the members so far are there
-abbrev pub invariant-loop-i : goal.invariant-loop-i
-invariant-loop-i l = record {
-  are : IsUnpacking l.packed l.first l.at l.into l.i l.member.value l.member.after;
+abbrev pub invariant-loop-into : goal.invariant-loop-into
+invariant-loop-into l = record {
+  are : IsUnpacking l.packed l.first l.at l.into l.place l.member.value l.member.after;
   long : length l.into ≡ length l.fn.into;
-  within : l.i ≤ length l.into;
+  within : l.place ≤ length l.into;
 }
 
-abbrev pub decreases-loop-i : goal.decreases-loop-i
-decreases-loop-i l = length l.into - l.i
+abbrev pub decreases-loop-into : goal.decreases-loop-into
+decreases-loop-into l = length l.into - l.place

@@ -1,24 +1,40 @@
-use Rattle.std.proofs.Common.{◌∷◌, length-drop, length, ap, ◌∙◌, arith}
+use Rattle.std.proofs.Common.{◌≡◌, ◌+◌, ◌-◌, ◌∷◌, drop, refl, sym, ap, ◌∙◌, subst, arith}
 use Rattle.posting_code.specs.Packed.{members_behind}
-use Rattle.posting_code.proofs.Unpacking.{take_next}
+use Rattle.posting_code.proofs.Runs.{pass_starts, pass_left, pass_more}
 use Rattle.posting_code.proofs.unpack.walk.Goals as goal
 
-pub next_member-next-requires : goal.next_member-next-requires
-next_member-next-requires c =
-    let all = c.args.head.first ∷ members_behind c.args.packed.now c.args.head.first c.args.head.at in
-    let long = length-drop c.loop-step.step all in
-    let parts = ap length c.loop-step.invariant.rest in
+pub loop-left-init : goal.loop-left-init
+loop-left-init c =
+    record { passed = pass_starts _ _ _ _ _ c.requires.can (omega arith) refl; within = c.requires.within; few = omega arith }
+
+pub pass_seven-member-requires : goal.pass_seven-member-requires
+pass_seven-member-requires c =
+    let left = pass_left _ _ _ _ _ _ c.loop-left.invariant.passed in
     let enough = c.requires.enough in
+    let few = c.loop-left.invariant.few in
+    record { can = c.loop-left.invariant.passed.can; enough = omega (arith, left, enough, few, c.loop-left-test.true) }
+
+pub loop-left-preserved : goal.loop-left-preserved
+loop-left-preserved c =
+    let next = c.pass_seven-member.ensures in
+    let few = c.loop-left.invariant.few in
     record {
-      can = c.loop-step.invariant.can;
-      some = omega (arith, long, parts, enough, c.loop-step-test.true);
+      passed = pass_more _ _ _ _ _ _ 7 _ _ _ c.loop-left.invariant.passed next.rest next.can (omega (arith, few, c.loop-left-test.true));
+      within = next.within c.loop-left.invariant.within;
+      few = omega (arith, few);
     }
 
-pub loop-step-preserved : goal.loop-step-preserved
-loop-step-preserved c =
-    let all = c.args.head.first ∷ members_behind c.args.packed.now c.args.head.first c.args.head.at in
-    record {
-      rest = (take_next c.loop-step.step all _ _ c.loop-step.invariant.rest).1 ∙ c.next_member-next.ensures.next;
-      can = c.next_member-next.ensures.can;
-      within = c.next_member-next.ensures.within c.loop-step.invariant.within;
-    }
+pub pass_each-requires : goal.pass_each-requires
+pass_each-requires c =
+    let left = pass_left _ _ _ _ _ _ c.loop-left.invariant.passed in
+    let enough = c.requires.enough in
+    let few = c.loop-left.invariant.few in
+    record { can = c.loop-left.invariant.passed.can; enough = omega (arith, left, enough, few) }
+
+pub returns : goal.returns
+returns c =
+    let next = c.pass_each.ensures in
+    let few = c.loop-left.invariant.few in
+    let all : c.args.steps ≡ c.args.steps - c.loop-left.left + c.loop-left.left = omega (arith, few) in
+    let passed = pass_more _ _ _ _ _ _ _ _ _ _ c.loop-left.invariant.passed next.rest next.can all in
+    record { rest = passed.rest; can = passed.can; within = next.within c.loop-left.invariant.within }
