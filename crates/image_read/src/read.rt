@@ -56,7 +56,8 @@ fn version_of(
     requires in_range { head.next ≤ 2 ^ 56 }
     requires ordered { head.first ≤ head.next }
     requires files { AreAllFiles head.next head.next_id 0 head.first front.files }
-    ensures some { IfOk result (λ found. IfSome found (λ v. IsReadFrom head.format head.first head.next head.next_id front.entry.files front.entry.rest.now v)) }
+    ensures some { IfOk result (λ found. IfSome found (λ v.
+        IsReadFrom head.format head.first head.next head.next_id front.entry.files front.entry.rest.now v)) }
     ensures none { IfOk result (λ found. IsNone found → HasNoTerms head.format head.first head.next front.entry.files front.entry.rest.now) }
 {
     let Some(range) = range_of_files(&front) else {
