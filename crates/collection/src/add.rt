@@ -26,7 +26,8 @@ impl Engine {
         requires { is_name name.now ≡ true }
         ensures ok { IfOk result (IsAdd self.old self.new name.now (tokens_of bytes.now)) }
         ensures fits { OnOk result (self.old.version.next + width_of (tokens_of bytes.now) ≤ address_end) }
-        ensures spent { (next : ℕ) → (need : ℕ) → IsErrOf result (Spent next need) → (next ≡ self.old.version.next) × (need ≡ width_of (tokens_of bytes.now)) × (address_end < next + need) }
+        ensures spent { (next : ℕ) → (need : ℕ) → IsErrOf result (Spent next need) → (next ≡ self.old.version.next) × (need ≡ width_of (tokens_of bytes.now)) ×
+            (address_end < next + need) }
         ensures err { OnErr result (self.new ≡ self.old) }
     {
         let need = width(bytes);

@@ -71,7 +71,8 @@ impl Engine {
     ) -> Result<Opened, OpenFault>
         requires { readers ≤ most_readers }
         ensures history { IfOk result (λ opened. opened.engine ≡ engine_content opened.engine.publisher (empty_version first ∷ [])) }
-        ensures readers { IfOk result (λ opened. AllByRecursion (λ reader. reader ≡ with_pass opened.engine.publisher (empty_version first ∷ [])) opened.readers.items) }
+        ensures readers { IfOk result (λ opened. AllByRecursion (λ reader.
+            reader ≡ with_pass opened.engine.publisher (empty_version first ∷ [])) opened.readers.items) }
         ensures few { IfOk result (λ opened. length opened.readers.items ≤ readers) }
         ensures lines { IfOk result (λ opened. opened.lines ≡ 0) }
         ensures bad_first { (n : ℕ) → IsErrOf result (BadFirst n) ↔ ((n ≡ first) × (address_end < first)) }

@@ -1,6 +1,6 @@
 //! The dead addresses of a stretch, as ranges.
 //!
-//! Contracts see a `Mask` as a list of ranges that lie behind each other, below the end of addresses. An address is dead where one
+//! Contracts see a `Mask` as a list of ranges that lie one after the other, below the end of addresses. An address is dead where one
 //! of the ranges has it.
 //!
 //! The layer above uses `dead`, which gives the dead range that an address is in, so that a look-up leaps over it

@@ -76,7 +76,8 @@ impl Mask {
         ensures value { IfOk result (λ mask. mask ≡ with_range range self.now) }
         ensures dead { IfOk result (λ mask. (p : ℕ) → is_dead mask p ≡ (is_within range p || is_dead self.now p)) }
         ensures count { IfOk result (λ mask. length mask ≤ length self.now + 1) }
-        ensures within { IfOk result (λ mask. (low end : ℕ) → AreRangesWithin low end self.now → low ≤ range.first → range.last < end → AreRangesWithin low end mask) }
+        ensures within { IfOk result (λ mask. (low end : ℕ) → AreRangesWithin low end self.now → low ≤ range.first → range.last < end →
+            AreRangesWithin low end mask) }
     {
         let ranges = self.ranges_with(range)?;
         Ok(Mask { ranges })

@@ -32,7 +32,7 @@ farthest-nil : (way : Direction) (k s : ℕ) → farthest way [] k s ≡ Some s
 farthest-nil Forward k s = refl
 farthest-nil Backward k s = refl
 
-farthest-cons : (way : Direction) (list : List Extent) (lists : List (List Extent)) (k s : ℕ) →
+pub farthest-cons : (way : Direction) (list : List Extent) (lists : List (List Extent)) (k s : ℕ) →
     farthest way (list ∷ lists) k s ≡ option_and_then (λ a. farthest way lists k (farther way s (far_side way a))) (near_access way list k)
 farthest-cons Forward list lists k s = refl
 farthest-cons Backward list lists k s = refl

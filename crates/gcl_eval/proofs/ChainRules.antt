@@ -13,18 +13,13 @@ use Rattle.gcl_combine.proofs.OneOf.{first_start-one, last_end-one}
 use Rattle.gcl_order.specs.Walks.{last_before, walk_forward, walk_backward, forward_again, back_again}
 use Rattle.gcl_order.proofs.SeqAccess.{seq_forward, seq_backward}
 use Rattle.gcl_order.proofs.SeqFarAccess.{seq_from_last, seq_from_first}
-use Rattle.gcl_model.specs.Directions.{near_access, opposite, farther, IsAsFar, between, far_access, far_side}
+use Rattle.gcl_model.specs.Directions.{near_access, opposite, IsAsFar, between, far_access}
 use Rattle.gcl_combine.specs.Directions.{farthest, better, best}
 use Rattle.gcl_eval.specs.Directions.{beside, beyond, walk, join, on_again}
 use Rattle.gcl_model.specs.declared.direction.Direction.{Direction}
 use Rattle.gcl_model.specs.declared.direction.Direction.TheVariants.{Forward, Backward}
 
 -- both of
-pub farthest-cons : (direction : Direction) (list : List Extent) (lists : List (List Extent)) (k side : ℕ) →
-    farthest direction (list ∷ lists) k side ≡ option_and_then (λ a. farthest direction lists k (farther direction side (far_side direction a))) (near_access direction list k)
-farthest-cons Forward list lists k side = refl
-farthest-cons Backward list lists k side = refl
-
 pub near_access-both : (direction : Direction) (text : Text) (forms : Forms) → 2 ≤ forms_count forms → (k : ℕ) →
     near_access direction (concordance text (both forms)) k
     ≡ option_and_then (λ far. option_map (λ near. between direction near far) (farthest (opposite direction) (operands text forms) far far)) (farthest direction (operands text forms) k k)

@@ -13,13 +13,14 @@ use Rattle.gcl_model.specs.Meaning.{concordance}
 use Rattle.gcl_eval.specs.Operands.{operand_forms, operand_lists, AreOperands}
 use Rattle.gcl_model.specs.Directions.{near_access, far_access, opposite, farther, between, far_side}
 use Rattle.gcl_combine.specs.Directions.{farthest, better, best}
+use Rattle.gcl_combine.proofs.BothOf.{farthest-cons}
 use Rattle.gcl_eval.specs.Directions.{beside, beyond, walk, join, CanJoin, reaches, passed, resume, next_past, on_again}
 use Rattle.gcl_model.specs.declared.direction.Direction.{Direction}
 use Rattle.gcl_model.specs.declared.direction.Direction.TheVariants.{Forward, Backward}
 use Rattle.gcl_eval.specs.declared.direction.Access.TheVariants.{FirstStart, FirstEnd, LastEnd, LastStart}
 use Rattle.gcl_eval.proofs.Found.{access_within, access_proper}
 use Rattle.gcl_eval.proofs.FarAccess.{far_access-by_near}
-use Rattle.gcl_eval.proofs.ChainRules.{farthest-cons, near_access-both, best-nil, best-cons, near_access-one, walk-beside, near_access-seq, far_access-seq}
+use Rattle.gcl_eval.proofs.ChainRules.{near_access-both, best-nil, best-cons, near_access-one, walk-beside, near_access-seq, far_access-seq}
 use Rattle.gcl_eval.proofs.OperandLemmas.{lists_beside}
 
 module _ (direction : Direction) (text : Text) (rest others : List Expr) (x : Expr) (e : rest ≡ beside direction x others) where

@@ -1,5 +1,5 @@
 -- From member to member of a list.
-use Rattle.std.proofs.Common.{◌≡◌, ℕ, ◌+◌, ◌*◌, ◌<◌, ◌≤◌, Bool, true, leb, List, [], ◌∷◌, ◌++◌, length, take, Some, None, refl, sym, ap, ◌∙◌, subst, arith, filter, append_assoc, inl, inr}
+use Rattle.std.proofs.Common.{◌≡◌, ℕ, ◌+◌, ◌<◌, ◌≤◌, Bool, true, leb, List, [], ◌∷◌, ◌++◌, length, take, Some, None, refl, sym, ap, ◌∙◌, subst, arith, filter, append_assoc, inl, inr}
 use Rattle.std.proofs.lemmas.Bool.{leb-true, leb-false, le-leb, lt-leb, cases_Bool}
 use Rattle.std.proofs.lemmas.List.{append-nil, length-append, take_all}
 use Rattle.std.proofs.Math.Seq.{take-append_seam}
@@ -61,7 +61,3 @@ module _ (list all members : List Extent) (k : ℕ) (kept : members ++ members_f
 
 pub put_counted : (members new : List Extent) (a : Extent) → new ≡ members ++ a ∷ [] → length new ≡ length members + 1
 put_counted members new a put = ap length put ∙ length-append members (a ∷ [])
-
--- one access more
-pub one_more : (entry before after turns bound : ℕ) → before ≤ entry + turns * bound → after ≤ before + bound → after ≤ entry + (turns + 1) * bound
-one_more entry before after turns bound le more = omega arith

@@ -264,7 +264,8 @@ fn next_past<C: CountedLeaves>(
 ) -> Option<Interval>
     requires operands { AreOperands (operand_forms operands.now) }
     requires within { IfSome near (λ a. a.end < address_end) }
-    ensures answer { result ≡ next_past direction (concordance (C.text source.now) (seq (operand_forms operands.now))) (C.text source.now).first (C.text source.now).next near }
+    ensures answer { result ≡
+        next_past direction (concordance (C.text source.now) (seq (operand_forms operands.now))) (C.text source.now).first (C.text source.now).next near }
     ensures counted { C.count counter.old ≤ C.count counter.new }
     ensures cost { C.count counter.new ≤ C.count counter.old + 2 * operand_costs (C.text source.now) (C.most source.now) operands.now }
 {

@@ -51,8 +51,10 @@ pub fn list<L: Leaves, S: Ledger>(
     requires well_formed { IsWellFormed (form_of expr.now) }
     ensures ok { IfOk result (λ members. members ≡ take most (concordance (L.text leaves.now) (form_of expr.now))) }
     ensures counted { steps.old ≤ steps.new }
-    ensures cost { steps.new ≤ steps.old + (length (take most (concordance (L.text leaves.now) (form_of expr.now))) + 1) * cost (L.text leaves.now) (L.most leaves.now) (form_of expr.now) }
-    ensures near_cost { steps.new ≤ steps.old + (length (take most (concordance (L.text leaves.now) (form_of expr.now))) + 1) * near_cost (L.text leaves.now) (L.most leaves.now) (form_of expr.now) }
+    ensures cost { steps.new ≤ steps.old +
+        (length (take most (concordance (L.text leaves.now) (form_of expr.now))) + 1) * cost (L.text leaves.now) (L.most leaves.now) (form_of expr.now) }
+    ensures near_cost { steps.new ≤ steps.old +
+        (length (take most (concordance (L.text leaves.now) (form_of expr.now))) + 1) * near_cost (L.text leaves.now) (L.most leaves.now) (form_of expr.now) }
 {
     list_from(alloc, expr, leaves, 0, most, steps)
 }
@@ -70,8 +72,12 @@ pub fn list_from<L: Leaves, S: Ledger>(
     requires below { k < far }
     ensures ok { IfOk result (λ members. members ≡ take most (members_from (concordance (L.text leaves.now) (form_of expr.now)) k)) }
     ensures counted { steps.old ≤ steps.new }
-    ensures cost { steps.new ≤ steps.old + (length (take most (members_from (concordance (L.text leaves.now) (form_of expr.now)) k)) + 1) * cost (L.text leaves.now) (L.most leaves.now) (form_of expr.now) }
-    ensures near_cost { steps.new ≤ steps.old + (length (take most (members_from (concordance (L.text leaves.now) (form_of expr.now)) k)) + 1) * near_cost (L.text leaves.now) (L.most leaves.now) (form_of expr.now) }
+    ensures cost { steps.new ≤ steps.old +
+        (length (take most (members_from (concordance (L.text leaves.now) (form_of expr.now)) k)) + 1) *
+        cost (L.text leaves.now) (L.most leaves.now) (form_of expr.now) }
+    ensures near_cost { steps.new ≤ steps.old +
+        (length (take most (members_from (concordance (L.text leaves.now) (form_of expr.now)) k)) + 1) *
+        near_cost (L.text leaves.now) (L.most leaves.now) (form_of expr.now) }
 {
     let source = LentLeaves::<L, S>::new(leaves);
     members_of(alloc, expr, &source, Page { from: k, most }, steps)
@@ -95,8 +101,12 @@ fn members_of<C: CountedLeaves>(
     requires below { page.from < far }
     ensures ok { IfOk result (λ members. members ≡ take page.most (members_from (concordance (C.text source.now) (form_of expr.now)) page.from)) }
     ensures counted { C.count counter.old ≤ C.count counter.new }
-    ensures cost { C.count counter.new ≤ C.count counter.old + (length (take page.most (members_from (concordance (C.text source.now) (form_of expr.now)) page.from)) + 1) * cost (C.text source.now) (C.most source.now) (form_of expr.now) }
-    ensures near_cost { C.count counter.new ≤ C.count counter.old + (length (take page.most (members_from (concordance (C.text source.now) (form_of expr.now)) page.from)) + 1) * near_cost (C.text source.now) (C.most source.now) (form_of expr.now) }
+    ensures cost { C.count counter.new ≤ C.count counter.old +
+        (length (take page.most (members_from (concordance (C.text source.now) (form_of expr.now)) page.from)) + 1) *
+        cost (C.text source.now) (C.most source.now) (form_of expr.now) }
+    ensures near_cost { C.count counter.new ≤ C.count counter.old +
+        (length (take page.most (members_from (concordance (C.text source.now) (form_of expr.now)) page.from)) + 1) *
+        near_cost (C.text source.now) (C.most source.now) (form_of expr.now) }
 {
     let mut known = [None; MOST_KNOWN];
     let mut members = IntervalList::new(alloc);

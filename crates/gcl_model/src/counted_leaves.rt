@@ -44,7 +44,8 @@ pub trait CountedLeaves {
     fn earliest_pair(&self, first: &[u8], second: &[u8], k: u64) -> Pair
         ensures from { k ≤ result.at }
         ensures none { any_pair (text self.now).words first.now second.now k result.at ≡ false }
-        ensures found { IsTrue result.found → (holds (text self.now).words first.now result.at ≡ true) × (holds (text self.now).words second.now (result.at + 1) ≡ true) };
+        ensures found { IsTrue result.found → (holds (text self.now).words first.now result.at ≡ true) ×
+            (holds (text self.now).words second.now (result.at + 1) ≡ true) };
 
     /// The addresses, and what holds of the words.
     fn span(&self) -> Span

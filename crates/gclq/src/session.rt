@@ -44,7 +44,8 @@ pub fn answer<R: Threads + Wait + Sync + Eprint, F: FaultName, S: Source, K: Sin
     // leave; but where a keep answered an error that is so of every name but the one that the next line saves. None did, unless the status
     // names a fault of a file or want of memory.
     ensures stopped { WhereTold greatest_limits (first_of words.now) (S.left source.old) (F.held files.old) (λ start script.
-        HasStopped greatest_limits start (lines most_line script) (F.unkept files.new ≡ F.unkept files.old) (F.held files.new) (K.written sink.old) (K.written sink.new)) }
+        HasStopped greatest_limits start (lines most_line script) (F.unkept files.new ≡ F.unkept files.old)
+        (F.held files.new) (K.written sink.old) (K.written sink.new)) }
     ensures sure { IsSureOfFiles (exit_status result) → F.unkept files.new ≡ F.unkept files.old }
     ensures part { WhereTold greatest_limits (first_of words.now) (S.left source.old) (F.held files.old) (λ start script.
         GetsPart (K.written sink.old) (K.written sink.new) (output start script)) }
@@ -80,10 +81,13 @@ pub fn answer<R: Threads + Wait + Sync + Eprint, F: FaultName, S: Source, K: Sin
 
     // Over a made corpus the sink gets the summary of the output, or the beginning of the summary, and no other object is touched.
     // Where it did not fail, all is answered, or memory is wanted.
-    ensures summed { exit_status result ≡ 0 → WhereMadeBy (options_of words.now) (λ made start. IsSummed made start false (K.written sink.old) (K.written sink.new)) }
-    ensures summed_with_refusals { exit_status result ≡ 1 → WhereMadeBy (options_of words.now) (λ made start. IsSummed made start true (K.written sink.old) (K.written sink.new)) }
+    ensures summed { exit_status result ≡ 0 →
+        WhereMadeBy (options_of words.now) (λ made start. IsSummed made start false (K.written sink.old) (K.written sink.new)) }
+    ensures summed_with_refusals { exit_status result ≡ 1 →
+        WhereMadeBy (options_of words.now) (λ made start. IsSummed made start true (K.written sink.old) (K.written sink.new)) }
     ensures part_summed { WhereMadeBy (options_of words.now) (λ made start. GetsPart (K.written sink.old) (K.written sink.new) (made_summary made start)) }
-    ensures complete_made { IfSome (options_of words.now) (λ options. IsSome options.made → ¬ Rose (K.faults sink.old) (K.faults sink.new) → IsEnd (exit_status result)) }
+    ensures complete_made { IfSome (options_of words.now) (λ options. IsSome options.made → ¬ Rose (K.faults sink.old) (K.faults sink.new) →
+        IsEnd (exit_status result)) }
     ensures untouched_by_made { IfSome (options_of words.now) (λ options. IsSome options.made → (source.new ≡ source.old) × (files.new ≡ files.old)) }
 {
     let status = run(rt, alloc, words, files, source, sink, &FreeGate);

@@ -1,6 +1,7 @@
 -- Which bytes are an image of which collection.
 use Rattle.std.specs.Prelude.{◌≡◌, ℕ, ◌^◌, ◌<◌, ◌≤◌, List, [], ◌∷◌, length, map}
 use Rattle.std.specs.List.{AllByRecursion}
+use Rattle.posting_code.specs.Numbers.{number_end}
 use Rattle.gcl_model.specs.Texts.{Word, places}
 use Rattle.gcl_model.specs.Collections.{Collection, IsSound, words_of}
 use Rattle.gcl_model.specs.Limits.{address_end}
@@ -30,7 +31,7 @@ end_of Two = address_end
 -- a term has fewer bytes than this
 abbrev pub most_term : Format → ℕ
 most_term One = 2 ^ 32
-most_term Two = 2 ^ 56
+most_term Two = number_end
 
 -- every token is short enough
 abbrev pub AreShort : Format → List TermEntry → Type 0
@@ -63,7 +64,7 @@ forgotten c = record c { dels = 0 }
 
 -- no token of the words is too long to be written
 abbrev pub HasShortTokens : Collection → Type 0
-HasShortTokens c = AllByRecursion (λ w. length w.token < 2 ^ 56) (words_of c)
+HasShortTokens c = AllByRecursion (λ w. length w.token < number_end) (words_of c)
 
 -- the version stands for a sound collection without such a token
 pub record IsSavedAs (v : VersionContent) (c : Collection) : Type 0 where

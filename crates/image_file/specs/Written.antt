@@ -1,5 +1,7 @@
 -- What the writer goes through, for this crate alone.
 use Rattle.std.specs.Prelude.{◌≡◌, ℕ, ◌+◌, ◌-◌, ◌^◌, ◌<◌, ◌≤◌, List, [], ◌∷◌, length, flat_map}
+use Rattle.posting_code.specs.Numbers.{number_end}
+use Rattle.gcl_model.specs.Limits.{address_end}
 use Rattle.address_space.specs.Runs.{FileEntry}
 use Rattle.index_shard.specs.Tables.{TermEntry}
 use Rattle.live_version.specs.Contents.{VersionContent, live_of}
@@ -10,9 +12,9 @@ use Rattle.image_file.specs.Images.{AreShort, AreTermsOf}
 -- the file has at least these id and address, and each of its numbers can be packed
 pub record CanPack (least at : ℕ) (file : FileEntry) : Type 0 where
   pub id : least ≤ file.id
-  pub small : file.id < 2 ^ 56
+  pub small : file.id < number_end
   pub base : at ≤ file.base
-  pub end : file.base + file.len ≤ 2 ^ 56
+  pub end : file.base + file.len ≤ address_end
   pub len : 2 ≤ file.len
   pub name : length file.name < 2 ^ 32
 
@@ -31,12 +33,12 @@ pub record FitsLong (file : FileEntry) : Type 0 where
 -- and in version 2, behind these id and address
 pub record FitsShort (least at : ℕ) (file : FileEntry) : Type 0 where
   pub least_id : least ≤ file.id
-  pub id : file.id - least < 2 ^ 56
+  pub id : file.id - least < number_end
   pub least_base : at ≤ file.base
-  pub base : file.base - at < 2 ^ 56
+  pub base : file.base - at < number_end
   pub least_len : 2 ≤ file.len
-  pub len : file.len - 2 < 2 ^ 56
-  pub name : length file.name < 2 ^ 56
+  pub len : file.len - 2 < number_end
+  pub name : length file.name < number_end
 
 -- the bytes are the spelling of so many terms, which are those of the version's words
 pub record IsTextOf (v : VersionContent) (number : ℕ) (text : List ℕ) (table : List TermEntry) : Type 0 where

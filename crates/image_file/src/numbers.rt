@@ -1,4 +1,5 @@
-ghost use Rattle.std.specs.Prelude.{◌≡◌, ◌^◌, ◌<◌, ◌++◌, length, OnOk};
+ghost use Rattle.std.specs.Prelude.{◌≡◌, ◌<◌, ◌++◌, length, OnOk};
+ghost use Rattle.posting_code.specs.Numbers.{number_end};
 ghost use Rattle.image_file.specs.Fields.{eight_bytes, short_text};
 
 use byteorder::{ByteOrder, LittleEndian};
@@ -17,7 +18,7 @@ pub(crate) fn put_eight(out: &mut Vec<u8>, n: u64) -> Result<(), AllocError>
 
 /// Puts a packed length and so many bytes behind the others.
 pub(crate) fn put_text(out: &mut Vec<u8>, text: &[u8]) -> Result<(), AllocError>
-    requires { length text.now < 2 ^ 56 }
+    requires { length text.now < number_end }
     ensures { OnOk result (out.new.items ≡ out.old.items ++ short_text text.now) }
 {
     put_number(out, text.len() as u64)?;

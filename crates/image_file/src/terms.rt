@@ -1,5 +1,7 @@
-ghost use Rattle.std.specs.Prelude.{◌≡◌, ◌^◌, ◌<◌, ◌++◌, length, IfOk, OnOk};
+ghost use Rattle.std.specs.Prelude.{◌≡◌, ◌<◌, ◌++◌, length, IfOk, OnOk};
 ghost use Rattle.std.specs.List.{AllByRecursion};
+ghost use Rattle.posting_code.specs.Numbers.{number_end};
+ghost use Rattle.gcl_model.specs.Limits.{address_end};
 ghost use Rattle.posting_code.specs.Packed.{packed_from};
 ghost use Rattle.posting_code.specs.Postings.{RiseWithin};
 ghost use Rattle.live_version.specs.Contents.{live_of};
@@ -21,7 +23,7 @@ pub(crate) struct TermText {
 
 /// The terms that have a live posting.
 pub(crate) fn terms_text(alloc: Global, version: &Version) -> Result<TermText, AllocError>
-    requires { AllByRecursion (λ w. length w.token < 2 ^ 56) (live_of version.now.slots) }
+    requires { AllByRecursion (λ w. length w.token < number_end) (live_of version.now.slots) }
     ensures { IfOk result (λ text. IsTermText version.now text.count text.bytes.items) }
 {
     let mut terms = SlotTerms::new(alloc, version.slots())?;
@@ -42,9 +44,9 @@ pub(crate) fn terms_text(alloc: Global, version: &Version) -> Result<TermText, A
 
 /// Puts a term and its addresses behind the bytes.
 fn put_term(out: &mut Vec<u8>, first: u64, term: &[u8], addresses: &[u64]) -> Result<(), AllocError>
-    requires short { length term.now < 2 ^ 56 }
+    requires short { length term.now < number_end }
     requires some { 0 < length addresses.now }
-    requires rising { RiseWithin first (2 ^ 56) addresses.now }
+    requires rising { RiseWithin first address_end addresses.now }
     ensures { OnOk result (out.new.items ≡ out.old.items ++ short_term first (record { term = term.now; addresses = addresses.now })) }
 {
     put_text(out, term)?;
@@ -55,7 +57,7 @@ fn put_term(out: &mut Vec<u8>, first: u64, term: &[u8], addresses: &[u64]) -> Re
 
 /// Puts each address behind the bytes, as its difference from the one before.
 fn put_differences(out: &mut Vec<u8>, from: u64, addresses: &[u64]) -> Result<(), AllocError>
-    requires { RiseWithin from (2 ^ 56) addresses.now }
+    requires { RiseWithin from address_end addresses.now }
     ensures { OnOk result (out.new.items ≡ out.old.items ++ packed_from from addresses.now) }
 {
     let mut before = from;

@@ -1,5 +1,6 @@
-ghost use Rattle.std.specs.Prelude.{◌≡◌, ◌+◌, ◌≤◌, ◌<◌, ◌^◌, true, length, IfOk, IfSome, IsTrue};
+ghost use Rattle.std.specs.Prelude.{◌≡◌, ◌+◌, ◌≤◌, ◌<◌, true, length, IfOk, IfSome, IsTrue};
 ghost use Rattle.std.specs.List.{AllByRecursion};
+ghost use Rattle.posting_code.specs.Numbers.{number_end};
 ghost use Rattle.gcl_model.specs.Collections.{IsToken, width_of};
 ghost use Rattle.gcl_model.specs.Limits.{address_end, most_slots, version_end};
 ghost use Rattle.gcl_model.specs.Names.{is_name};
@@ -89,7 +90,7 @@ fn saved(
     requires fits { version.now.next + width_of tokens.now ≤ address_end }
     requires named { is_name file.name ≡ true }
     requires are { AllByRecursion IsToken tokens.now }
-    requires short { AllByRecursion (λ token. length token < 2 ^ 56) tokens.now }
+    requires short { AllByRecursion (λ token. length token < number_end) tokens.now }
     ensures { IfOk result CanBeSaved }
 {
     version.with_file(file, shard)
@@ -97,7 +98,7 @@ fn saved(
 
 #[tactic(auto, using(crate::proofs::Saving::short_left))]
 fn are_short(tokens: &[Bytes]) -> bool
-    ensures { IsTrue result → AllByRecursion (λ token. length token < 2 ^ 56) tokens.now }
+    ensures { IsTrue result → AllByRecursion (λ token. length token < number_end) tokens.now }
 {
     for token in tokens {
         if token.len() >= 1 << 56 {

@@ -5,7 +5,7 @@ use Rattle.std.specs.Option.{option_map}
 use Rattle.gcl_model.specs.Collections.{FitsHole, IsToken, file_start, file_end}
 use Rattle.gcl_model.specs.Names.{is_name}
 use Rattle.byteorder.specs.Endian.{little_bytes}
-use Rattle.posting_code.specs.Numbers.{spelling}
+use Rattle.posting_code.specs.Numbers.{spelling, number_end}
 use Rattle.posting_code.specs.Packed.{packed_from}
 use Rattle.posting_code.specs.Postings.{RiseWithin}
 use Rattle.address_space.specs.Runs.{FileEntry, IsFileRun}
@@ -31,12 +31,12 @@ pub record IsFixed (n : ℕ) (whole : List ℕ) (value : ℕ) (rest : List ℕ) 
 
 -- bytes begin with a packed number
 pub record IsPacked (whole : List ℕ) (value : ℕ) (rest : List ℕ) : Type 0 where
-  pub small : value < 2 ^ 56
+  pub small : value < number_end
   pub bytes : whole ≡ spelling value ++ rest
 
 -- bytes begin with no packed number
 abbrev pub HasNoPacked : List ℕ → Type 0
-HasNoPacked bytes = (n : ℕ) (rest : List ℕ) → n < 2 ^ 56 → bytes ≡ spelling n ++ rest → ⊥
+HasNoPacked bytes = (n : ℕ) (rest : List ℕ) → n < number_end → bytes ≡ spelling n ++ rest → ⊥
 
 -- the numbers at the front of an image, and what stands behind them
 pub record IsHead (format : Format) (first next next_id count : ℕ) (whole rest : List ℕ) : Type 0 where
@@ -130,7 +130,7 @@ HasNoText format bytes = (text rest : List ℕ) → IsTextFront format bytes tex
 -- a number of addresses has room in its field below this
 abbrev pub count_end : Format → ℕ
 count_end One = 2 ^ 64
-count_end Two = 2 ^ 56 + 1
+count_end Two = number_end + 1
 
 -- the bytes begin with a number of addresses
 pub record IsCountFront (format : Format) (whole : List ℕ) (n : ℕ) (rest : List ℕ) : Type 0 where
@@ -140,7 +140,7 @@ pub record IsCountFront (format : Format) (whole : List ℕ) (n : ℕ) (rest : L
 
 -- the bytes begin with the number of addresses of no term
 abbrev pub HasNoCount : Format → List ℕ → Type 0
-HasNoCount format bytes = (n : ℕ) (rest : List ℕ) → n ≤ 2 ^ 56 → IsCountFront format bytes n rest → ⊥
+HasNoCount format bytes = (n : ℕ) (rest : List ℕ) → n ≤ number_end → IsCountFront format bytes n rest → ⊥
 
 -- what a term stands for: `<file!>` for the start of a file, `</file!>` for its end
 abbrev pub role_of : List ℕ → Role

@@ -1,4 +1,5 @@
-ghost use Rattle.std.specs.Prelude.{◌≡◌, ◌≤◌, ◌^◌, IfOk, IfSome, IsNone};
+ghost use Rattle.std.specs.Prelude.{◌≡◌, ◌≤◌, IfOk, IfSome, IsNone};
+ghost use Rattle.gcl_model.specs.Limits.{address_end};
 ghost use Rattle.image_read.specs.Reading.{HasNoAddresses, HasNoCount, IsAddressesFront, IsCountFront, SeesAll};
 
 use crate::front::{NumberFront, eight_in_front, packed_in_front};
@@ -24,7 +25,7 @@ pub(crate) fn read_addresses<'a>(
     bytes: &'a [u8],
 ) -> Result<Option<AddressesFront<'a>>, AllocError>
     requires ordered { head.first ≤ head.next }
-    requires in_range { head.next ≤ 2 ^ 56 }
+    requires in_range { head.next ≤ address_end }
     ensures some { IfOk result (λ found. IfSome found (λ f. IsAddressesFront head.format head.first head.next places.old role bytes.now f.list f.rest.now)) }
     ensures files { IfOk result (λ found. places.new.files ≡ places.old.files) }
     ensures sees { IfOk result (λ found. IfSome found (λ f. SeesAll places.old places.new f.list)) }

@@ -1,4 +1,5 @@
-ghost use Rattle.std.specs.Prelude.{◌≡◌, ◌+◌, ◌≤◌, ◌<◌, ◌^◌, ◌↔◌, IfOk, IfSome, IsNone, IsTrue};
+ghost use Rattle.std.specs.Prelude.{◌≡◌, ◌+◌, ◌≤◌, ◌<◌, ◌↔◌, IfOk, IfSome, IsNone, IsTrue};
+ghost use Rattle.gcl_model.specs.Limits.{address_end};
 ghost use Rattle.gcl_model.specs.Collections.{FitsHole};
 ghost use Rattle.image_file.specs.declared.format.Format.TheVariants.{One, Two};
 ghost use Rattle.image_read.specs.Reading.{HasNoFile, HasNoFiles, IsFileFront, IsFilesFront, IsNextFile};
@@ -42,9 +43,10 @@ pub(crate) fn read_files<'a>(
     bytes: &'a [u8],
 ) -> Result<Option<FilesFront<'a>>, AllocError>
     requires ordered { head.first ≤ head.next }
-    requires in_range { head.next ≤ 2 ^ 56 }
-    requires ids { head.next_id ≤ 2 ^ 56 }
-    ensures some { IfOk result (λ found. IfSome found (λ f. IsFilesFront head.format head.first head.next head.next_id head.files bytes.now f.files f.rest.now)) }
+    requires in_range { head.next ≤ address_end }
+    requires ids { head.next_id ≤ address_end }
+    ensures some { IfOk result (λ found. IfSome found (λ f.
+        IsFilesFront head.format head.first head.next head.next_id head.files bytes.now f.files f.rest.now)) }
     ensures none { IfOk result (λ found. IsNone found → HasNoFiles head.format head.first head.next head.next_id head.files bytes.now) }
 {
     let mut files = FileRun::new(alloc);
@@ -72,8 +74,8 @@ pub(crate) fn read_files<'a>(
 
 /// The file was found to fit, so neither sum passes the end.
 fn behind(file: FileFront<'_>) -> Least
-    requires id { file.id < 2 ^ 56 }
-    requires end { file.base + file.len ≤ 2 ^ 56 }
+    requires id { file.id < address_end }
+    requires end { file.base + file.len ≤ address_end }
     ensures id { result.id ≡ file.entry.id + 1 }
     ensures base { result.base ≡ file.entry.base + file.entry.len }
 {
@@ -85,7 +87,7 @@ fn behind(file: FileFront<'_>) -> Least
 
 fn record_of(alloc: Global, file: FileFront<'_>) -> Result<FileRecord, AllocError>
     requires len { 2 ≤ file.len }
-    requires end { file.base + file.len ≤ 2 ^ 56 }
+    requires end { file.base + file.len ≤ address_end }
     ensures { IfOk result (λ made. made ≡ entry file.entry.id file.entry.base file.entry.len file.entry.name.now) }
 {
     Ok(FileRecord {
@@ -98,8 +100,8 @@ fn record_of(alloc: Global, file: FileFront<'_>) -> Result<FileRecord, AllocErro
 
 /// The file at the front of some bytes, behind an id and an address.
 fn file_in_front<'a>(format: Format, least: Least, bytes: &'a [u8]) -> Option<FileFront<'a>>
-    requires id { least.id ≤ 2 ^ 56 }
-    requires base { least.base ≤ 2 ^ 56 }
+    requires id { least.id ≤ address_end }
+    requires base { least.base ≤ address_end }
     ensures some { IfSome result (λ f. IsFileFront format least.id least.base bytes.now (entry f.id f.base f.len f.name.now) f.rest.now) }
     ensures none { IsNone result → HasNoFile format least.id least.base bytes.now }
 {
@@ -128,8 +130,8 @@ fn long_file(bytes: &[u8]) -> Option<FileFront<'_>>
 }
 
 fn short_file(least: Least, bytes: &[u8]) -> Option<FileFront<'_>>
-    requires id { least.id ≤ 2 ^ 56 }
-    requires base { least.base ≤ 2 ^ 56 }
+    requires id { least.id ≤ address_end }
+    requires base { least.base ≤ address_end }
     ensures some { IfSome result (λ f. IsFileFront Two least.id least.base bytes.now (entry f.id f.base f.len f.name.now) f.rest.now) }
     ensures none { IsNone result → HasNoFile Two least.id least.base bytes.now }
 {

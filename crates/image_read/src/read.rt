@@ -1,5 +1,6 @@
-ghost use Rattle.std.specs.Prelude.{◌≡◌, ◌≤◌, ◌^◌, [], map, IfOk, IfSome, IsErrOf, IsNone};
+ghost use Rattle.std.specs.Prelude.{◌≡◌, ◌≤◌, [], map, IfOk, IfSome, IsErrOf, IsNone};
 ghost use Rattle.std.specs.Option.{option_to_list};
+ghost use Rattle.gcl_model.specs.Limits.{address_end};
 ghost use Rattle.gcl_model.specs.Slots.{ranges_spanned};
 ghost use Rattle.address_space.specs.Runs.{range_of};
 ghost use Rattle.index_shard.specs.Tables.{IsShard};
@@ -53,10 +54,11 @@ fn version_of(
     head: Head,
     front: FilesFront<'_>,
 ) -> Result<Option<Version>, AllocError>
-    requires in_range { head.next ≤ 2 ^ 56 }
+    requires in_range { head.next ≤ address_end }
     requires ordered { head.first ≤ head.next }
     requires files { AreAllFiles head.next head.next_id 0 head.first front.files }
-    ensures some { IfOk result (λ found. IfSome found (λ v. IsReadFrom head.format head.first head.next head.next_id front.entry.files front.entry.rest.now v)) }
+    ensures some { IfOk result (λ found. IfSome found (λ v.
+        IsReadFrom head.format head.first head.next head.next_id front.entry.files front.entry.rest.now v)) }
     ensures none { IfOk result (λ found. IsNone found → HasNoTerms head.format head.first head.next front.entry.files front.entry.rest.now) }
 {
     let Some(range) = range_of_files(&front) else {
@@ -78,7 +80,7 @@ fn shard_of(
     front: &FilesFront<'_>,
 ) -> Result<Option<Shard>, AllocError>
     requires ordered { head.first ≤ head.next }
-    requires in_range { head.next ≤ 2 ^ 56 }
+    requires in_range { head.next ≤ address_end }
     requires range { IsRangeOf range front.now.files }
     ensures some { IfOk result (λ found. IfSome found (λ shard. AreReadTerms head.format head.first head.next front.now.files front.now.rest.now shard.table)) }
     ensures range { IfOk result (λ found. IfSome found (λ shard. shard.range ≡ range)) }
@@ -93,7 +95,7 @@ fn shard_of(
 
 /// Without files there are no terms.
 fn empty_version(alloc: Global, head: Head, bytes: &[u8]) -> Result<Option<Version>, AllocError>
-    requires in_range { head.next ≤ 2 ^ 56 }
+    requires in_range { head.next ≤ address_end }
     requires ordered { head.first ≤ head.next }
     ensures some { IfOk result (λ found. IfSome found (λ v. IsReadFrom head.format head.first head.next head.next_id [] bytes.now v)) }
     ensures none { IfOk result (λ found. IsNone found → HasNoTerms head.format head.first head.next [] bytes.now) }

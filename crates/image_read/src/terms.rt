@@ -1,4 +1,5 @@
-ghost use Rattle.std.specs.Prelude.{◌≡◌, ◌≤◌, ◌^◌, ◌↔◌, ℕ, true, false, [], option_map, IfOk, IfSome, IsNone, IsTrue};
+ghost use Rattle.std.specs.Prelude.{◌≡◌, ◌≤◌, ◌↔◌, ℕ, true, false, [], option_map, IfOk, IfSome, IsNone, IsTrue};
+ghost use Rattle.gcl_model.specs.Limits.{address_end};
 ghost use Rattle.index_shard.specs.Tables.{ComesBefore, IsShard};
 ghost use Rattle.live_version.specs.Contents.{is_of_files};
 ghost use Rattle.image_read.specs.Reading.{HasNoTerms, HasNoText, HasRole, IsTextFront, is_seen};
@@ -33,7 +34,7 @@ pub(crate) fn read_terms(
     bytes: &[u8],
 ) -> Result<Option<Shard>, AllocError>
     requires ordered { head.first ≤ head.next }
-    requires in_range { head.next ≤ 2 ^ 56 }
+    requires in_range { head.next ≤ address_end }
     requires range { IsRangeOf range places.old.files }
     requires unseen { (p : ℕ) → is_seen places.old p ≡ false }
     ensures some { IfOk result (λ found. IfSome found (λ shard. AreReadTerms head.format head.first head.next places.old.files bytes.now shard.table)) }
@@ -77,7 +78,7 @@ fn next_term<'a>(
     bytes: &'a [u8],
 ) -> Result<Option<TextFront<'a>>, AllocError>
     requires ordered { head.first ≤ head.next }
-    requires in_range { head.next ≤ 2 ^ 56 }
+    requires in_range { head.next ≤ address_end }
     requires range { IsRangeOf maker.old.range places.old.files }
     requires last { option_map (λ t. t.now) last ≡ last_term maker.old.table }
     requires holds { HoldsTerms head.format head.first head.next places.old maker.old.table }

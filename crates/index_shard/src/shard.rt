@@ -133,7 +133,8 @@ impl Shard {
 
     /// The least term that is at least `low`, or above it with `strict`.
     pub fn term_from(&self, low: &[u8], strict: bool) -> Option<&[u8]>
-        ensures value { MatchOption result (least_term self.now.table low.now strict ≡ None) (λ term. least_term self.now.table low.now strict ≡ Some term.now) }
+        ensures value { MatchOption result (least_term self.now.table low.now strict ≡ None)
+            (λ term. least_term self.now.table low.now strict ≡ Some term.now) }
         ensures shard { IsShard self.now }
     {
         self.table.term_from(low, strict)

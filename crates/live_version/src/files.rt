@@ -43,7 +43,8 @@ impl Version {
 
     /// The surviving file with this id. In each slot it is looked for by halving.
     pub fn find_file(&self, id: FileId) -> Option<&FileRecord>
-        ensures value { MatchOption result (file_with_id id.0 (files_of self.now.slots) ≡ None) (λ file. file_with_id id.0 (files_of self.now.slots) ≡ Some file.now) }
+        ensures value { MatchOption result (file_with_id id.0 (files_of self.now.slots) ≡ None)
+            (λ file. file_with_id id.0 (files_of self.now.slots) ≡ Some file.now) }
         ensures version { IsVersion self.now }
     {
         let slots = self.slots();

@@ -9,7 +9,8 @@ impl Version {
     /// The least term of all slots' indexes that is at least `low`, or above it with `strict`. All of its postings may be dead: whether
     /// one is alive is a look-up. It takes no memory.
     pub fn term_from(&self, low: &[u8], strict: bool) -> Option<&[u8]>
-        ensures value { MatchOption result (terms_from (terms_of self.now.slots) low.now strict ≡ []) (λ term. IsLeastTerm (terms_from (terms_of self.now.slots) low.now strict) term.now) }
+        ensures value { MatchOption result (terms_from (terms_of self.now.slots) low.now strict ≡ [])
+            (λ term. IsLeastTerm (terms_from (terms_of self.now.slots) low.now strict) term.now) }
         ensures version { IsVersion self.now }
     {
         let slots = self.slots();
@@ -25,7 +26,8 @@ impl Version {
 pub fn earlier_term<'a>(first: Option<&'a [u8]>, second: Option<&'a [u8]>) -> Option<&'a [u8]>
     ensures first { IsNoLater (option_map (λ term. term.now) result) (option_map (λ term. term.now) first.entry) }
     ensures second { IsNoLater (option_map (λ term. term.now) result) (option_map (λ term. term.now) second.entry) }
-    ensures among { (option_map (λ term. term.now) result ≡ option_map (λ term. term.now) first.entry) ⊎ (option_map (λ term. term.now) result ≡ option_map (λ term. term.now) second.entry) }
+    ensures among { (option_map (λ term. term.now) result ≡ option_map (λ term. term.now) first.entry) ⊎
+        (option_map (λ term. term.now) result ≡ option_map (λ term. term.now) second.entry) }
 {
     match (first, second) {
         (Some(a), Some(b)) => match a.cmp(b) {

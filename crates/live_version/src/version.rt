@@ -32,7 +32,8 @@ impl Model for Version {
 
     ghost view = { λ v. version_content v.numbers.number v.numbers.edition v.numbers.first v.numbers.next v.numbers.next_id v.numbers.dels v.slots.items };
 
-    ghost invariant = { λ v. IsVersion (version_content v.numbers.number v.numbers.edition v.numbers.first v.numbers.next v.numbers.next_id v.numbers.dels v.slots.items) };
+    ghost invariant = { λ v.
+        IsVersion (version_content v.numbers.number v.numbers.edition v.numbers.first v.numbers.next v.numbers.next_id v.numbers.dels v.slots.items) };
 }
 
 impl Version {

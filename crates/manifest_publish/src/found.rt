@@ -13,6 +13,7 @@ use left_right::reader::Reader;
 use std::alloc::AllocError;
 use std::marker::Model;
 
+/// The reader of left_right that a reader of versions goes by.
 pub type Inner = Reader<Shown, View, Published>;
 
 /// The history up to the version that was found, and a pass of it, where its copy was not refused.

@@ -83,7 +83,8 @@ impl Reader {
         ensures publisher { self.new.publisher ≡ self.old.publisher }
         ensures pass { IfOk result (MayEnter self.old) }
         ensures kept { IfOk result (λ pass. self.new ≡ with_pass pass.publisher pass.history) }
-        ensures no_entry { (n : ℕ) → IsErrOf result (NoEntry n) → (self.new ≡ self.old) × IsOwed self.old × ((v : VersionContent) × IsLatest self.old.kept v × (n ≡ v.number)) }
+        ensures no_entry { (n : ℕ) → IsErrOf result (NoEntry n) → (self.new ≡ self.old) × IsOwed self.old ×
+            ((v : VersionContent) × IsLatest self.old.kept v × (n ≡ v.number)) }
         ensures no_memory { IsErrOf result NoMemory → IsRefused self.old self.new }
     {
         match look(&mut self.inner, &self.due) {
@@ -114,7 +115,8 @@ impl Reader {
 
     /// The last pass again, where nothing is owed.
     fn stay(&self) -> Result<Pass, EnterFault>
-        ensures pass { IfOk result (λ pass. (pass ≡ account self.now.publisher self.now.kept) × IsLawful self.now.kept × (self.now.told ≡ []) × (self.now.seen ≡ self.now.kept)) }
+        ensures pass { IfOk result (λ pass. (pass ≡ account self.now.publisher self.now.kept) × IsLawful self.now.kept × (self.now.told ≡ []) ×
+            (self.now.seen ≡ self.now.kept)) }
         ensures no_entry { (n : ℕ) → IsErrOf result (NoEntry n) → IsOwed self.now × ((v : VersionContent) × IsLatest self.now.kept v × (n ≡ v.number)) }
     {
         let number = self.kept.version().number();

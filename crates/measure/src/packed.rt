@@ -1,4 +1,5 @@
-ghost use Rattle.std.specs.Prelude.{◌^◌, ◌≤◌, IfOk};
+ghost use Rattle.std.specs.Prelude.{◌≤◌, IfOk};
+ghost use Rattle.gcl_model.specs.Limits.{address_end};
 ghost use Rattle.posting_code.specs.Postings.{RiseWithin};
 
 use crate::files::text_of;
@@ -44,8 +45,8 @@ fn differences_of(list: &Postings<'_>) -> u64 {
 /// rise, which no list has.
 fn put_block(maker: &mut PostingMaker, least: u64, members: &[u64]) -> Result<u64, AllocError>
     requires rising { RiseWithin 0 least maker.old }
-    requires below { least ≤ 2 ^ 56 }
-    ensures { IfOk result (λ next. RiseWithin 0 next maker.new × (next ≤ 2 ^ 56)) }
+    requires below { least ≤ address_end }
+    ensures { IfOk result (λ next. RiseWithin 0 next maker.new × (next ≤ address_end)) }
 {
     let mut next = least;
     for p in members {

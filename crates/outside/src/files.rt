@@ -139,7 +139,8 @@ impl Files for MemFiles {
         ensures cause { HasFileCause (⟦<MemFiles as Files>⟧.faults self.old) (⟦<MemFiles as Files>⟧.faults self.new) result }
         ensures counts { CountsFileFault (⟦<MemFiles as Files>⟧.faults self.old) (⟦<MemFiles as Files>⟧.faults self.new) result }
         ensures unkept { ⟦<MemFiles as Files>⟧.unkept self.new ≡ ⟦<MemFiles as Files>⟧.unkept self.old }
-        ensures planned { IsErrOf result FileError.Failed → IsDue (files_plan self.old) ⊎ IfSome (⟦<MemFiles as Files>⟧.held self.old) (λ contents. contents name.now ≡ None) }
+        ensures planned { IsErrOf result FileError.Failed → IsDue (files_plan self.old) ⊎
+            IfSome (⟦<MemFiles as Files>⟧.held self.old) (λ contents. contents name.now ≡ None) }
         ensures due { IsDue (files_plan self.old) → IsErrOf result FileError.Failed }
         ensures missing { IfSome (⟦<MemFiles as Files>⟧.held self.old) (λ contents. contents name.now ≡ None → IsErrOf result FileError.Failed) }
         ensures called { IsOneCallLater (files_plan self.old) (files_plan self.new) }

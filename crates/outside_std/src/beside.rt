@@ -7,7 +7,7 @@ use std::rt;
 /// How many names beside a path are tried. One that a killed program left behind is never written over.
 const TRIES: u32 = 1_000;
 
-// The name number `n` in the folder of a path. It is short, so that each path that can be kept has one.
+/// The name number `n` in the folder of a path. It is short, so that each path that can be kept has one.
 fn name_beside(alloc: Global, path: &str, n: u32) -> Result<String, AllocError> {
     match path.rsplit_once('/') {
         Some((folder, _)) => format!(in alloc; "{folder}/.gclq-{n}.new"),

@@ -22,6 +22,7 @@ pub struct TellsWriter<'a> {
 }
 
 impl<'a> TellsWriter<'a> {
+    /// It gives these answers, one to each write.
     pub fn new(answers: &'a [Tells]) -> Self {
         TellsWriter { answers, next: 0 }
     }
@@ -61,6 +62,7 @@ pub struct LackingDisk<'a> {
 }
 
 impl<'a> LackingDisk<'a> {
+    /// The files of `rt` with this lack.
     pub fn new(rt: &'a HostRuntime, lacks: Lacks) -> Self {
         LackingDisk { rt, lacks }
     }

@@ -62,7 +62,7 @@ impl<'a, R: rt::Files + AllocGlobal> StdFiles<'a, R> {
         self.call
     }
 
-    // Counts a fault, and keeps the call and the name.
+    /// Counts a fault, and keeps the call and the name.
     fn fault(&mut self, call: FileCall, name: &[u8])
         ensures later { self.old.faults ≤ self.new.faults }
         ensures rose { Rose self.old.faults self.new.faults }
@@ -73,7 +73,7 @@ impl<'a, R: rt::Files + AllocGlobal> StdFiles<'a, R> {
         self.last = Bytes::copy_of(self.rt.alloc(), name).ok();
     }
 
-    // Puts the bytes under a name, and counts no keep.
+    /// Puts the bytes under a name, and counts no keep.
     fn put(&mut self, name: &[u8], bytes: &[u8]) -> Result<(), FileError>
         ensures cause { HasFileCause self.old.faults self.new.faults result }
         ensures counts { CountsFileFault self.old.faults self.new.faults result }
@@ -94,7 +94,7 @@ impl<'a, R: rt::Files + AllocGlobal> StdFiles<'a, R> {
     }
 }
 
-// Reads up to `most + 1` bytes into an empty buffer.
+/// Reads up to `most + 1` bytes into an empty buffer.
 fn read_up_to<R: Read>(file: &mut R, most: u64, out: &mut Vec<u8>) -> Result<Loaded, FileError>
     ensures size { Loads None [] most result out.new.items }
     ensures bytes { Loads (content_left (R.remaining file.old)) [] most result out.new.items }
@@ -118,7 +118,7 @@ fn read_up_to<R: Read>(file: &mut R, most: u64, out: &mut Vec<u8>) -> Result<Loa
     Err(FileError::Failed)
 }
 
-// Writes a whole text, and says whether all of it was taken.
+/// Writes a whole text, and says whether all of it was taken.
 fn write_whole<W: Write>(writer: &mut W, text: &[u8]) -> bool
     ensures { IsTrue result → Appends (W.contents writer.old) (W.contents writer.new) text.now }
 {
@@ -132,7 +132,7 @@ fn write_whole<W: Write>(writer: &mut W, text: &[u8]) -> bool
     true
 }
 
-// A folder, a device or a pipe is no place for a file: a rename would put one there instead.
+/// A folder, a device or a pipe is no place for a file: a rename would put one there instead.
 fn is_place<R: rt::Files>(rt: &R, path: &str) -> bool {
     match fs::metadata(rt, path) {
         Ok(there) => there.is_file(),
@@ -140,7 +140,7 @@ fn is_place<R: rt::Files>(rt: &R, path: &str) -> bool {
     }
 }
 
-// Writes the bytes to a file of their own, which then takes the path. Until that step the old content stays.
+/// Writes the bytes to a file of their own, which then takes the path. Until that step the old content stays.
 fn replace<R: rt::Files + AllocGlobal>(rt: &R, path: &str, bytes: &[u8]) -> Result<(), FileError> {
     if !is_place(rt, path) {
         return Err(FileError::Failed);

@@ -10,7 +10,8 @@ pub record IsAskedWithin (m turn agreed : ℕ) (passed : ℕ → ℕ) (Agrees : 
   pub ring : IsRing m rounds turn agreed passed Agrees
   pub cost : now ≤ old + (rounds * m + turn) * most
 
-one_asked : (old now after n most : ℕ) → now ≤ old + n * most → after ≤ now + most → after ≤ old + (n + 1) * most
+-- one step more, at `most` at the most
+pub one_asked : (old now after n most : ℕ) → now ≤ old + n * most → after ≤ now + most → after ≤ old + (n + 1) * most
 one_asked old now after n most le step = omega arith
 
 pub asked_start : (m most old : ℕ) (passed : ℕ → ℕ) (Agrees : ℕ → Type 0) → IsAskedWithin m 0 0 passed Agrees most old old

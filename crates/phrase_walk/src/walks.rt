@@ -98,7 +98,8 @@ fn earliest_start<C: CountedLeaves>(tokens: &[Bytes], source: &C, turn: usize, s
     ensures from { start ≤ result.at }
     ensures within { result.at ≤ (C.text source.now).next }
     ensures none { NoneBefore (C.text source.now) tokens.now start result.at }
-    ensures found { IsTrue result.found → (turn ≡ 0) × IsInPlace (C.text source.now) tokens.now result.at 0 × IsFollowed (C.text source.now) tokens.now turn result.at }
+    ensures found { IsTrue result.found → (turn ≡ 0) × IsInPlace (C.text source.now) tokens.now result.at 0 ×
+        IsFollowed (C.text source.now) tokens.now turn result.at }
 {
     if turn > 0 || tokens.len() < 2 {
         return Pair {

@@ -37,9 +37,12 @@ impl Question for FirstMembers<'_> {
 
     ghost can_ask = { λ q. IsWellFormed (form_of q.expr.now) };
 
-    ghost answers = { λ q answer. (v : VersionContent) → IsLatest q.pass.now.history v → IfOk answer (λ members. members ≡ first_members (version_text v) (form_of q.expr.now) q.limit) };
+    ghost answers = { λ q answer. (v : VersionContent) → IsLatest q.pass.now.history v →
+        IfOk answer (λ members. members ≡ first_members (version_text v) (form_of q.expr.now) q.limit) };
 
-    ghost most = { λ q _. look_ups (version_text (last_of q.pass.now.history)) (access_most (last_of q.pass.now.history)) (form_of q.expr.now) (length (first_members (version_text (last_of q.pass.now.history)) (form_of q.expr.now) q.limit)) };
+    ghost most = { λ q _.
+        look_ups (version_text (last_of q.pass.now.history)) (access_most (last_of q.pass.now.history)) (form_of q.expr.now)
+        (length (first_members (version_text (last_of q.pass.now.history)) (form_of q.expr.now) q.limit)) };
 
     fn ask<S: Ledger>(&self, steps: &mut Steps<S>) -> Result<IntervalList, AllocError> {
         let _version = self.pass.version();
@@ -102,7 +105,8 @@ fn count(pass: &Pass, expr: &Expr) -> u64
 /// What is asked of the list of an expression over a pass, and of members at most a page. Its look-ups are not counted.
 pub fn find(alloc: Global, pass: &Pass, asked: Asked, expr: &Expr) -> Result<Found, AllocError>
     requires { IsWellFormed (form_of expr.now) }
-    ensures { (v : VersionContent) → IsLatest pass.now.history v → IfOk result (λ found. found ≡ found_in asked (concordance (version_text v) (form_of expr.now))) }
+    ensures { (v : VersionContent) → IsLatest pass.now.history v →
+        IfOk result (λ found. found ≡ found_in asked (concordance (version_text v) (form_of expr.now))) }
 {
     match asked {
         Asked::All => {

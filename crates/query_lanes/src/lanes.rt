@@ -113,11 +113,13 @@ fn run_halves<R: Threads + Sync, G: Gate + Sync>(
         return;
     }
     let mut low = ||
-        requires { IsSync R.row × IsSync G.row × (length works_low.now ≡ length readers_low.now) × (lanes ≤ most_readers) × (from + length readers_low.now ≤ lanes) }
+        requires { IsSync R.row × IsSync G.row × (length works_low.now ≡ length readers_low.now) × (lanes ≤ most_readers) ×
+            (from + length readers_low.now ≤ lanes) }
         ensures { AreRun asks.entry.now lanes from readers_low.entry.now readers_low.exit.now works_low.exit.now }
     { run_lanes(rt, alloc, gate, asks, from, lanes, works_low, readers_low) };
     let mut high = ||
-        requires { IsSync R.row × IsSync G.row × (length works_high.now ≡ length readers_high.now) × (lanes ≤ most_readers) × (up + length readers_high.now ≤ lanes) }
+        requires { IsSync R.row × IsSync G.row × (length works_high.now ≡ length readers_high.now) × (lanes ≤ most_readers) ×
+            (up + length readers_high.now ≤ lanes) }
         ensures { AreRun asks.entry.now lanes up readers_high.entry.now readers_high.exit.now works_high.exit.now }
     { run_lanes(rt, alloc, gate, asks, up, lanes, works_high, readers_high) };
     join_mut(rt, &mut low, &mut high);

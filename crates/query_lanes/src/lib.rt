@@ -6,9 +6,9 @@
 //! beside each batch.
 //!
 //! A query may have a pass of its own: then it is asked on the version of that, whatever was published since. So the layer above may put
-//! a query off, do lines that change the collection, and answer it with those that come behind them.
+//! a query off, do lines that change the collection, and answer it with those that come after them.
 //!
-//! Of a list at most a page is found, `PAGE` members. Whoever wants more asks for the page behind the last member that it has, with
+//! Of a list at most a page is found, `PAGE` members. Whoever wants more asks for the page after the last member that it has, with
 //! `page_behind`: so no whole list is kept, however long it is.
 //!
 //! Over the file `to be or not to be` from address 0 on, with two readers, the batch `find "to"`, `count "be"`, `top 1 "to"` is answered

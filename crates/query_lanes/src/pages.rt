@@ -43,9 +43,12 @@ impl Question for MembersFrom<'_> {
 
     ghost can_ask = { λ q. IsWellFormed (form_of q.expr.now) × (q.from < far) };
 
-    ghost answers = { λ q answer. (v : VersionContent) → IsLatest q.pass.now.history v → IfOk answer (λ members. members ≡ first_members_from (version_text v) (form_of q.expr.now) q.from q.limit) };
+    ghost answers = { λ q answer. (v : VersionContent) → IsLatest q.pass.now.history v →
+        IfOk answer (λ members. members ≡ first_members_from (version_text v) (form_of q.expr.now) q.from q.limit) };
 
-    ghost most = { λ q _. look_ups (version_text (last_of q.pass.now.history)) (access_most (last_of q.pass.now.history)) (form_of q.expr.now) (length (first_members_from (version_text (last_of q.pass.now.history)) (form_of q.expr.now) q.from q.limit)) };
+    ghost most = { λ q _.
+        look_ups (version_text (last_of q.pass.now.history)) (access_most (last_of q.pass.now.history)) (form_of q.expr.now)
+        (length (first_members_from (version_text (last_of q.pass.now.history)) (form_of q.expr.now) q.from q.limit)) };
 
     fn ask<S: Ledger>(&self, steps: &mut Steps<S>) -> Result<IntervalList, AllocError> {
         let _version = self.pass.version();
@@ -105,7 +108,8 @@ fn page_from(
 
 /// The address behind the start of a member: the next member starts there at the earliest.
 fn next_start(engine: &Engine, own: &Option<Pass>, expr: &Expr, last: Interval) -> u64
-    requires member { (before : List Extent) × (rest : List Extent) × (concordance (text_asked own.now (version_text engine.now.version)) (form_of expr.now) ≡ before ++ last ∷ rest) }
+    requires member { (before : List Extent) × (rest : List Extent) ×
+        (concordance (text_asked own.now (version_text engine.now.version)) (form_of expr.now) ≡ before ++ last ∷ rest) }
     ensures value { result ≡ last.start + 1 }
     ensures below { result < far }
 {
@@ -128,8 +132,10 @@ pub fn page_behind(
     most: u64,
 ) -> Result<IntervalList, AllocError>
     requires well_formed { IsWellFormed (form_of expr.now) }
-    requires member { (before : List Extent) × (rest : List Extent) × (concordance (text_asked own.now (version_text engine.now.version)) (form_of expr.now) ≡ before ++ last ∷ rest) }
-    ensures { IfOk result (λ page. (before rest : List Extent) → concordance (text_asked own.now (version_text engine.now.version)) (form_of expr.now) ≡ before ++ last ∷ rest → page ≡ take most rest) }
+    requires member { (before : List Extent) × (rest : List Extent) ×
+        (concordance (text_asked own.now (version_text engine.now.version)) (form_of expr.now) ≡ before ++ last ∷ rest) }
+    ensures { IfOk result (λ page. (before rest : List Extent) →
+        concordance (text_asked own.now (version_text engine.now.version)) (form_of expr.now) ≡ before ++ last ∷ rest → page ≡ take most rest) }
 {
     let from = next_start(engine, own, expr, last);
     let page = page_from(alloc, engine, own, expr, from, most)?;

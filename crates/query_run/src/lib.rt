@@ -1,6 +1,6 @@
 //! The top calls: `serve` answers the lines of a script on an engine, and `run` opens an engine, serves, and ends it.
 //!
-//! Contracts see the words, the files, the source and the sink that are lent to `run`. Where these tell what they
+//! Contracts see the words, the files, the source and the sink that are lent to `run`. Where it is known what these
 //! hold, the bytes written are the output of the script, which `specs/Answers.antt` defines: the answers to its lines,
 //! each in the state that the lines before it leave, and to a query the concordance list of its expression over the
 //! words of the surviving files, or its first members, or their number. A file that a line saves holds the one image of the

@@ -24,9 +24,13 @@ pub fn pass_list<S: Ledger>(
     steps: &mut Steps<S>,
 ) -> Result<IntervalList, AllocError>
     requires well_formed { IsWellFormed (form_of expr.now) }
-    ensures version { (v : VersionContent) → IsLatest pass.now.history v → IfOk result (λ members. members ≡ first_members (version_text v) (form_of expr.now) most) }
-    ensures collection { (v : VersionContent) (c : Collection) → IsLatest pass.now.history v → StandsFor v c → IfOk result (λ members. members ≡ first_members (text_of c) (form_of expr.now) most) }
-    ensures cost { (v : VersionContent) → IsLatest pass.now.history v → steps.new ≤ steps.old + look_ups (version_text v) (access_most v) (form_of expr.now) (length (first_members (version_text v) (form_of expr.now) most)) }
+    ensures version { (v : VersionContent) → IsLatest pass.now.history v →
+        IfOk result (λ members. members ≡ first_members (version_text v) (form_of expr.now) most) }
+    ensures collection { (v : VersionContent) (c : Collection) → IsLatest pass.now.history v → StandsFor v c →
+        IfOk result (λ members. members ≡ first_members (text_of c) (form_of expr.now) most) }
+    ensures cost { (v : VersionContent) → IsLatest pass.now.history v →
+        steps.new ≤ steps.old + look_ups (version_text v) (access_most v) (form_of expr.now)
+        (length (first_members (version_text v) (form_of expr.now) most)) }
 {
     list(alloc, expr, pass.version(), most, steps)
 }
@@ -42,9 +46,13 @@ pub fn pass_list_from<S: Ledger>(
 ) -> Result<IntervalList, AllocError>
     requires well_formed { IsWellFormed (form_of expr.now) }
     requires below { k < far }
-    ensures version { (v : VersionContent) → IsLatest pass.now.history v → IfOk result (λ members. members ≡ first_members_from (version_text v) (form_of expr.now) k most) }
-    ensures collection { (v : VersionContent) (c : Collection) → IsLatest pass.now.history v → StandsFor v c → IfOk result (λ members. members ≡ first_members_from (text_of c) (form_of expr.now) k most) }
-    ensures cost { (v : VersionContent) → IsLatest pass.now.history v → steps.new ≤ steps.old + look_ups (version_text v) (access_most v) (form_of expr.now) (length (first_members_from (version_text v) (form_of expr.now) k most)) }
+    ensures version { (v : VersionContent) → IsLatest pass.now.history v →
+        IfOk result (λ members. members ≡ first_members_from (version_text v) (form_of expr.now) k most) }
+    ensures collection { (v : VersionContent) (c : Collection) → IsLatest pass.now.history v → StandsFor v c →
+        IfOk result (λ members. members ≡ first_members_from (text_of c) (form_of expr.now) k most) }
+    ensures cost { (v : VersionContent) → IsLatest pass.now.history v →
+        steps.new ≤ steps.old + look_ups (version_text v) (access_most v) (form_of expr.now)
+        (length (first_members_from (version_text v) (form_of expr.now) k most)) }
 {
     list_from(alloc, expr, pass.version(), k, most, steps)
 }
@@ -53,8 +61,10 @@ pub fn pass_list_from<S: Ledger>(
 pub fn pass_count<S: Ledger>(pass: &Pass, expr: &Expr, steps: &mut Steps<S>) -> u64
     requires well_formed { IsWellFormed (form_of expr.now) }
     ensures version { (v : VersionContent) → IsLatest pass.now.history v → result ≡ length (concordance (version_text v) (form_of expr.now)) }
-    ensures collection { (v : VersionContent) (c : Collection) → IsLatest pass.now.history v → StandsFor v c → result ≡ length (concordance (text_of c) (form_of expr.now)) }
-    ensures cost { (v : VersionContent) → IsLatest pass.now.history v → steps.new ≤ steps.old + look_ups (version_text v) (access_most v) (form_of expr.now) result }
+    ensures collection { (v : VersionContent) (c : Collection) → IsLatest pass.now.history v → StandsFor v c →
+        result ≡ length (concordance (text_of c) (form_of expr.now)) }
+    ensures cost { (v : VersionContent) → IsLatest pass.now.history v →
+        steps.new ≤ steps.old + look_ups (version_text v) (access_most v) (form_of expr.now) result }
 {
     count(expr, pass.version(), steps)
 }

@@ -22,7 +22,9 @@ pub(crate) fn list<S: Ledger>(
 ) -> Result<IntervalList, AllocError>
     requires well_formed { IsWellFormed (form_of expr.now) }
     ensures ok { IfOk result (λ members. members ≡ first_members (version_text version.now) (form_of expr.now) most) }
-    ensures cost { steps.new ≤ steps.old + look_ups (version_text version.now) (access_most version.now) (form_of expr.now) (length (first_members (version_text version.now) (form_of expr.now) most)) }
+    ensures cost { steps.new ≤ steps.old +
+        look_ups (version_text version.now) (access_most version.now) (form_of expr.now)
+        (length (first_members (version_text version.now) (form_of expr.now) most)) }
 {
     list_named::<Brand, S>(alloc, expr, version, most, steps)
 }
@@ -39,7 +41,9 @@ pub(crate) fn list_from<S: Ledger>(
     requires well_formed { IsWellFormed (form_of expr.now) }
     requires below { k < far }
     ensures ok { IfOk result (λ members. members ≡ first_members_from (version_text version.now) (form_of expr.now) k most) }
-    ensures cost { steps.new ≤ steps.old + look_ups (version_text version.now) (access_most version.now) (form_of expr.now) (length (first_members_from (version_text version.now) (form_of expr.now) k most)) }
+    ensures cost { steps.new ≤ steps.old +
+        look_ups (version_text version.now) (access_most version.now) (form_of expr.now)
+        (length (first_members_from (version_text version.now) (form_of expr.now) k most)) }
 {
     list_from_named::<Brand, S>(alloc, expr, version, k, most, steps)
 }
@@ -63,7 +67,9 @@ fn list_named<J: Naming, S: Ledger>(
     requires named { version.now ≡ J.version }
     requires well_formed { IsWellFormed (form_of expr.now) }
     ensures ok { IfOk result (λ members. members ≡ first_members (version_text version.now) (form_of expr.now) most) }
-    ensures cost { steps.new ≤ steps.old + look_ups (version_text version.now) (access_most version.now) (form_of expr.now) (length (first_members (version_text version.now) (form_of expr.now) most)) }
+    ensures cost { steps.new ≤ steps.old +
+        look_ups (version_text version.now) (access_most version.now) (form_of expr.now)
+        (length (first_members (version_text version.now) (form_of expr.now) most)) }
 {
     let fingers = Fingers::<J>::of(version, expr);
     gcl_eval::list(alloc, expr, &fingers, most, steps)
@@ -81,7 +87,9 @@ fn list_from_named<J: Naming, S: Ledger>(
     requires well_formed { IsWellFormed (form_of expr.now) }
     requires below { k < far }
     ensures ok { IfOk result (λ members. members ≡ first_members_from (version_text version.now) (form_of expr.now) k most) }
-    ensures cost { steps.new ≤ steps.old + look_ups (version_text version.now) (access_most version.now) (form_of expr.now) (length (first_members_from (version_text version.now) (form_of expr.now) k most)) }
+    ensures cost { steps.new ≤ steps.old +
+        look_ups (version_text version.now) (access_most version.now) (form_of expr.now)
+        (length (first_members_from (version_text version.now) (form_of expr.now) k most)) }
 {
     let fingers = Fingers::<J>::of(version, expr);
     gcl_eval::list_from(alloc, expr, &fingers, k, most, steps)

@@ -106,7 +106,8 @@ impl LineFeed {
     /// Takes in the next piece of the text.
     pub fn push(&mut self, piece: &[u8]) -> Result<(), AllocError>
         requires { has_newline self.old.held ≡ false }
-        ensures lines { OnOk result ((later : List ℕ) → lines self.old.most (self.new.held ++ later) ≡ lines self.old.most (self.old.held ++ piece.now ++ later)) }
+        ensures lines { OnOk result ((later : List ℕ) →
+            lines self.old.most (self.new.held ++ later) ≡ lines self.old.most (self.old.held ++ piece.now ++ later)) }
         ensures bound { length self.new.held ≤ length self.old.held + length piece.now }
         ensures most { self.new.most ≡ self.old.most }
         ensures err { OnErr result (self.new ≡ self.old) }
@@ -158,7 +159,8 @@ impl LineFeed {
 
     /// Takes the whole lines that are held, all at once.
     pub fn take_ready(&mut self)
-        ensures lines { (later : List ℕ) → lines self.old.most (self.old.held ++ later) ≡ lines self.old.most (ended self.old.held) ++ lines self.old.most (self.new.held ++ later) }
+        ensures lines { (later : List ℕ) →
+            lines self.old.most (self.old.held ++ later) ≡ lines self.old.most (ended self.old.held) ++ lines self.old.most (self.new.held ++ later) }
         ensures parts { self.old.held ≡ ended self.old.held ++ self.new.held }
         ensures none { has_newline self.new.held ≡ false }
         ensures whole { length (ended self.old.held) + length self.new.held ≡ length self.old.held }

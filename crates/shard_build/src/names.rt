@@ -1,6 +1,7 @@
-ghost use Rattle.std.specs.Prelude.{◌≡◌, ◌^◌, ◌<◌, [], ◌∷◌, ◌++◌, List, ℕ, None, Some, length, if◌then◌else◌, bytes_eq, unwrap_or, IfOk, IfSome, OnOk};
+ghost use Rattle.std.specs.Prelude.{◌≡◌, ◌<◌, [], ◌∷◌, ◌++◌, List, ℕ, None, Some, length, if◌then◌else◌, bytes_eq, unwrap_or, IfOk, IfSome, OnOk};
 ghost use Rattle.std.specs.List.{IsDistinct};
 ghost use Rattle.std.specs.Map.{keys_of};
+ghost use Rattle.gcl_model.specs.Limits.{address_end};
 ghost use Rattle.indexmap.specs.IndexMap.{set_value_at};
 ghost use Rattle.gcl_model.specs.Collections.{words_from};
 ghost use Rattle.index_shard.specs.Tables.{words_of};
@@ -81,7 +82,7 @@ impl Names {
 
     /// Puts an address behind those of its token.
     pub(crate) fn put(&mut self, token: &[u8], address: u64) -> Result<(), AllocError>
-        requires bounded { address < 2 ^ 56 }
+        requires bounded { address < address_end }
         requires behind { IfSome (addresses_of self.old token.now) (λ list. RiseWithin 0 address list) }
         ensures lists { OnOk result ((cs : List ℕ) → addresses_of self.new cs
             ≡ (if bytes_eq token.now cs then Some (unwrap_or (addresses_of self.old cs) [] ++ address ∷ []) else addresses_of self.old cs)) }

@@ -4,13 +4,9 @@ use Rattle.std.proofs.lemmas.List.{take-append-drop}
 use Rattle.std.proofs.lemmas.Grind.{flat_map-append}
 use Rattle.gcl_model.specs.Slots.{SlotRange}
 use Rattle.posting_code.specs.Postings.{RiseWithin, ArePostings}
-use Rattle.posting_code.proofs.Rising.{rise_wider}
+use Rattle.posting_code.proofs.Rising.{rise_wider, rise_front}
 use Rattle.slot_terms.specs.Parts.{alive}
 use Rattle.slot_terms.proofs.Loops.{flat_map_item}
-
-front_within : (low end : ℕ) (xs ys : List ℕ) → RiseWithin low end (xs ++ ys) → RiseWithin low end xs
-front_within low end [] ys r = tt
-front_within low end (x ∷ xs) ys r = (r.0, r.1, front_within (x + 1) end xs ys r.2)
 
 back_within : (low end : ℕ) (xs ys : List ℕ) → RiseWithin low end (xs ++ ys) → RiseWithin low end ys
 back_within low end [] ys r = r
@@ -18,7 +14,7 @@ back_within low end (x ∷ xs) ys r = let a = r.0 in rise_wider (x + 1) low end 
 
 -- the front of postings, and what is behind it
 pub front_rises : (xs ys : List ℕ) → ArePostings (xs ++ ys) → ArePostings xs
-front_rises xs ys r = front_within 0 (2 ^ 56) xs ys r
+front_rises xs ys r = rise_front 0 (2 ^ 56) xs ys r
 
 pub back_rises : (xs ys : List ℕ) → ArePostings (xs ++ ys) → ArePostings ys
 back_rises xs ys r = back_within 0 (2 ^ 56) xs ys r

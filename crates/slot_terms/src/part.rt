@@ -93,7 +93,8 @@ impl<'a> Part<'a> {
         requires { IfSome least IsFirst }
         ensures first { IsNoLater (option_map (λ first. first.term.now) result) (option_map (λ first. first.term.now) least.entry) }
         ensures second { IsNoLater (option_map (λ first. first.term.now) result) (head_term self.now.left) }
-        ensures among { (option_map (λ first. first.term.now) result ≡ option_map (λ first. first.term.now) least.entry) ⊎ (option_map (λ first. first.term.now) result ≡ head_term self.now.left) }
+        ensures among { (option_map (λ first. first.term.now) result ≡ option_map (λ first. first.term.now) least.entry) ⊎
+            (option_map (λ first. first.term.now) result ≡ head_term self.now.left) }
         ensures head { IfSome result IsFirst }
     {
         if self.next == self.shard.term_count() {

@@ -185,7 +185,8 @@ fn take_term(
     term: &[u8],
     addresses: &mut Vec<u64>,
 ) -> Result<(), AllocError>
-    ensures addresses { OnOk result (addresses.new.items ≡ addresses.old.items ++ flat_map (λ part. alive part.mask (head_postings part.left term.now)) parts.old) }
+    ensures addresses { OnOk result (addresses.new.items ≡ addresses.old.items ++
+        flat_map (λ part. alive part.mask (head_postings part.left term.now)) parts.old) }
     ensures past { OnOk result (parts.new ≡ map (past term.now) parts.old) }
 {
     for part in parts.iter_mut() {

@@ -6,7 +6,8 @@ use Rattle.gcl_model.proofs.Meanings.{concordance_rises}
 use Rattle.gcl_eval.specs.Costs.{near_cost}
 use Rattle.gcl_eval.specs.Members.{members_from}
 use Rattle.gcl_eval.proofs.KnownLemmas.{none_is_known}
-use Rattle.gcl_eval.proofs.Listing.{next_member, put_next, put_counted, full, none_left, one_more}
+use Rattle.phrase_walk.proofs.Asked.{one_asked}
+use Rattle.gcl_eval.proofs.Listing.{next_member, put_next, put_counted, full, none_left}
 use Rattle.gcl_eval.proofs.members.members_of.Goals as goal
 use Rattle.gcl_eval.proofs.members.members_of.Goals.{else-loop-page-test, then-loop-page-test+in_default}
 
@@ -41,7 +42,7 @@ loop-page-preserved g c =
       below = omega arith;
       known = c.next_member.ensures.known;
       counted = omega (arith, c.loop-page.invariant.counted, c.next_member.ensures.counted);
-      cost = rw put (one_more (g.C.CountedLeaves.count c.args.counter.now) (g.C.CountedLeaves.count c.loop-page.counter) (g.C.CountedLeaves.count c.next_member.new.counter) (length c.loop-page.members)
+      cost = rw put (one_asked (g.C.CountedLeaves.count c.args.counter.now) (g.C.CountedLeaves.count c.loop-page.counter) (g.C.CountedLeaves.count c.next_member.new.counter) (length c.loop-page.members)
           (near_cost text (g.C.CountedLeaves.most c.args.source.now) (form_of c.args.expr.now)) c.loop-page.invariant.cost c.next_member.ensures.cost);
     }
 

@@ -7,7 +7,8 @@ use Rattle.gcl_eval.specs.Costs.{near_cost}
 use Rattle.gcl_eval.specs.Members.{members_from}
 use Rattle.gcl_eval.proofs.CostLemmas.{within_cost}
 use Rattle.gcl_eval.proofs.KnownLemmas.{none_is_known}
-use Rattle.gcl_eval.proofs.Listing.{all_members, next_member, no_member, from_le, one_more}
+use Rattle.phrase_walk.proofs.Asked.{one_asked}
+use Rattle.gcl_eval.proofs.Listing.{all_members, next_member, no_member, from_le}
 use Rattle.gcl_eval.proofs.members.number_of_members.Goals as goal
 
 pub loop-member-init : goal.loop-member-init
@@ -40,7 +41,7 @@ loop-member-preserved g c =
       below = omega arith;
       known = c.next_member.ensures.known;
       counted = omega (arith, c.loop-member.invariant.counted, c.next_member.ensures.counted);
-      cost = one_more (g.C.CountedLeaves.count c.args.counter.now) (g.C.CountedLeaves.count c.loop-member.counter) (g.C.CountedLeaves.count c.next_member.new.counter) c.loop-member.members
+      cost = one_asked (g.C.CountedLeaves.count c.args.counter.now) (g.C.CountedLeaves.count c.loop-member.counter) (g.C.CountedLeaves.count c.next_member.new.counter) c.loop-member.members
           (near_cost text (g.C.CountedLeaves.most c.args.source.now) (form_of c.args.expr.now)) c.loop-member.invariant.cost c.next_member.ensures.cost;
     }
 
@@ -56,4 +57,4 @@ returns-clause-cost g c =
     let old = g.C.CountedLeaves.count c.args.counter.now in
     let new = g.C.CountedLeaves.count c.next_member.new.counter in
     within_cost text most (form_of c.args.expr.now) old new (c.loop-member.members + 1)
-    (one_more old (g.C.CountedLeaves.count c.loop-member.counter) new c.loop-member.members (near_cost text most (form_of c.args.expr.now)) c.loop-member.invariant.cost c.next_member.ensures.cost)
+    (one_asked old (g.C.CountedLeaves.count c.loop-member.counter) new c.loop-member.members (near_cost text most (form_of c.args.expr.now)) c.loop-member.invariant.cost c.next_member.ensures.cost)
