@@ -105,6 +105,102 @@ module _ (first second : List ℕ) (k : ℕ) (rise : ArePostings first) (rise_be
   steps_by i j u w a b other passed eu ew =
       subst (λ n. IsStep i j n w) (sym eu) (subst (λ n. IsStep i j (one_below (get_or first i 0 + 1) (get_or second j 0)) n) (sym ew) (steps_on i j a b other passed))
 
+  -- of two and two, of which none stand side by side, the first list's are passed where the other's last one lies farther behind
+  passed_two_first : (i j : ℕ) → i + 1 < length first → j + 1 < length second → (get_or first i 0 + 1 ≡ get_or second j 0 → ⊥) → (get_or first (i + 1) 0 + 1 ≡ get_or second j 0 → ⊥) →
+      get_or first (i + 1) 0 + 1 < get_or second (j + 1) 0 → ArePassed first second k i j → ArePassed first second k (i + 2) j
+  passed_two_first i j a b near far less passed = λ x y xl yl ge same.
+      let p = passed x y xl yl ge same in
+      let from : i ≤ x = p.0 in
+      let behind : j ≤ y = p.1 in
+      let rest : j < y → get_or second (j + 1) 0 ≤ get_or second y 0 = λ lt. climbs 0 (2 ^ 56) second (j + 1) y rise_behind (omega (arith, lt)) yl in
+      elim (cases_lt (i + 1) x) [
+        | inl lt ↦ (omega (arith, lt), p.1)
+        | inr upto ↦
+            elim (cases_lt i x) [
+              | inl lt ↦
+                  let at : x ≡ i + 1 = omega (arith, lt, upto) in
+                  let here : get_or first (i + 1) 0 + 1 ≡ get_or second y 0 = subst (λ n. get_or first n 0 + 1 ≡ get_or second y 0) at same in
+                  elim (cases_lt j y) [
+                    | inl more ↦ absurd (omega (arith, here, rest more, less))
+                    | inr le ↦
+                        let met : y ≡ j = omega (arith, behind, le) in
+                        absurd (far (subst (λ n. get_or first (i + 1) 0 + 1 ≡ get_or second n 0) met here))
+                  ]
+              | inr le_x ↦
+                  let at : x ≡ i = omega (arith, from, le_x) in
+                  let here : get_or first i 0 + 1 ≡ get_or second y 0 = subst (λ n. get_or first n 0 + 1 ≡ get_or second y 0) at same in
+                  let up : get_or first i 0 ≤ get_or first (i + 1) 0 = climbs 0 (2 ^ 56) first i (i + 1) rise (omega arith) a in
+                  elim (cases_lt j y) [
+                    | inl more ↦ absurd (omega (arith, here, rest more, less, up))
+                    | inr le ↦
+                        let met : y ≡ j = omega (arith, behind, le) in
+                        absurd (near (subst (λ n. get_or first i 0 + 1 ≡ get_or second n 0) met here))
+                  ]
+            ]
+      ]
+
+  -- where it does not lie so far, those of the second list are
+  passed_two_second : (i j : ℕ) → i + 1 < length first → j + 1 < length second → (get_or first i 0 + 1 ≡ get_or second j 0 → ⊥) → (get_or first i 0 + 1 ≡ get_or second (j + 1) 0 → ⊥) →
+      get_or second (j + 1) 0 < get_or first (i + 1) 0 + 1 → ArePassed first second k i j → ArePassed first second k i (j + 2)
+  passed_two_second i j a b near near_last less passed = λ x y xl yl ge same.
+      let p = passed x y xl yl ge same in
+      let from : i ≤ x = p.0 in
+      let behind : j ≤ y = p.1 in
+      elim (cases_lt (j + 1) y) [
+        | inl lt ↦ (p.0, omega (arith, lt))
+        | inr upto ↦
+            elim (cases_lt i x) [
+              | inl lt ↦
+                  let up : get_or first (i + 1) 0 ≤ get_or first x 0 = climbs 0 (2 ^ 56) first (i + 1) x rise (omega (arith, lt)) xl in
+                  let low : get_or second y 0 ≤ get_or second (j + 1) 0 = climbs 0 (2 ^ 56) second y (j + 1) rise_behind upto b in
+                  absurd (omega (arith, same, up, low, less))
+              | inr le_x ↦
+                  let at : x ≡ i = omega (arith, from, le_x) in
+                  let here : get_or first i 0 + 1 ≡ get_or second y 0 = subst (λ n. get_or first n 0 + 1 ≡ get_or second y 0) at same in
+                  elim (cases_lt j y) [
+                    | inl more ↦
+                        let met : y ≡ j + 1 = omega (arith, more, upto) in
+                        absurd (near_last (subst (λ n. get_or first i 0 + 1 ≡ get_or second n 0) met here))
+                    | inr le ↦
+                        let met : y ≡ j = omega (arith, behind, le) in
+                        absurd (near (subst (λ n. get_or first i 0 + 1 ≡ get_or second n 0) met here))
+                  ]
+            ]
+      ]
+
+  -- so of two and two those of one list are passed
+  twos_on : (i j : ℕ) → i + 1 < length first → j + 1 < length second → (get_or first i 0 + 1 ≡ get_or second j 0 → ⊥) → (get_or first i 0 + 1 ≡ get_or second (j + 1) 0 → ⊥) →
+      (get_or first (i + 1) 0 + 1 ≡ get_or second j 0 → ⊥) → (get_or first (i + 1) 0 + 1 ≡ get_or second (j + 1) 0 → ⊥) → ArePassed first second k i j →
+      IsStep i j (2 * one_below (get_or first (i + 1) 0 + 1) (get_or second (j + 1) 0)) (2 * one_below (get_or second (j + 1) 0) (get_or first (i + 1) 0 + 1))
+  twos_on i j a b near near_last far far_last passed =
+      let wanted = get_or first (i + 1) 0 + 1 in
+      let met = get_or second (j + 1) 0 in
+      elim (cases_lt wanted met) [
+        | inl lt ↦
+            let u : 2 * one_below wanted met ≡ 2 = ap (λ n. 2 * n) (below-lt wanted met lt) in
+            let w : 2 * one_below met wanted ≡ 0 = ap (λ n. 2 * n) (below-ge met wanted (omega (arith, lt))) in
+            subst (λ n. IsStep i j n (2 * one_below met wanted)) (sym u)
+            (subst (λ n. IsStep i j 2 n) (sym w)
+            (let still : j ≡ j + 0 = omega arith in
+            record { passed = subst (ArePassed first second k (i + 2)) still (passed_two_first i j a b near far lt passed); within = omega (arith, a); within_behind = omega (arith, b); nearer = omega (arith, a, b) }))
+        | inr le ↦
+            let less : met < wanted = omega (arith, le, far_last) in
+            let u : 2 * one_below wanted met ≡ 0 = ap (λ n. 2 * n) (below-ge wanted met le) in
+            let w : 2 * one_below met wanted ≡ 2 = ap (λ n. 2 * n) (below-lt met wanted less) in
+            subst (λ n. IsStep i j n (2 * one_below met wanted)) (sym u)
+            (subst (λ n. IsStep i j 0 n) (sym w)
+            (let still : i ≡ i + 0 = omega arith in
+            record { passed = subst (λ n. ArePassed first second k n (j + 2)) still (passed_two_second i j a b near near_last less passed); within = omega (arith, a); within_behind = omega (arith, b); nearer = omega (arith, a, b) }))
+      ]
+
+  -- the same by how far each goes on
+  pub twos_by : (i j u w : ℕ) → i + 1 < length first → j + 1 < length second → (get_or first i 0 + 1 ≡ get_or second j 0 → ⊥) → (get_or first i 0 + 1 ≡ get_or second (j + 1) 0 → ⊥) →
+      (get_or first (i + 1) 0 + 1 ≡ get_or second j 0 → ⊥) → (get_or first (i + 1) 0 + 1 ≡ get_or second (j + 1) 0 → ⊥) → ArePassed first second k i j →
+      u ≡ one_below (get_or first (i + 1) 0 + 1) (get_or second (j + 1) 0) → w ≡ one_below (get_or second (j + 1) 0) (get_or first (i + 1) 0 + 1) → IsStep i j (2 * u) (2 * w)
+  twos_by i j u w a b near near_last far far_last passed eu ew =
+      subst (λ n. IsStep i j (2 * n) (2 * w)) (sym eu)
+      (subst (λ n. IsStep i j (2 * one_below (get_or first (i + 1) 0 + 1) (get_or second (j + 1) 0)) (2 * n)) (sym ew) (twos_on i j a b near near_last far far_last passed))
+
   -- so before an address below which all members stand before the place that was reached, there is no pair
   pub none_passed : (i j r : ℕ) → ArePassed first second k i j → ((x : ℕ) → x < length first → get_or first x 0 < r → x < i) → (p : ℕ) → k ≤ p → p < r → IsAt first p → IsAt second (p + 1) → ⊥
   none_passed i j r passed before p ge lt here behind =

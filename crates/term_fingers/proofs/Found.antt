@@ -18,7 +18,7 @@ pub in_list : (xs part : List ℕ) (b p : ℕ) → part ≡ block_of xs b → Is
 in_list xs part b p is at = subst (IsAt xs) at.is (at_of_block xs part b at.place is at.within)
 
 -- a member is the first one, or one of those behind it
-first_or_behind : (x : ℕ) (xs : List ℕ) (p : ℕ) → IsAt (x ∷ xs) p → (x ≡ p) ⊎ IsAt xs p
+pub first_or_behind : (x : ℕ) (xs : List ℕ) (p : ℕ) → IsAt (x ∷ xs) p → (x ≡ p) ⊎ IsAt xs p
 first_or_behind x xs p at = by_place at.place at.within at.is
   where
     by_place : (n : ℕ) → n < length (x ∷ xs) → get_or (x ∷ xs) n 0 ≡ p → (x ≡ p) ⊎ IsAt xs p

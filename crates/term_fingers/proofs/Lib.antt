@@ -1,5 +1,6 @@
+pub mod AtHand
+pub mod Beside
+pub mod Found
+pub mod Leap
 pub mod Nearest
 pub mod Places
-pub mod Beside
-pub mod AtHand
-pub mod Found

@@ -9,6 +9,7 @@ use crate::members::{greatest_in, least_in, nearest_in, reach_around};
 use crate::naming::Naming;
 use crate::near::border_near;
 use crate::pairs::earliest_pair_in;
+use crate::whole::SlotList;
 use gcl_model::{Direction, Ledger, Pair, Steps};
 use posting_access::BlocksUpTo;
 use posting_code::{BLOCK, Postings};
@@ -83,7 +84,7 @@ impl<J: Naming> Finger<J> {
 
     /// The address that is nearest to `k` on one side, in this finger's list, where `k` lies between the ends of the members that were read
     /// last.
-    #[inline]
+    #[inline(always)]
     pub(crate) fn at_hand<P: Ledger>(
         &mut self,
         k: u64,
@@ -102,25 +103,52 @@ impl<J: Naming> Finger<J> {
         found
     }
 
-    /// The address that is nearest to `k` on one side, in the list at a place of the slot with this number, where `k` lies between the ends
-    /// of the list.
+    /// The address that is nearest to `k` on one side, in this list, where `k` lies between its ends.
     #[inline(never)]
     pub(crate) fn nearest_within<P: Ledger>(
         &mut self,
-        list: &Postings<'_>,
-        slot: usize,
-        place: usize,
+        list: &SlotList<'_, J>,
         k: u64,
         direction: Direction,
         probes: &mut Steps<P>,
     ) -> Option<u64>
-        requires { list.now ≡ list_of J.version.slots slot place }
-        ensures { IfSome result (IsAtHand direction (list_of J.version.slots slot place) k) }
+        ensures { IfSome result (IsAtHand direction (list_of J.version.slots list.now.slot list.now.place) k) }
     {
-        if list.len() == 0 || k < list.first() || list.last() < k {
+        let postings = &list.postings;
+        if postings.len() == 0 || k < postings.first() || postings.last() < k {
             return None;
         }
-        self.nearest(list, slot, place, k, direction, probes)
+        self.nearest(postings, list.slot, list.place, k, direction, probes)
+    }
+
+    /// The first address from `k` on from which on a member of the first list may have one of the second right behind it, by the next
+    /// member of each. Both fingers go on to there.
+    #[inline(never)]
+    pub(crate) fn leap<P: Ledger>(
+        &mut self,
+        other: &mut Finger<J>,
+        list: &SlotList<'_, J>,
+        behind: &SlotList<'_, J>,
+        k: u64,
+        probes: &mut Steps<P>,
+    ) -> Option<u64>
+        ensures from { IfSome result (λ next. k ≤ next) }
+        ensures none { IfSome result (λ next. LackPairs (list_of J.version.slots list.now.slot list.now.place) (list_of J.version.slots behind.now.slot behind.now.place) k next) }
+    {
+        // any call of a list tells that it rises
+        let _count = behind.postings.len();
+        if list.postings.len() == 0 || k < list.postings.first() {
+            return None;
+        }
+        let next = self.least(&list.postings, list.slot, list.place, k, probes)?;
+        let met = other.least(
+            &behind.postings,
+            behind.slot,
+            behind.place,
+            next + 1,
+            probes,
+        )?;
+        Some(met - 1)
     }
 
     /// The address that is nearest to `k` on one side, in the list at a place of the slot with this number.

@@ -3,7 +3,7 @@ ghost use Rattle.gcl_model.specs.Texts.{IsText, places};
 ghost use Rattle.index_shard.specs.Searched.{nearest};
 ghost use Rattle.live_version.specs.Contents.{live_of, version_text};
 
-use crate::look_up::{ByFinger, at_hand_unprobed};
+use crate::look_up::{ByFinger, at_hand_unprobed, earliest_pair_unprobed};
 use crate::naming::Naming;
 use crate::term::Term;
 use crate::whole::WholeSlots;
@@ -83,7 +83,7 @@ impl<'a, J: Naming> Leaves for Fingers<'a, J> {
         let Some(behind) = self.find(second) else {
             return unknown;
         };
-        term.earliest_pair(behind, &self.whole, k)
+        earliest_pair_unprobed::<J, Brand>(term, behind, &self.whole, k, Blank::new(1))
     }
 
     fn span(&self) -> Span {
@@ -125,7 +125,7 @@ impl<'a, J: Naming> Fingers<'a, J> {
     }
 
     /// The place of a term that is nearest to `k` on one side, where its finger tells it without a look at the slots.
-    #[inline]
+    #[inline(always)]
     fn at_hand(&self, term: &Term<'a, J>, k: u64, direction: Direction) -> Option<u64>
         ensures answer { IfSome result (λ p. Some p ≡ nearest direction (places (live_of self.now.slots) term.now.bytes.now) k) }
         ensures sound { IsText (version_text self.now) }

@@ -29,7 +29,7 @@ impl<'a> Test for Below<'a> {
 }
 
 /// Whether `k` lies between the first member and the last one.
-#[inline]
+#[inline(always)]
 pub(crate) fn reach_around(members: &[u64], k: u64) -> bool
     ensures { IsTrue result → (0 < length members.now) × (slice_index members.now 0 ≤ k) × (k ≤ slice_index members.now (length members.now - 1)) }
 {
@@ -41,8 +41,7 @@ pub(crate) fn reach_around(members: &[u64], k: u64) -> bool
 }
 
 /// How many members are below `k`, looked for from the place `hint` on: they are the first ones. Any hint is right.
-// Where the answer lies is chance, so a whole block is searched without a branch.
-#[inline]
+#[inline(always)]
 fn count_below<P: Ledger>(
     members: &[u64],
     hint: usize,
@@ -55,6 +54,21 @@ fn count_below<P: Ledger>(
     if let Some(at) = soon(members, hint, k) {
         return at;
     }
+    count_far_below(members, hint, k, probes)
+}
+
+/// The same where they may end anywhere.
+// Where is chance, so a whole block is searched without a branch.
+#[inline(never)]
+fn count_far_below<P: Ledger>(
+    members: &[u64],
+    hint: usize,
+    k: u64,
+    probes: &mut Steps<P>,
+) -> usize
+    requires { ArePostings members.now }
+    ensures { AreBelow members.now k result }
+{
     if members.len() == BLOCK {
         return below_in_block(members, k);
     }
@@ -62,7 +76,7 @@ fn count_below<P: Ledger>(
 }
 
 /// The same where the last of them is right before the place `hint`, or one of the three from there on. Most look-ups go on so far.
-#[inline]
+#[inline(always)]
 fn soon(members: &[u64], hint: usize, k: u64) -> Option<usize>
     requires { ArePostings members.now }
     ensures { IfSome result (AreBelow members.now k) }
@@ -131,7 +145,7 @@ pub(crate) fn one_below(member: u64, k: u64) -> usize
 }
 
 /// The least member from `k` on, and its place, looked for from the place `hint` on.
-#[inline]
+#[inline(always)]
 pub(crate) fn least_in<P: Ledger>(
     members: &[u64],
     hint: usize,
@@ -149,7 +163,7 @@ pub(crate) fn least_in<P: Ledger>(
 }
 
 /// The greatest member up to `k`, and the place behind it, looked for from the place `hint` on.
-#[inline]
+#[inline(always)]
 pub(crate) fn greatest_in<P: Ledger>(
     members: &[u64],
     hint: usize,
@@ -167,7 +181,7 @@ pub(crate) fn greatest_in<P: Ledger>(
 }
 
 /// The member that is nearest to `k` on one side, and a place beside it, looked for from the place `hint` on.
-#[inline]
+#[inline(always)]
 pub(crate) fn nearest_in<P: Ledger>(
     members: &[u64],
     hint: usize,

@@ -25,6 +25,7 @@ pub(crate) fn earliest_pair_in(
 {
     let at = place_from(first, hints.0, k);
     let behind = place_from(second, hints.1, k + 1);
+    let (at, behind) = by_twos(first, second, at, behind, k);
     let (at, behind) = side_by_side(first, second, at, behind, k);
     if at < first.len() && behind < second.len() {
         let met = Pair {
@@ -55,6 +56,57 @@ fn place_from(members: &[u64], hint: usize, k: u64) -> usize
         at += 1;
     }
     at
+}
+
+/// Goes through both lists side by side from these places on, two members of the one or the other at a time, as long as of two and two none
+/// stands right behind the other.
+// Each turn waits for the last one's, so fewer turns take less time, though each of them compares more.
+fn by_twos(
+    first: &[u64],
+    second: &[u64],
+    from: usize,
+    from_behind: usize,
+    k: u64,
+) -> (usize, usize)
+    requires first { ArePostings first.now }
+    requires second { ArePostings second.now }
+    requires within { from ≤ length first.now }
+    requires within_behind { from_behind ≤ length second.now }
+    requires passed { ArePassed first.now second.now k from from_behind }
+    ensures within { result.0 ≤ length first.now }
+    ensures within_behind { result.1 ≤ length second.now }
+    ensures passed { ArePassed first.now second.now k result.0 result.1 }
+{
+    let mut at = from;
+    let mut behind = from_behind;
+    while at + 1 < first.len() && behind + 1 < second.len() && apart(first, second, at, behind) {
+        let wanted = first[at + 1] + 1;
+        let met = second[behind + 1];
+        at += 2 * one_below(wanted, met);
+        behind += 2 * one_below(met, wanted);
+    }
+    (at, behind)
+}
+
+/// Whether of two members of the second list, from its place on, none stands right behind one of two of the first.
+#[inline(always)]
+fn apart(first: &[u64], second: &[u64], at: usize, behind: usize) -> bool
+    requires rising { ArePostings first.now }
+    requires within { at + 1 < length first.now }
+    requires within_behind { behind + 1 < length second.now }
+    ensures near { IsTrue result → slice_index first.now at + 1 ≡ slice_index second.now behind → ⊥ }
+    ensures near_last { IsTrue result → slice_index first.now at + 1 ≡ slice_index second.now (behind + 1) → ⊥ }
+    ensures far { IsTrue result → slice_index first.now (at + 1) + 1 ≡ slice_index second.now behind → ⊥ }
+    ensures far_last { IsTrue result → slice_index first.now (at + 1) + 1 ≡ slice_index second.now (behind + 1) → ⊥ }
+{
+    let near = first[at] + 1;
+    let far = first[at + 1] + 1;
+    let met = second[behind];
+    let last = second[behind + 1];
+    if near == met || near == last || far == met || far == last {
+        return false;
+    }
+    true
 }
 
 /// Goes through both lists side by side from these places on, up to the first member of the one that has a member of the other right behind

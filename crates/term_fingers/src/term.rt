@@ -8,12 +8,15 @@ ghost use Rattle.term_fingers.specs.Lists.{places_of, shard_at};
 
 use crate::finger::Finger;
 use crate::naming::Naming;
-use crate::whole::WholeSlots;
+use crate::whole::{SlotList, WholeSlots};
 use gcl_model::{Direction, Ledger, Pair, Steps};
 use index_shard::Shard;
 use live_version::{Slot, Version};
 use posting_access::{at_or_after, at_or_before};
 use std::cell::RefCell;
+
+/// How many times at most two fingers go on beyond their blocks to find a pair.
+const MOST_LEAPS: u32 = 8;
 
 /// A term, its place in the index of each slot, and a finger on the postings that it was last looked for in.
 #[derive(Drop)]
@@ -71,7 +74,7 @@ impl<'a, J: Naming> Term<'a, J> {
 
     /// The place of the term in the version that is nearest to `k` on one side, where the list that its finger is on reaches around `k` and
     /// nothing in that one's slot is dead.
-    #[inline]
+    #[inline(always)]
     pub(crate) fn at_hand<P: Ledger>(
         &self,
         whole: &WholeSlots<'a, J>,
@@ -86,12 +89,15 @@ impl<'a, J: Naming> Term<'a, J> {
         let Ok(mut finger) = self.finger.try_borrow_mut() else {
             return None;
         };
-        self.at_hand_by(whole, &mut finger, k, direction, probes)
+        if let Some(p) = self.at_hand_in_block(whole, &mut finger, k, direction, probes) {
+            return Some(p);
+        }
+        self.at_hand_in_list(whole, &mut finger, k, direction, probes)
     }
 
-    /// The same by its finger.
-    #[inline]
-    fn at_hand_by<P: Ledger>(
+    /// The same where the block that its finger is on reaches around `k`.
+    #[inline(always)]
+    fn at_hand_in_block<P: Ledger>(
         &self,
         whole: &WholeSlots<'a, J>,
         finger: &mut Finger<J>,
@@ -103,20 +109,42 @@ impl<'a, J: Naming> Term<'a, J> {
         ensures { IfSome result (λ p. Some p ≡ nearest direction (places (live_of J.version.slots) self.now.bytes.now) k) }
     {
         let slot = finger.slot();
-        let place = finger.place();
-        if !whole.has(slot) || !self.has_place(slot, place) {
+        if !whole.has(slot) || !self.has_place(slot, finger.place()) {
             return None;
         }
-        if let Some(p) = finger.at_hand(k, direction, probes) {
-            return Some(p);
+        finger.at_hand(k, direction, probes)
+    }
+
+    /// The same by another block.
+    #[inline(never)]
+    fn at_hand_in_list<P: Ledger>(
+        &self,
+        whole: &WholeSlots<'a, J>,
+        finger: &mut Finger<J>,
+        k: u64,
+        direction: Direction,
+        probes: &mut Steps<P>,
+    ) -> Option<u64>
+        requires { IsVersion J.version }
+        ensures { IfSome result (λ p. Some p ≡ nearest direction (places (live_of J.version.slots) self.now.bytes.now) k) }
+    {
+        let slot = finger.slot();
+        if !whole.has(slot) {
+            return None;
         }
-        let list = whole.list(slot, place)?;
-        finger.nearest_within(&list, slot, place, k, direction, probes)
+        let list = self.list(whole, slot)?;
+        finger.nearest_within(&list, k, direction, probes)
     }
 
     /// An address from `k` on before which the other term nowhere stands right behind this one, and whether it does there, as far as their
     /// fingers tell.
-    pub(crate) fn earliest_pair(&self, other: &Term<'a, J>, whole: &WholeSlots<'a, J>, k: u64) -> Pair
+    pub(crate) fn earliest_pair<P: Ledger>(
+        &self,
+        other: &Term<'a, J>,
+        whole: &WholeSlots<'a, J>,
+        k: u64,
+        probes: &mut Steps<P>,
+    ) -> Pair
         requires { IsVersion J.version }
         ensures from { k ≤ result.at }
         ensures none { any_pair (live_of J.version.slots) self.now.bytes.now other.now.bytes.now k result.at ≡ false }
@@ -133,12 +161,46 @@ impl<'a, J: Naming> Term<'a, J> {
         let Ok(mut behind) = other.finger.try_borrow_mut() else {
             return unknown;
         };
-        self.earliest_pair_by(other, whole, &mut finger, &mut behind, k)
+        self.earliest_pair_by(other, whole, &mut finger, &mut behind, k, probes)
     }
 
-    /// The same by a finger of each term: they tell it where they are on the lists of both terms in one slot. What is dead is in the lists,
-    /// too, so a pair is believed only where nothing in the slot is.
-    fn earliest_pair_by(
+    /// The same by a finger of each term. Where both have no pair in their blocks, they go on to the next ones, but a few times only: no
+    /// look-up is counted for it.
+    fn earliest_pair_by<P: Ledger>(
+        &self,
+        other: &Term<'a, J>,
+        whole: &WholeSlots<'a, J>,
+        finger: &mut Finger<J>,
+        behind: &mut Finger<J>,
+        k: u64,
+        probes: &mut Steps<P>,
+    ) -> Pair
+        requires { IsVersion J.version }
+        ensures from { k ≤ result.at }
+        ensures none { any_pair (live_of J.version.slots) self.now.bytes.now other.now.bytes.now k result.at ≡ false }
+        ensures found { IsTrue result.found → (holds (live_of J.version.slots) self.now.bytes.now result.at ≡ true) × (holds (live_of J.version.slots) other.now.bytes.now (result.at + 1) ≡ true) }
+    {
+        let mut from = k;
+        for times in 0..MOST_LEAPS {
+            let _ = times;
+            let pair = self.pair_in_blocks(other, whole, finger, behind, from);
+            if pair.found {
+                return pair;
+            }
+            let Some(next) = self.leap(other, whole, finger, behind, pair.at, probes) else {
+                return pair;
+            };
+            from = next;
+        }
+        Pair {
+            at: from,
+            found: false,
+        }
+    }
+
+    /// The same in the blocks that both fingers are on: they tell it where these are of the lists of both terms in one slot. What is dead is
+    /// in the lists, too, so a pair is believed only where nothing in the slot is.
+    fn pair_in_blocks(
         &self,
         other: &Term<'a, J>,
         whole: &WholeSlots<'a, J>,
@@ -166,6 +228,39 @@ impl<'a, J: Naming> Term<'a, J> {
             at: pair.at,
             found: whole.believes(slot, pair.found),
         }
+    }
+
+    /// An address from `k` on, before which the other term nowhere stands right behind this one: both fingers go on to there, in a slot of which
+    /// nothing is dead.
+    fn leap<P: Ledger>(
+        &self,
+        other: &Term<'a, J>,
+        whole: &WholeSlots<'a, J>,
+        finger: &mut Finger<J>,
+        behind: &mut Finger<J>,
+        k: u64,
+        probes: &mut Steps<P>,
+    ) -> Option<u64>
+        requires { IsVersion J.version }
+        ensures from { IfSome result (λ next. k ≤ next) }
+        ensures none { IfSome result (λ next. any_pair (live_of J.version.slots) self.now.bytes.now other.now.bytes.now k next ≡ false) }
+    {
+        let slot = finger.slot();
+        if !whole.has(slot) {
+            return None;
+        }
+        let list = self.list(whole, slot)?;
+        let list_behind = other.list(whole, slot)?;
+        finger.leap(behind, &list, &list_behind, k, probes)
+    }
+
+    /// The postings of the term in the slot with this number, if it was found there.
+    fn list<'b>(&self, whole: &'b WholeSlots<'a, J>, slot: usize) -> Option<SlotList<'b, J>>
+        ensures slot { IfSome result (λ list. list.slot ≡ slot) }
+        ensures place { IfSome result (λ list. slice_get self.now.places slot ≡ Some (Some list.place)) }
+    {
+        let place = (*self.places.get(slot)?)?;
+        whole.list(slot, place)
     }
 
     /// Whether the term was found at this place in the index of the slot with this number.

@@ -43,14 +43,15 @@ impl<'a, J: Naming> WholeSlots<'a, J> {
     }
 
     /// The list at a place of the slot with this number, if there are both.
-    pub(crate) fn list(&self, number: usize, place: usize) -> Option<Postings<'_>>
-        ensures { IfSome result (λ list. list ≡ list_of J.version.slots number place) }
+    pub(crate) fn list(&self, slot: usize, place: usize) -> Option<SlotList<'_, J>>
+        ensures slot { IfSome result (λ list. list.slot ≡ slot) }
+        ensures place { IfSome result (λ list. list.place ≡ place) }
     {
-        let shard = self.version.slots().get(number)?.shard();
+        let shard = self.version.slots().get(slot)?.shard();
         if place >= shard.term_count() {
             return None;
         }
-        Some(shard.postings(place))
+        Some(SlotList::new(slot, place, shard.postings(place)))
     }
 
     /// Whether what was found in the lists of the slot with this number stands in the version for sure: where nothing of the slot is dead.
@@ -59,6 +60,31 @@ impl<'a, J: Naming> WholeSlots<'a, J> {
         ensures whole { IsTrue result → HasNoDead J.version.slots number }
     {
         found && self.has(number)
+    }
+}
+
+/// A list of the version, by the number of its slot and by its place there.
+#[derive(Drop)]
+pub(crate) struct SlotList<'b, J: Naming> {
+    pub(crate) slot: usize,
+    pub(crate) place: usize,
+    pub(crate) postings: Postings<'b>,
+    of: PhantomData<J>,
+    ghost is: { postings ≡ list_of J.version.slots slot place },
+}
+
+impl<'b, J: Naming> SlotList<'b, J> {
+    fn new(slot: usize, place: usize, postings: Postings<'b>) -> Self
+        requires { postings ≡ list_of J.version.slots slot place }
+        ensures slot { result.slot ≡ slot }
+        ensures place { result.place ≡ place }
+    {
+        SlotList {
+            slot,
+            place,
+            postings,
+            of: PhantomData,
+        }
     }
 }
 

@@ -1,5 +1,5 @@
 use Rattle.term_fingers.proofs.Nearest.{below_border}
-use Rattle.term_fingers.proofs.members.count_below.Goals as goal
+use Rattle.term_fingers.proofs.members.count_far_below.Goals as goal
 
 pub returns : goal.returns
 returns g c =
