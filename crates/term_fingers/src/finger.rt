@@ -62,7 +62,8 @@ impl<J: Naming> Finger<J> {
         requires { IsVersion J.version }
         ensures from { k ≤ result.at }
         ensures none { LackPairs (list_of J.version.slots self.old.slot self.old.place) (list_of J.version.slots other.old.slot other.old.place) k result.at }
-        ensures found { IsTrue result.found → IsAt (list_of J.version.slots self.old.slot self.old.place) result.at × IsAt (list_of J.version.slots other.old.slot other.old.place) (result.at + 1) }
+        ensures found { IsTrue result.found → IsAt (list_of J.version.slots self.old.slot self.old.place) result.at ×
+            IsAt (list_of J.version.slots other.old.slot other.old.place) (result.at + 1) }
     {
         let unknown = Pair {
             at: k,
@@ -133,7 +134,8 @@ impl<J: Naming> Finger<J> {
         probes: &mut Steps<P>,
     ) -> Option<u64>
         ensures from { IfSome result (λ next. k ≤ next) }
-        ensures none { IfSome result (λ next. LackPairs (list_of J.version.slots list.now.slot list.now.place) (list_of J.version.slots behind.now.slot behind.now.place) k next) }
+        ensures none { IfSome result (λ next. LackPairs (list_of J.version.slots list.now.slot list.now.place)
+            (list_of J.version.slots behind.now.slot behind.now.place) k next) }
     {
         // any call of a list tells that it rises
         let _count = behind.postings.len();

@@ -113,7 +113,8 @@ pub(crate) fn earliest_pair_unprobed<'a, J: Naming, B: ledger::Ledger>(
     requires some { 0 < blank.parts }
     ensures from { k ≤ result.at }
     ensures none { any_pair (live_of J.version.slots) term.now.bytes.now behind.now.bytes.now k result.at ≡ false }
-    ensures found { IsTrue result.found → (holds (live_of J.version.slots) term.now.bytes.now result.at ≡ true) × (holds (live_of J.version.slots) behind.now.bytes.now (result.at + 1) ≡ true) }
+    ensures found { IsTrue result.found → (holds (live_of J.version.slots) term.now.bytes.now result.at ≡ true) ×
+        (holds (live_of J.version.slots) behind.now.bytes.now (result.at + 1) ≡ true) }
 {
     let mut probes = Steps::<NoLedger<B>>::open(blank);
     term.earliest_pair(behind, whole, k, &mut probes)

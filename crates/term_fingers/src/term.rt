@@ -148,7 +148,8 @@ impl<'a, J: Naming> Term<'a, J> {
         requires { IsVersion J.version }
         ensures from { k ≤ result.at }
         ensures none { any_pair (live_of J.version.slots) self.now.bytes.now other.now.bytes.now k result.at ≡ false }
-        ensures found { IsTrue result.found → (holds (live_of J.version.slots) self.now.bytes.now result.at ≡ true) × (holds (live_of J.version.slots) other.now.bytes.now (result.at + 1) ≡ true) }
+        ensures found { IsTrue result.found → (holds (live_of J.version.slots) self.now.bytes.now result.at ≡ true) ×
+            (holds (live_of J.version.slots) other.now.bytes.now (result.at + 1) ≡ true) }
     {
         let unknown = Pair {
             at: k,
@@ -178,7 +179,8 @@ impl<'a, J: Naming> Term<'a, J> {
         requires { IsVersion J.version }
         ensures from { k ≤ result.at }
         ensures none { any_pair (live_of J.version.slots) self.now.bytes.now other.now.bytes.now k result.at ≡ false }
-        ensures found { IsTrue result.found → (holds (live_of J.version.slots) self.now.bytes.now result.at ≡ true) × (holds (live_of J.version.slots) other.now.bytes.now (result.at + 1) ≡ true) }
+        ensures found { IsTrue result.found → (holds (live_of J.version.slots) self.now.bytes.now result.at ≡ true) ×
+            (holds (live_of J.version.slots) other.now.bytes.now (result.at + 1) ≡ true) }
     {
         let mut from = k;
         for times in 0..MOST_LEAPS {
@@ -211,7 +213,8 @@ impl<'a, J: Naming> Term<'a, J> {
         requires { IsVersion J.version }
         ensures from { k ≤ result.at }
         ensures none { any_pair (live_of J.version.slots) self.now.bytes.now other.now.bytes.now k result.at ≡ false }
-        ensures found { IsTrue result.found → (holds (live_of J.version.slots) self.now.bytes.now result.at ≡ true) × (holds (live_of J.version.slots) other.now.bytes.now (result.at + 1) ≡ true) }
+        ensures found { IsTrue result.found → (holds (live_of J.version.slots) self.now.bytes.now result.at ≡ true) ×
+            (holds (live_of J.version.slots) other.now.bytes.now (result.at + 1) ≡ true) }
     {
         let slot = finger.slot();
         if behind.slot() != slot
