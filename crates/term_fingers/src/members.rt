@@ -42,12 +42,7 @@ pub(crate) fn reach_around(members: &[u64], k: u64) -> bool
 
 /// How many members are below `k`, looked for from the place `hint` on: they are the first ones. Any hint is right.
 #[inline(always)]
-fn count_below<P: Ledger>(
-    members: &[u64],
-    hint: usize,
-    k: u64,
-    probes: &mut Steps<P>,
-) -> usize
+fn count_below<P: Ledger>(members: &[u64], hint: usize, k: u64, probes: &mut Steps<P>) -> usize
     requires { ArePostings members.now }
     ensures { AreBelow members.now k result }
 {
@@ -60,12 +55,7 @@ fn count_below<P: Ledger>(
 /// The same where they may end anywhere.
 // Where is chance, so a whole block is searched without a branch.
 #[inline(never)]
-fn count_far_below<P: Ledger>(
-    members: &[u64],
-    hint: usize,
-    k: u64,
-    probes: &mut Steps<P>,
-) -> usize
+fn count_far_below<P: Ledger>(members: &[u64], hint: usize, k: u64, probes: &mut Steps<P>) -> usize
     requires { ArePostings members.now }
     ensures { AreBelow members.now k result }
 {

@@ -61,13 +61,7 @@ fn place_from(members: &[u64], hint: usize, k: u64) -> usize
 /// Goes through both lists side by side from these places on, two members of the one or the other at a time, as long as of two and two none
 /// stands right behind the other.
 // Each turn waits for the last one's, so fewer turns take less time, though each of them compares more.
-fn by_twos(
-    first: &[u64],
-    second: &[u64],
-    from: usize,
-    from_behind: usize,
-    k: u64,
-) -> (usize, usize)
+fn by_twos(first: &[u64], second: &[u64], from: usize, from_behind: usize, k: u64) -> (usize, usize)
     requires first { ArePostings first.now }
     requires second { ArePostings second.now }
     requires within { from ≤ length first.now }
