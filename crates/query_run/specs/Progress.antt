@@ -18,6 +18,7 @@ use Rattle.query_run.specs.Runs.{HoldsBut, IsStopped}
 use Rattle.query_run.specs.declared.limits.Limits.{Limits}
 use Rattle.query_run.specs.declared.run_fault.RunFault.{RunFault}
 use Rattle.query_run.specs.declared.run_fault.RunFault.TheVariants.{Write, Files}
+use Rattle.query_run.specs.declared.script_line.ScriptLine.{ScriptLine}
 use Rattle.query_run.specs.declared.stream_fault.StreamFault.{StreamFault}
 use Rattle.query_run.specs.declared.stream_fault.StreamFault.TheVariants.{Read as StreamRead, TooLong as StreamTooLong, Write as StreamWrite, Files as StreamFiles, NoMemory as StreamNoMemory}
 
@@ -80,9 +81,9 @@ pub record HasWritten (limits : Limits) (state : State) (line : Line) (engine : 
   pub refusal_is : refusal ≡ list_any is_refusal reply.lines
   pub written : Appends old new (text_of_lines reply.lines)
 
--- a line that is at hand: whether it is long, and what it says
-abbrev pub line_at_hand : Bool → List ℕ → Line
-line_at_hand long bytes = record { long = long; bytes = bytes }
+-- what a line at hand is
+abbrev pub line_at_hand : ScriptLine → Line
+line_at_hand line = record { long = line.long; bytes = line.bytes.now }
 
 -- the lines of a script from a place on
 abbrev pub lines_from : ℕ → List ℕ → ℕ → List Line

@@ -16,16 +16,14 @@ ghost use Rattle.query_run.specs.Runs.{GetsPart};
 ghost use Rattle.query_run.specs.Windows.{AnswersWindow, Halts, IsPaired, StopsWindow, asks_refuse, asks_text, waiting_text};
 
 use crate::batches::Batch;
-use crate::limits::Limits;
+use crate::course::Course;
 use crate::over::{go_on, line_over};
 use crate::pages::put_answer;
 use crate::run_fault::RunFault;
-use crate::serving::Course;
+use crate::setting::Setting;
 use crate::window::Window;
 use crate::write::write_all;
-use collection::Engine;
-use gcl_model::Bytes;
-use manifest_publish::Reader;
+use collection::{Engine, Opened};
 use outside::{Files, Gate, Sink};
 use query_lanes::{Ask, Found, Work, answer_batch};
 use script_lang::LineCut;
@@ -40,27 +38,26 @@ fn put_window<K: Sink>(
     out: &mut Vec<u8>,
     sink: &mut K,
     engine: &Engine,
-    fronts: &[Bytes],
-    tail: &[u8],
+    window: &Window,
     asks: &[Ask],
     answers: Vec<Found>,
 ) -> Result<(), RunFault>
     requires answers { answers.items ≡ map (answer_in (version_text engine.now.version)) asks.now }
-    requires paired { length fronts.now ≡ length asks.now }
+    requires paired { length window.now.fronts.items ≡ length asks.now }
     ensures puts { OnOk result (Puts (K.written sink.old) (K.written sink.new) out.old.items out.new.items
-        (waiting_text (version_text engine.now.version) fronts.now tail.now asks.now)) }
+        (waiting_text (version_text engine.now.version) window.now.fronts.items window.now.tail.items asks.now)) }
     ensures part { PutsPart (K.written sink.old) (K.written sink.new) out.old.items
-        (waiting_text (version_text engine.now.version) fronts.now tail.now asks.now) }
+        (waiting_text (version_text engine.now.version) window.now.fronts.items window.now.tail.items asks.now) }
     ensures causes { (n : ℕ) → HasCauses (K.faults sink.old) (K.faults sink.new) n n result }
     ensures calm { OnOk result (K.faults sink.new ≡ K.faults sink.old) }
 {
     let mut i = 0;
     for found in answers {
-        out.extend_from_slice(fronts[i].as_slice())?;
+        out.extend_from_slice(window.fronts[i].as_slice())?;
         let _refused = put_answer(alloc, out, sink, engine, &asks[i], found)?;
         i += 1;
     }
-    out.extend_from_slice(tail)?;
+    out.extend_from_slice(window.tail.as_slice())?;
     Ok(())
 }
 
@@ -126,16 +123,7 @@ fn write_answers<K: Sink>(
     let mut answers = answers;
     let later = answers.split_off(put_off.len())?;
     out.clear();
-    put_window(
-        alloc,
-        out,
-        sink,
-        engine,
-        window.fronts.as_slice(),
-        window.tail.as_slice(),
-        put_off,
-        answers,
-    )?;
+    put_window(alloc, out, sink, engine, window, put_off, answers)?;
     let refused = put_answers(alloc, out, sink, engine, completed, asks, later)?;
     write_all(sink, out.as_slice())?;
     Ok(refused)
@@ -143,36 +131,33 @@ fn write_answers<K: Sink>(
 
 /// Answers the queries of a window and those behind it, beside the merge that is wanted, if one is, and writes all that is to be written.
 fn serve_window<R: Threads + Wait + Sync, K: Sink, G: Gate + Sync>(
-    rt: &R,
-    alloc: Global,
-    gate: &G,
+    setting: &Setting<R, G>,
     out: &mut Vec<u8>,
     sink: &mut K,
-    engine: &mut Engine,
-    works: &mut [Work],
-    readers: &mut [Reader],
-    completed: &mut u64,
+    opened: &mut Opened,
+    works: &mut Vec<Work>,
     wanted: &mut bool,
     window: Window,
     asks: Vec<Ask>,
 ) -> Result<bool, RunFault>
     requires paired { IsPaired window }
-    requires same { length works.old ≡ length readers.old }
-    requires lanes { length readers.old ≤ most_readers }
-    requires of { AreOf engine.old.publisher readers.old }
-    requires savable { CanBeSaved engine.old.version }
-    requires number { engine.old.version.number + wish wanted.old < merge_end }
-    requires room { completed.old + length asks.items ≤ far }
+    requires same { length works.old.items ≡ length opened.old.readers.items }
+    requires lanes { length opened.old.readers.items ≤ most_readers }
+    requires of { AreOf opened.old.engine.publisher opened.old.readers.items }
+    requires savable { CanBeSaved opened.old.engine.version }
+    requires number { opened.old.engine.version.number + wish wanted.old < merge_end }
+    requires room { opened.old.lines + length asks.items ≤ far }
     ensures step { IfOk result (λ refusal.
-        AnswersWindow window asks.items engine.old engine.new wanted.old wanted.new refusal (K.written sink.old) (K.written sink.new)) }
-    ensures stop { StopsWindow window asks.items (completed.new - completed.old) engine.old engine.new wanted.old (K.written sink.old) (K.written sink.new) }
-    ensures completed { OnOk result (completed.new ≡ completed.old + length asks.items) }
-    ensures counted { (completed.old ≤ completed.new) × (completed.new ≤ completed.old + length asks.items) }
-    ensures number { OnOk result (engine.new.version.number + wish wanted.new ≤ engine.old.version.number + wish wanted.old) }
-    ensures savable { OnOk result (CanBeSaved engine.new.version) }
-    ensures of { AreOf engine.new.publisher readers.new }
-    ensures same { length works.new ≡ length readers.new }
-    ensures lanes { length readers.new ≤ most_readers }
+        AnswersWindow window asks.items opened.old.engine opened.new.engine wanted.old wanted.new refusal (K.written sink.old) (K.written sink.new)) }
+    ensures stop { StopsWindow window asks.items (opened.new.lines - opened.old.lines)
+        opened.old.engine opened.new.engine wanted.old (K.written sink.old) (K.written sink.new) }
+    ensures completed { OnOk result (opened.new.lines ≡ opened.old.lines + length asks.items) }
+    ensures counted { (opened.old.lines ≤ opened.new.lines) × (opened.new.lines ≤ opened.old.lines + length asks.items) }
+    ensures number { OnOk result (opened.new.engine.version.number + wish wanted.new ≤ opened.old.engine.version.number + wish wanted.old) }
+    ensures savable { OnOk result (CanBeSaved opened.new.engine.version) }
+    ensures of { AreOf opened.new.engine.publisher opened.new.readers.items }
+    ensures same { length works.new.items ≡ length opened.new.readers.items }
+    ensures lanes { length opened.new.readers.items ≤ most_readers }
     ensures causes { (n : ℕ) → HasCauses (K.faults sink.old) (K.faults sink.new) n n result }
     ensures sink_calm { OnOk result (K.faults sink.new ≡ K.faults sink.old) }
 {
@@ -180,20 +165,36 @@ fn serve_window<R: Threads + Wait + Sync, K: Sink, G: Gate + Sync>(
     let mut asks = asks;
     window.asks.append(&mut asks)?;
     let all = window.asks.as_slice();
-    let answers = answer_batch(rt, alloc, gate, all, *wanted, engine, works, readers)?;
+    let answers = answer_batch(
+        setting.rt,
+        setting.alloc,
+        setting.gate,
+        all,
+        *wanted,
+        &mut opened.engine,
+        works.as_mut_slice(),
+        opened.readers.as_mut_slice(),
+    )?;
     *wanted = false;
     let (put_off, behind) = all.split_at(window.fronts.len());
     let refused = write_answers(
-        alloc, out, sink, engine, completed, &window, put_off, behind, answers,
+        setting.alloc,
+        out,
+        sink,
+        &opened.engine,
+        &mut opened.lines,
+        &window,
+        put_off,
+        behind,
+        answers,
     )?;
     Ok(refused)
 }
 
 /// The line behind some queries at hand, where it may be done before they are answered, and there is room for that.
-fn next_over(
-    alloc: Global,
+fn next_over<R, G>(
+    setting: &Setting<R, G>,
     script: &[u8],
-    limits: &Limits,
     engine: &Engine,
     wanted: bool,
     window: &Window,
@@ -201,84 +202,77 @@ fn next_over(
 ) -> Result<Option<LineCut>, AllocError>
     requires { batch.now.after ≤ length script.now }
     ensures places { IfOk result (λ some. IfSome some (IsCut script.now batch.now.after)) }
-    ensures line { IfOk result (λ some. IfSome some (ComesNext limits.now.line script.now batch.now.after)) }
+    ensures line { IfOk result (λ some. IfSome some (ComesNext setting.now.limits.line script.now batch.now.after)) }
     ensures unasked { IfOk result (λ some. IfSome some (λ cut. asks_query (line_of_cut script.now cut) ≡ false)) }
     ensures unsaved { IfOk result (λ some. IfSome some (λ cut. names_kept_of_line (line_of_cut script.now cut) ≡ [])) }
 {
     let count = window.asks.len().saturating_add(batch.asks.len());
-    if count >= limits.batch as usize || !window.has_room(engine.version(), wanted) {
+    if count >= setting.limits.batch as usize || !window.has_room(engine.version(), wanted) {
         return Ok(None);
     }
-    let cut = line_over(alloc, script, batch.after, limits)?;
+    let cut = line_over(setting.alloc, script, batch.after, &setting.limits)?;
     Ok(cut)
 }
 
 /// Answers a batch that begins at the line at hand. Lines behind it that ask nothing are done first, where the queries can be put off, and those
 /// behind these are answered together with them.
 pub(crate) fn serve_queries<R: Threads + Wait + Sync, F: Files, K: Sink, G: Gate + Sync>(
-    rt: &R,
-    alloc: Global,
-    gate: &G,
-    out: &mut Vec<u8>,
+    setting: &Setting<R, G>,
     files: &mut F,
     sink: &mut K,
-    engine: &mut Engine,
-    works: &mut [Work],
-    readers: &mut [Reader],
-    completed: &mut u64,
-    wanted: &mut bool,
+    opened: &mut Opened,
     course: &mut Course,
-    limits: &Limits,
     script: &[u8],
     batch: Batch,
 ) -> Result<(), RunFault>
     requires some { 0 < length batch.asks.items }
-    requires begins { BeginsAt limits.now.line script.now course.old.at batch }
+    requires begins { BeginsAt setting.now.limits.line script.now course.old.at batch }
     requires counts { course.old.at + length batch.asks.items ≤ batch.after }
     requires within { batch.after ≤ length script.now }
-    requires room { completed.old + (length script.now - course.old.at) ≤ most_script }
-    requires asked { course.old.asked ≤ completed.old }
-    requires limits { AreLimits limits.now }
-    requires savable { CanBeSaved engine.old.version }
-    requires numbers { engine.old.version.number + wish wanted.old ≤ completed.old }
-    requires same { length works.old ≡ length readers.old }
-    requires lanes { length readers.old ≤ most_readers }
-    requires of { AreOf engine.old.publisher readers.old }
-    ensures goes { OnOk result (GoesBetween limits.now.line script.now course.old.at course.new.at completed.old completed.new) }
-    ensures come { OnOk result (Advances limits.now (lines_from limits.now.line script.now course.old.at)
-        (stand completed.old (F.held files.old) engine.old wanted.old course.old.refused)
-        (stand completed.new (F.held files.new) engine.new wanted.new course.new.refused) (K.written sink.old) (K.written sink.new)) }
-    ensures halted { Halts limits.now (lines_from limits.now.line script.now course.old.at)
-        (stand completed.old (F.held files.old) engine.old wanted.old course.old.refused)
-        (stand completed.new (F.held files.new) engine.new wanted.new course.new.refused) (K.written sink.old) (K.written sink.new) }
+    requires room { opened.old.lines + (length script.now - course.old.at) ≤ most_script }
+    requires asked { course.old.asked ≤ opened.old.lines }
+    requires limits { AreLimits setting.now.limits }
+    requires savable { CanBeSaved opened.old.engine.version }
+    requires numbers { opened.old.engine.version.number + wish course.old.wanted ≤ opened.old.lines }
+    requires same { length course.old.works.items ≡ length opened.old.readers.items }
+    requires lanes { length opened.old.readers.items ≤ most_readers }
+    requires of { AreOf opened.old.engine.publisher opened.old.readers.items }
+    ensures goes { OnOk result (GoesBetween setting.now.limits.line script.now course.old.at course.new.at opened.old.lines opened.new.lines) }
+    ensures come { OnOk result (Advances setting.now.limits (lines_from setting.now.limits.line script.now course.old.at)
+        (stand opened.old.lines (F.held files.old) opened.old.engine course.old.wanted course.old.refused)
+        (stand opened.new.lines (F.held files.new) opened.new.engine course.new.wanted course.new.refused) (K.written sink.old) (K.written sink.new)) }
+    ensures halted { Halts setting.now.limits (lines_from setting.now.limits.line script.now course.old.at)
+        (stand opened.old.lines (F.held files.old) opened.old.engine course.old.wanted course.old.refused)
+        (stand opened.new.lines (F.held files.new) opened.new.engine course.new.wanted course.new.refused) (K.written sink.old) (K.written sink.new) }
     ensures further { OnOk result ((course.old.at < course.new.at) × (course.new.at ≤ length script.now)) }
-    ensures counted { OnOk result ((completed.new + course.old.at ≤ completed.old + course.new.at) × (course.new.asked ≤ completed.new)) }
-    ensures numbers { OnOk result (engine.new.version.number + wish wanted.new ≤ completed.new) }
-    ensures savable { OnOk result (CanBeSaved engine.new.version) }
-    ensures of { AreOf engine.new.publisher readers.new }
-    ensures same { length works.new ≡ length readers.new }
-    ensures lanes { length readers.new ≤ most_readers }
-    ensures quiet { names_of (lines_from limits.now.line script.now course.old.at) ≡ [] → files.new ≡ files.old }
+    ensures counted { OnOk result ((opened.new.lines + course.old.at ≤ opened.old.lines + course.new.at) × (course.new.asked ≤ opened.new.lines)) }
+    ensures numbers { OnOk result (opened.new.engine.version.number + wish course.new.wanted ≤ opened.new.lines) }
+    ensures savable { OnOk result (CanBeSaved opened.new.engine.version) }
+    ensures of { AreOf opened.new.engine.publisher opened.new.readers.items }
+    ensures same { length course.new.works.items ≡ length opened.new.readers.items }
+    ensures lanes { length opened.new.readers.items ≤ most_readers }
+    ensures quiet { names_of (lines_from setting.now.limits.line script.now course.old.at) ≡ [] → files.new ≡ files.old }
     ensures unsaved { F.held files.new ≡ F.held files.old }
     ensures causes { HasCauses (K.faults sink.old) (K.faults sink.new) (F.faults files.old) (F.faults files.new) result }
     ensures sink_calm { OnOk result (K.faults sink.new ≡ K.faults sink.old) }
     ensures files_calm { OnOk result (F.faults files.new ≡ F.faults files.old) }
     ensures unkept { F.unkept files.new ≡ F.unkept files.old }
 {
-    let mut window = Window::new(alloc);
+    let mut window = Window::new(setting.alloc);
     let mut batch = batch;
-    while let Some(cut) = next_over(alloc, script, limits, engine, *wanted, &window, &batch)? {
+    while let Some(cut) = next_over(
+        setting,
+        script,
+        &opened.engine,
+        course.wanted,
+        &window,
+        &batch,
+    )? {
         batch = go_on(
-            rt,
-            alloc,
-            gate,
-            out,
+            setting,
             files,
-            engine,
-            completed,
-            wanted,
+            opened,
             course,
-            limits,
             script,
             &mut window,
             batch,
@@ -288,7 +282,14 @@ pub(crate) fn serve_queries<R: Threads + Wait + Sync, F: Files, K: Sink, G: Gate
     let Batch { asks, after } = batch;
     let count = asks.len() as u64;
     let refused = serve_window(
-        rt, alloc, gate, out, sink, engine, works, readers, completed, wanted, window, asks,
+        setting,
+        &mut course.out,
+        sink,
+        opened,
+        &mut course.works,
+        &mut course.wanted,
+        window,
+        asks,
     )?;
     course.asked += count;
     course.refused |= refused;

@@ -10,15 +10,16 @@ ghost use Rattle.query_run.specs.Answers.{reply, answer, IsRead, IsReadBy, names
 ghost use Rattle.query_run.specs.Progress.{Says, Gives, HoldsAfterLine, HoldsSaved, IsAt, StopsWithin, line_at_hand, wish};
 
 use crate::changes::{add, delete};
-use crate::limits::Limits;
 use crate::listing::{count_slots, list_files};
 use crate::merging::merge_wanted;
 use crate::refusals::refuse;
 use crate::saving::{open, save};
+use crate::script_line::ScriptLine;
+use crate::setting::Setting;
 use collection::Engine;
 use outside::{FileError, Files, Gate};
 use script_lang::{Command, Refusal, command, put_merging};
-use std::alloc::{AllocError, Global};
+use std::alloc::AllocError;
 use std::sync::Wait;
 
 /// Appends the answer to `merge`, which makes a merge wanted.
@@ -32,28 +33,26 @@ fn want_merge(out: &mut Vec<u8>, wanted: &mut bool) -> Result<bool, AllocError>
 }
 
 /// Answers a command that asks no query, once the merge that was wanted before is made.
-fn answer_command<R: Wait, F: Files>(
-    rt: &R,
-    alloc: Global,
+fn answer_command<R: Wait, F: Files, G>(
+    setting: &Setting<R, G>,
     out: &mut Vec<u8>,
     files: &mut F,
     engine: &mut Engine,
     lines: &mut u64,
     wanted: &mut bool,
-    limits: &Limits,
     command: Command,
 ) -> Result<bool, FileError>
     requires named { IsNamed command }
     requires unasked { is_query command ≡ false }
     requires made { wanted.old ≡ false }
-    requires limits { AreLimits limits.now }
+    requires limits { AreLimits setting.now.limits }
     requires savable { CanBeSaved engine.old.version }
     requires number { engine.old.version.number < merge_end }
     requires room { lines.old < far }
     ensures reply { IfOk result (λ refusal. (state : State) → IsAt (F.held files.old) engine.old false state → IsReadBy state command →
-        Gives (reply limits.now state command) engine.new wanted.new out.old.items out.new.items refusal) }
+        Gives (reply setting.now.limits state command) engine.new wanted.new out.old.items out.new.items refusal) }
     ensures stop { OnErr result ((state : State) → IsAt (F.held files.old) engine.old false state → IsReadBy state command →
-        StopsWithin state (reply limits.now state command) lines.old lines.new engine.new) }
+        StopsWithin state (reply setting.now.limits state command) lines.old lines.new engine.new) }
     ensures number { OnOk result (engine.new.version.number + wish wanted.new ≤ engine.old.version.number + 1) }
     ensures savable { OnOk result (CanBeSaved engine.new.version) }
     ensures publisher { engine.new.publisher ≡ engine.old.publisher }
@@ -61,7 +60,8 @@ fn answer_command<R: Wait, F: Files>(
     ensures unsaved { names_kept command ≡ [] → F.held files.new ≡ F.held files.old }
     ensures untried { names_kept command ≡ [] → F.unkept files.new ≡ F.unkept files.old }
     ensures saved { (state : State) → IsAt (F.held files.old) engine.old false state →
-        HoldsSaved limits.now state command lines.old lines.new (F.unkept files.new ≡ F.unkept files.old) (F.held files.new) result }
+        HoldsSaved setting.now.limits state command lines.old lines.new
+        (F.unkept files.new ≡ F.unkept files.old) (F.held files.new) result }
     ensures cause { HasFileCause (F.faults files.old) (F.faults files.new) result }
     ensures calm { OnOk result (F.faults files.new ≡ F.faults files.old) }
     ensures unkept { OnOk result (F.unkept files.new ≡ F.unkept files.old) }
@@ -69,39 +69,21 @@ fn answer_command<R: Wait, F: Files>(
     match command {
         Command::Blank => Ok(false),
         Command::Add(name) => {
-            let refused = add(
-                rt,
-                alloc,
-                out,
-                files,
-                engine,
-                lines,
-                limits,
-                name.as_slice(),
-            )?;
+            let refused = add(setting, out, files, engine, lines, name.as_slice())?;
             Ok(refused)
         }
-        Command::Del(id) => Ok(delete(rt, out, engine, lines, id)?),
+        Command::Del(id) => Ok(delete(setting.rt, out, engine, lines, id)?),
         // a query is answered in a batch
         Command::Find(_) | Command::Count(_) | Command::Top(_, _) => unreachable!(),
         Command::Files => Ok(list_files(out, engine.version())?),
         Command::Merge => Ok(want_merge(out, wanted)?),
         Command::Shards => Ok(count_slots(out, engine.version())?),
         Command::Save(name) => {
-            let refused = save(alloc, out, files, engine, lines, limits, name.as_slice())?;
+            let refused = save(setting, out, files, engine, lines, name.as_slice())?;
             Ok(refused)
         }
         Command::Load(name) => {
-            let refused = open(
-                rt,
-                alloc,
-                out,
-                files,
-                engine,
-                lines,
-                limits,
-                name.as_slice(),
-            )?;
+            let refused = open(setting, out, files, engine, lines, name.as_slice())?;
             Ok(refused)
         }
         Command::Wrong => Ok(refuse(out, &Refusal::Command)?),
@@ -110,96 +92,86 @@ fn answer_command<R: Wait, F: Files>(
 
 /// Answers a line that asks no query. An empty one leaves a wanted merge for later; before every other one it is made.
 fn answer_any<R: Wait, F: Files, G: Gate>(
-    rt: &R,
-    alloc: Global,
-    gate: &G,
+    setting: &Setting<R, G>,
     out: &mut Vec<u8>,
     files: &mut F,
     engine: &mut Engine,
     lines: &mut u64,
     wanted: &mut bool,
-    limits: &Limits,
-    long: bool,
-    line: &[u8],
+    line: &ScriptLine<'_>,
 ) -> Result<bool, FileError>
-    requires unasked { asks_query (line_at_hand long line.now) ≡ false }
-    requires limits { AreLimits limits.now }
+    requires unasked { asks_query (line_at_hand line.now) ≡ false }
+    requires limits { AreLimits setting.now.limits }
     requires savable { CanBeSaved engine.old.version }
     requires number { engine.old.version.number + wish wanted.old < merge_end }
     requires room { lines.old < far }
-    ensures reply { IfOk result (λ refusal. (state : State) → IsAt (F.held files.old) engine.old wanted.old state → IsRead state (line_at_hand long line.now) →
-        Gives (answer limits.now state (line_at_hand long line.now)) engine.new wanted.new out.old.items out.new.items refusal) }
-    ensures stop { OnErr result ((state : State) → IsAt (F.held files.old) engine.old wanted.old state → IsRead state (line_at_hand long line.now) →
-        StopsWithin state (answer limits.now state (line_at_hand long line.now)) lines.old lines.new engine.new) }
+    ensures reply { IfOk result (λ refusal. (state : State) → IsAt (F.held files.old) engine.old wanted.old state → IsRead state (line_at_hand line.now) →
+        Gives (answer setting.now.limits state (line_at_hand line.now)) engine.new wanted.new out.old.items out.new.items refusal) }
+    ensures stop { OnErr result ((state : State) → IsAt (F.held files.old) engine.old wanted.old state → IsRead state (line_at_hand line.now) →
+        StopsWithin state (answer setting.now.limits state (line_at_hand line.now)) lines.old lines.new engine.new) }
     ensures number { OnOk result (engine.new.version.number + wish wanted.new ≤ engine.old.version.number + wish wanted.old + 1) }
     ensures savable { OnOk result (CanBeSaved engine.new.version) }
     ensures publisher { engine.new.publisher ≡ engine.old.publisher }
-    ensures quiet { names_of_line (line_at_hand long line.now) ≡ [] → files.new ≡ files.old }
-    ensures unsaved { names_kept_of_line (line_at_hand long line.now) ≡ [] → F.held files.new ≡ F.held files.old }
-    ensures untried { names_kept_of_line (line_at_hand long line.now) ≡ [] → F.unkept files.new ≡ F.unkept files.old }
+    ensures quiet { names_of_line (line_at_hand line.now) ≡ [] → files.new ≡ files.old }
+    ensures unsaved { names_kept_of_line (line_at_hand line.now) ≡ [] → F.held files.new ≡ F.held files.old }
+    ensures untried { names_kept_of_line (line_at_hand line.now) ≡ [] → F.unkept files.new ≡ F.unkept files.old }
     ensures files { (state : State) → IsAt (F.held files.old) engine.old wanted.old state →
-        HoldsAfterLine limits.now state (line_at_hand long line.now) lines.old lines.new (F.unkept files.new ≡ F.unkept files.old) (F.held files.new) result }
+        HoldsAfterLine setting.now.limits state (line_at_hand line.now) lines.old lines.new
+        (F.unkept files.new ≡ F.unkept files.old) (F.held files.new) result }
     ensures cause { HasFileCause (F.faults files.old) (F.faults files.new) result }
     ensures calm { OnOk result (F.faults files.new ≡ F.faults files.old) }
     ensures unkept { OnOk result (F.unkept files.new ≡ F.unkept files.old) }
 {
-    if !long && line.is_empty() {
+    if !line.long && line.bytes.is_empty() {
         return Ok(false);
     }
-    merge_wanted(rt, gate, engine, wanted)?;
-    if long {
+    merge_wanted(setting.rt, setting.gate, engine, wanted)?;
+    if line.long {
         let refused = refuse(out, &Refusal::LongLine)?;
         return Ok(refused);
     }
-    let command = command(alloc, line)?;
-    let refused = answer_command(
-        rt, alloc, out, files, engine, lines, wanted, limits, command,
-    )?;
+    let command = command(setting.alloc, line.bytes)?;
+    let refused = answer_command(setting, out, files, engine, lines, wanted, command)?;
     Ok(refused)
 }
 
 /// Puts the answer to a line that asks no query into `out`, and says whether it is a refusal. Of a long line only that is read. The line is completed once
 /// its answer is made, and a line that changes the collection once that is done.
 pub fn answer_line<R: Wait, F: Files, G: Gate>(
-    rt: &R,
-    alloc: Global,
-    gate: &G,
+    setting: &Setting<R, G>,
     out: &mut Vec<u8>,
     files: &mut F,
     engine: &mut Engine,
     lines: &mut u64,
     wanted: &mut bool,
-    limits: &Limits,
-    long: bool,
-    line: &[u8],
+    line: &ScriptLine<'_>,
 ) -> Result<bool, FileError>
-    requires unasked { asks_query (line_at_hand long line.now) ≡ false }
-    requires limits { AreLimits limits.now }
+    requires unasked { asks_query (line_at_hand line.now) ≡ false }
+    requires limits { AreLimits setting.now.limits }
     requires savable { CanBeSaved engine.old.version }
     requires number { engine.old.version.number + wish wanted.old < merge_end }
     requires room { lines.old < far }
-    ensures reply { IfOk result (λ refusal. (state : State) → IsAt (F.held files.old) engine.old wanted.old state → IsRead state (line_at_hand long line.now) →
-        Gives (answer limits.now state (line_at_hand long line.now)) engine.new wanted.new [] out.new.items refusal) }
-    ensures stop { OnErr result ((state : State) → IsAt (F.held files.old) engine.old wanted.old state → IsRead state (line_at_hand long line.now) →
-        StopsWithin state (answer limits.now state (line_at_hand long line.now)) lines.old lines.new engine.new) }
+    ensures reply { IfOk result (λ refusal. (state : State) → IsAt (F.held files.old) engine.old wanted.old state → IsRead state (line_at_hand line.now) →
+        Gives (answer setting.now.limits state (line_at_hand line.now)) engine.new wanted.new [] out.new.items refusal) }
+    ensures stop { OnErr result ((state : State) → IsAt (F.held files.old) engine.old wanted.old state → IsRead state (line_at_hand line.now) →
+        StopsWithin state (answer setting.now.limits state (line_at_hand line.now)) lines.old lines.new engine.new) }
     ensures lines { OnOk result (lines.new ≡ lines.old + 1) }
     ensures number { OnOk result (engine.new.version.number + wish wanted.new ≤ engine.old.version.number + wish wanted.old + 1) }
     ensures savable { OnOk result (CanBeSaved engine.new.version) }
     ensures publisher { engine.new.publisher ≡ engine.old.publisher }
-    ensures quiet { names_of_line (line_at_hand long line.now) ≡ [] → files.new ≡ files.old }
-    ensures unsaved { names_kept_of_line (line_at_hand long line.now) ≡ [] → F.held files.new ≡ F.held files.old }
-    ensures untried { names_kept_of_line (line_at_hand long line.now) ≡ [] → F.unkept files.new ≡ F.unkept files.old }
+    ensures quiet { names_of_line (line_at_hand line.now) ≡ [] → files.new ≡ files.old }
+    ensures unsaved { names_kept_of_line (line_at_hand line.now) ≡ [] → F.held files.new ≡ F.held files.old }
+    ensures untried { names_kept_of_line (line_at_hand line.now) ≡ [] → F.unkept files.new ≡ F.unkept files.old }
     ensures files { (state : State) → IsAt (F.held files.old) engine.old wanted.old state →
-        HoldsAfterLine limits.now state (line_at_hand long line.now) lines.old lines.new (F.unkept files.new ≡ F.unkept files.old) (F.held files.new) result }
+        HoldsAfterLine setting.now.limits state (line_at_hand line.now) lines.old lines.new
+        (F.unkept files.new ≡ F.unkept files.old) (F.held files.new) result }
     ensures cause { HasFileCause (F.faults files.old) (F.faults files.new) result }
     ensures calm { OnOk result (F.faults files.new ≡ F.faults files.old) }
     ensures unkept { OnOk result (F.unkept files.new ≡ F.unkept files.old) }
 {
     out.clear();
     let completed = *lines + 1;
-    let refused = answer_any(
-        rt, alloc, gate, out, files, engine, lines, wanted, limits, long, line,
-    )?;
+    let refused = answer_any(setting, out, files, engine, lines, wanted, line)?;
     *lines = completed;
     Ok(refused)
 }

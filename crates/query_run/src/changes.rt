@@ -8,13 +8,13 @@ ghost use Rattle.query_run.specs.States.{State, Keeps, AreLimits};
 ghost use Rattle.query_run.specs.Answers.{content_reply, del_reply, reply};
 ghost use Rattle.query_run.specs.Progress.{Follows, Gives, IsAt, StopsWithin};
 
-use crate::limits::Limits;
 use crate::refusals::refuse;
+use crate::setting::Setting;
 use address_space::FileId;
 use collection::{AddFault, DeleteFault, Engine};
 use outside::{FileError, Files, Loaded};
 use script_lang::{Refusal, put_file, put_gone};
-use std::alloc::{AllocError, Global};
+use std::alloc::AllocError;
 use std::sync::Wait;
 
 /// Adds a file with this content, and appends the answer. An accepted line is completed before its answer is made.
@@ -53,24 +53,22 @@ fn add_content<R: Wait>(
 }
 
 /// Loads a file, adds it, and appends the answer.
-pub fn add<R: Wait, F: Files>(
-    rt: &R,
-    alloc: Global,
+pub fn add<R: Wait, F: Files, G>(
+    setting: &Setting<R, G>,
     out: &mut Vec<u8>,
     files: &mut F,
     engine: &mut Engine,
     lines: &mut u64,
-    limits: &Limits,
     name: &[u8],
 ) -> Result<bool, FileError>
     requires named { is_name name.now ≡ true }
-    requires limits { AreLimits limits.now }
+    requires limits { AreLimits setting.now.limits }
     requires savable { CanBeSaved engine.old.version }
     requires room { lines.old < far }
     ensures reply { IfOk result (λ refusal. (state : State) → IsAt (F.held files.old) engine.old false state →
-        Gives (reply limits.now state (Add name.now)) engine.new false out.old.items out.new.items refusal) }
+        Gives (reply setting.now.limits state (Add name.now)) engine.new false out.old.items out.new.items refusal) }
     ensures stop { OnErr result ((state : State) → IsAt (F.held files.old) engine.old false state →
-        StopsWithin state (reply limits.now state (Add name.now)) lines.old lines.new engine.new) }
+        StopsWithin state (reply setting.now.limits state (Add name.now)) lines.old lines.new engine.new) }
     ensures number { OnOk result (engine.new.version.number ≤ engine.old.version.number + 1) }
     ensures savable { OnOk result (CanBeSaved engine.new.version) }
     ensures publisher { engine.new.publisher ≡ engine.old.publisher }
@@ -79,14 +77,14 @@ pub fn add<R: Wait, F: Files>(
     ensures calm { OnOk result (F.faults files.new ≡ F.faults files.old) }
     ensures unkept { F.unkept files.new ≡ F.unkept files.old }
 {
-    let mut content = Vec::new(alloc);
-    match files.load(name, limits.file, &mut content)? {
+    let mut content = Vec::new(setting.alloc);
+    match files.load(name, setting.limits.file, &mut content)? {
         Loaded::Long => {
             let refused = refuse(out, &Refusal::TooLong)?;
             Ok(refused)
         }
         Loaded::Whole => {
-            let refused = add_content(rt, out, engine, lines, name, content.as_slice())?;
+            let refused = add_content(setting.rt, out, engine, lines, name, content.as_slice())?;
             Ok(refused)
         }
     }

@@ -12,11 +12,13 @@ ghost use Rattle.query_run.specs.Windows.{DoesAhead, GoesOver, HaltsAhead, IsPai
 
 use crate::answers::answer_line;
 use crate::batches::{Batch, take_batch};
+use crate::course::Course;
 use crate::limits::Limits;
 use crate::run_fault::RunFault;
-use crate::serving::Course;
+use crate::script_line::ScriptLine;
+use crate::setting::Setting;
 use crate::window::{Window, last_width};
-use collection::Engine;
+use collection::Opened;
 use outside::{Files, Gate};
 use query_lanes::Ask;
 use script_lang::{Command, LineCut, command, line_at};
@@ -67,50 +69,52 @@ pub(crate) fn line_over(
 
 /// Puts queries off, does the line behind them, and keeps its answer. The queries are completed once they are put off, the line as any other.
 fn go_over<R: Wait, F: Files, G: Gate>(
-    rt: &R,
-    alloc: Global,
-    gate: &G,
+    setting: &Setting<R, G>,
     out: &mut Vec<u8>,
     files: &mut F,
-    engine: &mut Engine,
-    completed: &mut u64,
+    opened: &mut Opened,
     wanted: &mut bool,
-    limits: &Limits,
     window: &mut Window,
     asks: Vec<Ask>,
-    long: bool,
-    line: &[u8],
+    line: &ScriptLine<'_>,
 ) -> Result<bool, RunFault>
     requires paired { IsPaired window.old }
-    requires unasked { asks_query (line_at_hand long line.now) ≡ false }
-    requires unsaved { names_kept_of_line (line_at_hand long line.now) ≡ [] }
-    requires limits { AreLimits limits.now }
-    requires savable { CanBeSaved engine.old.version }
-    requires number { engine.old.version.number + wish wanted.old < merge_end }
-    requires room { completed.old + length asks.items < far }
-    ensures step { IfOk result (λ refusal. (state : State) → IsAt (F.held files.old) engine.old wanted.old state → IsRead state (line_at_hand long line.now) →
-        GoesOver limits.now state asks.items (line_at_hand long line.now) engine.new wanted.new refusal window.old window.new) }
-    ensures stop { (state : State) → IsAt (F.held files.old) engine.old wanted.old state → IsRead state (line_at_hand long line.now) →
-        StopsOver limits.now state asks.items (line_at_hand long line.now) completed.old completed.new engine.new }
-    ensures completed { OnOk result (completed.new ≡ completed.old + length asks.items + 1) }
+    requires unasked { asks_query (line_at_hand line.now) ≡ false }
+    requires unsaved { names_kept_of_line (line_at_hand line.now) ≡ [] }
+    requires limits { AreLimits setting.now.limits }
+    requires savable { CanBeSaved opened.old.engine.version }
+    requires number { opened.old.engine.version.number + wish wanted.old < merge_end }
+    requires room { opened.old.lines + length asks.items < far }
+    ensures step { IfOk result (λ refusal. (state : State) → IsAt (F.held files.old) opened.old.engine wanted.old state → IsRead state (line_at_hand line.now) →
+        GoesOver setting.now.limits state asks.items (line_at_hand line.now) opened.new.engine wanted.new refusal window.old window.new) }
+    ensures stop { (state : State) → IsAt (F.held files.old) opened.old.engine wanted.old state → IsRead state (line_at_hand line.now) →
+        StopsOver setting.now.limits state asks.items (line_at_hand line.now) opened.old.lines opened.new.lines opened.new.engine }
+    ensures completed { OnOk result (opened.new.lines ≡ opened.old.lines + length asks.items + 1) }
     ensures paired { OnOk result (IsPaired window.new) }
-    ensures publisher { engine.new.publisher ≡ engine.old.publisher }
-    ensures number { OnOk result (engine.new.version.number + wish wanted.new ≤ engine.old.version.number + wish wanted.old + 1) }
-    ensures savable { OnOk result (CanBeSaved engine.new.version) }
-    ensures quiet { names_of_line (line_at_hand long line.now) ≡ [] → files.new ≡ files.old }
+    ensures readers { opened.new.readers ≡ opened.old.readers }
+    ensures publisher { opened.new.engine.publisher ≡ opened.old.engine.publisher }
+    ensures number { OnOk result (opened.new.engine.version.number + wish wanted.new ≤ opened.old.engine.version.number + wish wanted.old + 1) }
+    ensures savable { OnOk result (CanBeSaved opened.new.engine.version) }
+    ensures quiet { names_of_line (line_at_hand line.now) ≡ [] → files.new ≡ files.old }
     ensures unsaved { F.held files.new ≡ F.held files.old }
     ensures causes { (n : ℕ) → HasCauses n n (F.faults files.old) (F.faults files.new) result }
     ensures files_calm { OnOk result (F.faults files.new ≡ F.faults files.old) }
     ensures unkept { F.unkept files.new ≡ F.unkept files.old }
 {
     let count = asks.len() as u64;
-    let refused = window.put_all(alloc, engine, asks)?;
-    *completed += count;
-    let number = engine.version().number();
+    let refused = window.put_all(setting.alloc, &opened.engine, asks)?;
+    opened.lines += count;
+    let number = opened.engine.version().number();
     let refused_here = answer_line(
-        rt, alloc, gate, out, files, engine, completed, wanted, limits, long, line,
+        setting,
+        out,
+        files,
+        &mut opened.engine,
+        &mut opened.lines,
+        wanted,
+        line,
     )?;
-    let version = engine.version();
+    let version = opened.engine.version();
     let made = if version.number() == number {
         0
     } else {
@@ -122,70 +126,75 @@ fn go_over<R: Wait, F: Files, G: Gate>(
 
 /// Does the line behind a batch, whose queries are put off, and takes the batch behind it.
 pub(crate) fn go_on<R: Wait, F: Files, G: Gate>(
-    rt: &R,
-    alloc: Global,
-    gate: &G,
-    out: &mut Vec<u8>,
+    setting: &Setting<R, G>,
     files: &mut F,
-    engine: &mut Engine,
-    completed: &mut u64,
-    wanted: &mut bool,
+    opened: &mut Opened,
     course: &mut Course,
-    limits: &Limits,
     script: &[u8],
     window: &mut Window,
     batch: Batch,
     cut: LineCut,
 ) -> Result<Batch, RunFault>
     requires paired { IsPaired window.old }
-    requires begins { BeginsAt limits.now.line script.now course.old.at batch }
+    requires begins { BeginsAt setting.now.limits.line script.now course.old.at batch }
     requires counted { course.old.at + length batch.asks.items ≤ batch.after }
     requires cut { IsCut script.now batch.after cut }
-    requires line { ComesNext limits.now.line script.now batch.after cut }
+    requires line { ComesNext setting.now.limits.line script.now batch.after cut }
     requires unasked { asks_query (line_of_cut script.now cut) ≡ false }
     requires unsaved { names_kept_of_line (line_of_cut script.now cut) ≡ [] }
-    requires room { completed.old + (length script.now - course.old.at) ≤ most_script }
-    requires asked { course.old.asked ≤ completed.old }
-    requires limits { AreLimits limits.now }
-    requires savable { CanBeSaved engine.old.version }
-    requires numbers { engine.old.version.number + wish wanted.old ≤ completed.old }
-    ensures goes { OnOk result (GoesBetween limits.now.line script.now course.old.at course.new.at completed.old completed.new) }
-    ensures does { OnOk result (DoesAhead limits.now (lines_from limits.now.line script.now course.old.at)
-        (stand completed.old (F.held files.old) engine.old wanted.old course.old.refused)
-        (stand completed.new (F.held files.new) engine.new wanted.new course.new.refused) window.old window.new) }
-    ensures halts { OnErr result (HaltsAhead limits.now (lines_from limits.now.line script.now course.old.at)
-        (stand completed.old (F.held files.old) engine.old wanted.old course.old.refused)
-        (stand completed.new (F.held files.new) engine.new wanted.new course.new.refused) window.old) }
-    ensures begins { IfOk result (BeginsAt limits.now.line script.now course.new.at) }
+    requires room { opened.old.lines + (length script.now - course.old.at) ≤ most_script }
+    requires asked { course.old.asked ≤ opened.old.lines }
+    requires limits { AreLimits setting.now.limits }
+    requires savable { CanBeSaved opened.old.engine.version }
+    requires numbers { opened.old.engine.version.number + wish course.old.wanted ≤ opened.old.lines }
+    ensures goes { OnOk result (GoesBetween setting.now.limits.line script.now course.old.at course.new.at opened.old.lines opened.new.lines) }
+    ensures does { OnOk result (DoesAhead setting.now.limits (lines_from setting.now.limits.line script.now course.old.at)
+        (stand opened.old.lines (F.held files.old) opened.old.engine course.old.wanted course.old.refused)
+        (stand opened.new.lines (F.held files.new) opened.new.engine course.new.wanted course.new.refused) window.old window.new) }
+    ensures halts { OnErr result (HaltsAhead setting.now.limits (lines_from setting.now.limits.line script.now course.old.at)
+        (stand opened.old.lines (F.held files.old) opened.old.engine course.old.wanted course.old.refused)
+        (stand opened.new.lines (F.held files.new) opened.new.engine course.new.wanted course.new.refused) window.old) }
+    ensures begins { IfOk result (BeginsAt setting.now.limits.line script.now course.new.at) }
     ensures next { IfOk result (λ next. course.new.at + length next.asks.items ≤ next.after) }
     ensures within { IfOk result (λ next. next.after ≤ length script.now) }
     ensures further { OnOk result (course.old.at < course.new.at) }
-    ensures counted { OnOk result ((completed.new + course.old.at ≤ completed.old + course.new.at) × (course.new.asked ≤ completed.new)) }
-    ensures numbers { OnOk result (engine.new.version.number + wish wanted.new ≤ completed.new) }
-    ensures savable { OnOk result (CanBeSaved engine.new.version) }
+    ensures counted { OnOk result ((opened.new.lines + course.old.at ≤ opened.old.lines + course.new.at) × (course.new.asked ≤ opened.new.lines)) }
+    ensures numbers { OnOk result (opened.new.engine.version.number + wish course.new.wanted ≤ opened.new.lines) }
+    ensures savable { OnOk result (CanBeSaved opened.new.engine.version) }
     ensures paired { OnOk result (IsPaired window.new) }
-    ensures publisher { engine.new.publisher ≡ engine.old.publisher }
-    ensures quiet { names_of (lines_from limits.now.line script.now course.old.at) ≡ [] → files.new ≡ files.old }
+    ensures readers { opened.new.readers.items ≡ opened.old.readers.items }
+    ensures works { course.new.works.items ≡ course.old.works.items }
+    ensures publisher { opened.new.engine.publisher ≡ opened.old.engine.publisher }
+    ensures quiet { names_of (lines_from setting.now.limits.line script.now course.old.at) ≡ [] → files.new ≡ files.old }
     ensures unsaved { F.held files.new ≡ F.held files.old }
     ensures causes { (n : ℕ) → HasCauses n n (F.faults files.old) (F.faults files.new) result }
     ensures files_calm { OnOk result (F.faults files.new ≡ F.faults files.old) }
     ensures unkept { F.unkept files.new ≡ F.unkept files.old }
 {
     let count = batch.asks.len() as u64;
-    let line = &script[cut.from..cut.to];
+    let line = ScriptLine {
+        long: cut.long,
+        bytes: &script[cut.from..cut.to],
+    };
     let refused = go_over(
-        rt, alloc, gate, out, files, engine, completed, wanted, limits, window, batch.asks,
-        cut.long, line,
+        setting,
+        &mut course.out,
+        files,
+        opened,
+        &mut course.wanted,
+        window,
+        batch.asks,
+        &line,
     )?;
     course.asked += count;
     course.refused |= refused;
     course.at = cut.after;
     let next = take_batch(
-        alloc,
+        setting.alloc,
         script,
         course.at,
-        limits.line as usize,
-        (limits.batch as usize).saturating_sub(window.asks.len()),
+        setting.limits.line as usize,
+        (setting.limits.batch as usize).saturating_sub(window.asks.len()),
         course.asked + 1,
     )?;
     Ok(next)

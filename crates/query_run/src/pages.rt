@@ -94,29 +94,28 @@ fn put_members<K: Sink>(
     out: &mut Vec<u8>,
     sink: &mut K,
     engine: &Engine,
-    own: &Option<Pass>,
+    ask: &Ask,
     expr: &Expr,
-    asked: Asked,
     first: IntervalList,
 ) -> Result<u64, RunFault>
     requires well_formed { IsWellFormed (form_of expr.now) }
-    requires first { first ≡ page_from 0 (members_found asked own.now engine.now expr.now) }
+    requires first { first ≡ page_from 0 (members_found ask.now.asked ask.now.pass engine.now expr.now) }
     ensures puts { OnOk result (Puts (K.written sink.old) (K.written sink.new) out.old.items out.new.items
-        (text_of_lines (map interval_line (members_found asked own.now engine.now expr.now)))) }
+        (text_of_lines (map interval_line (members_found ask.now.asked ask.now.pass engine.now expr.now)))) }
     ensures part { PutsPart (K.written sink.old) (K.written sink.new) out.old.items
-        (text_of_lines (map interval_line (members_found asked own.now engine.now expr.now))) }
-    ensures count { IfOk result (λ count. count ≡ length (members_found asked own.now engine.now expr.now)) }
+        (text_of_lines (map interval_line (members_found ask.now.asked ask.now.pass engine.now expr.now))) }
+    ensures count { IfOk result (λ count. count ≡ length (members_found ask.now.asked ask.now.pass engine.now expr.now)) }
     ensures causes { (n : ℕ) → HasCauses (K.faults sink.old) (K.faults sink.new) n n result }
     ensures calm { OnOk result (K.faults sink.new ≡ K.faults sink.old) }
 {
     // by it addresses are known to end, and so is every list
-    let _end = text_end(engine, own);
+    let _end = text_end(engine, &ask.pass);
     let mut put = 0;
     let mut next = Some(first);
     while let Some(page) = next {
         put_page(sink, out, &page)?;
         put += page.len() as u64;
-        next = page_after(alloc, engine, own, expr, asked, put, &page)?;
+        next = page_after(alloc, engine, &ask.pass, expr, ask.asked, put, &page)?;
     }
     Ok(put)
 }
@@ -141,7 +140,7 @@ pub fn put_answer<K: Sink>(
 {
     match (&ask.query, found) {
         (Ok(expr), Found::List(first)) => {
-            let count = put_members(alloc, out, sink, engine, &ask.pass, expr, ask.asked, first)?;
+            let count = put_members(alloc, out, sink, engine, ask, expr, first)?;
             put_total(out, count)?;
             Ok(false)
         }

@@ -11,8 +11,8 @@ ghost use Rattle.query_run.specs.States.{State, Keeps};
 ghost use Rattle.query_run.specs.Answers.{image_reply, reading_reply, reply, IsReadBy};
 ghost use Rattle.query_run.specs.Progress.{Follows, Gives, HoldsSaved, IsAt, StopsWithin};
 
-use crate::limits::Limits;
 use crate::refusals::refuse;
+use crate::setting::Setting;
 use collection::{AdoptFault, Engine};
 use gcl_model::Bytes;
 use image_file::image;
@@ -33,29 +33,28 @@ fn image_now(alloc: Global, engine: &Engine) -> Result<Bytes, AllocError>
 }
 
 /// Saves the collection under a name, and appends the answer. An accepted line is completed before its answer is made.
-pub fn save<F: Files>(
-    alloc: Global,
+pub fn save<R, F: Files, G>(
+    setting: &Setting<R, G>,
     out: &mut Vec<u8>,
     files: &mut F,
     engine: &Engine,
     lines: &mut u64,
-    limits: &Limits,
     name: &[u8],
 ) -> Result<bool, FileError>
     requires savable { CanBeSaved engine.now.version }
     requires room { lines.old < far }
     ensures reply { IfOk result (λ refusal. (state : State) → IsAt (F.held files.old) engine.now false state →
-        Gives (reply limits.now state (Save name.now)) engine.now false out.old.items out.new.items refusal) }
+        Gives (reply setting.now.limits state (Save name.now)) engine.now false out.old.items out.new.items refusal) }
     ensures stop { OnErr result ((state : State) → IsAt (F.held files.old) engine.now false state →
-        StopsWithin state (reply limits.now state (Save name.now)) lines.old lines.new engine.now) }
+        StopsWithin state (reply setting.now.limits state (Save name.now)) lines.old lines.new engine.now) }
     ensures saved { (state : State) → IsAt (F.held files.old) engine.now false state →
-        HoldsSaved limits.now state (Save name.now) lines.old lines.new (F.unkept files.new ≡ F.unkept files.old) (F.held files.new) result }
+        HoldsSaved setting.now.limits state (Save name.now) lines.old lines.new (F.unkept files.new ≡ F.unkept files.old) (F.held files.new) result }
     ensures cause { HasFileCause (F.faults files.old) (F.faults files.new) result }
     ensures calm { OnOk result (F.faults files.new ≡ F.faults files.old) }
     ensures unkept { OnOk result (F.unkept files.new ≡ F.unkept files.old) }
 {
-    let bytes = image_now(alloc, engine)?;
-    if bytes.len() as u64 > limits.image {
+    let bytes = image_now(setting.alloc, engine)?;
+    if bytes.len() as u64 > setting.limits.image {
         let refused = refuse(out, &Refusal::TooLong)?;
         return Ok(refused);
     }
@@ -135,23 +134,21 @@ fn open_content<R: Wait>(
 
 /// Loads an image and opens it in place of the empty collection, and appends the answer. Once a file was added nothing is loaded. An
 /// accepted line is completed before its answer is made.
-pub fn open<R: Wait, F: Files>(
-    rt: &R,
-    alloc: Global,
+pub fn open<R: Wait, F: Files, G>(
+    setting: &Setting<R, G>,
     out: &mut Vec<u8>,
     files: &mut F,
     engine: &mut Engine,
     lines: &mut u64,
-    limits: &Limits,
     name: &[u8],
 ) -> Result<bool, FileError>
     requires savable { CanBeSaved engine.old.version }
     requires number { engine.old.version.number < merge_end }
     requires room { lines.old < far }
     ensures reply { IfOk result (λ refusal. (state : State) → IsAt (F.held files.old) engine.old false state → IsReadBy state (Load name.now) →
-        Gives (reply limits.now state (Load name.now)) engine.new false out.old.items out.new.items refusal) }
+        Gives (reply setting.now.limits state (Load name.now)) engine.new false out.old.items out.new.items refusal) }
     ensures stop { OnErr result ((state : State) → IsAt (F.held files.old) engine.old false state → IsReadBy state (Load name.now) →
-        StopsWithin state (reply limits.now state (Load name.now)) lines.old lines.new engine.new) }
+        StopsWithin state (reply setting.now.limits state (Load name.now)) lines.old lines.new engine.new) }
     ensures number { OnOk result (engine.new.version.number ≤ engine.old.version.number + 1) }
     ensures savable { OnOk result (CanBeSaved engine.new.version) }
     ensures publisher { engine.new.publisher ≡ engine.old.publisher }
@@ -165,14 +162,21 @@ pub fn open<R: Wait, F: Files>(
         let refused = refuse(out, &Refusal::NotEmpty)?;
         return Ok(refused);
     }
-    let mut content = Vec::new(alloc);
-    match files.load(name, limits.image, &mut content)? {
+    let mut content = Vec::new(setting.alloc);
+    match files.load(name, setting.limits.image, &mut content)? {
         Loaded::Long => {
             let refused = refuse(out, &Refusal::TooLong)?;
             Ok(refused)
         }
         Loaded::Whole => {
-            let refused = open_content(rt, alloc, out, engine, lines, content.as_slice())?;
+            let refused = open_content(
+                setting.rt,
+                setting.alloc,
+                out,
+                engine,
+                lines,
+                content.as_slice(),
+            )?;
             Ok(refused)
         }
     }

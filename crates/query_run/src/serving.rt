@@ -13,76 +13,47 @@ ghost use Rattle.query_run.specs.Runs.{GetsPart};
 use crate::answering::serve_queries;
 use crate::answers::answer_line;
 use crate::batches::take_batch;
-use crate::limits::Limits;
+use crate::course::Course;
 use crate::run_fault::RunFault;
+use crate::script_line::ScriptLine;
+use crate::setting::Setting;
 use crate::write::write_all;
-use collection::Engine;
-use manifest_publish::Reader;
+use collection::Opened;
 use outside::{Files, Gate, Sink};
-use query_lanes::Work;
 use script_lang::{LineCut, line_at};
-use std::alloc::Global;
 use std::sync::Wait;
 use std::thread::Threads;
 
-/// How far a run has come.
-#[derive(Drop)]
-pub(crate) struct Course {
-    // where the next line begins in the bytes at hand
-    pub(crate) at: usize,
-    // how many queries were asked
-    pub(crate) asked: u64,
-    // whether a refusal is among the answers
-    pub(crate) refused: bool,
-}
-
-impl Course {
-    /// No line is answered.
-    pub(crate) fn new() -> Course
-        ensures { result ≡ record { at = 0; asked = 0; refused = false } }
-    {
-        Course {
-            at: 0,
-            asked: 0,
-            refused: false,
-        }
-    }
-}
-
 /// Answers a line that asks no query, and writes the answer.
 fn serve_line<R: Wait, F: Files, K: Sink, G: Gate>(
-    rt: &R,
-    alloc: Global,
-    gate: &G,
+    setting: &Setting<R, G>,
     out: &mut Vec<u8>,
     files: &mut F,
     sink: &mut K,
-    engine: &mut Engine,
-    completed: &mut u64,
+    opened: &mut Opened,
     wanted: &mut bool,
-    limits: &Limits,
-    long: bool,
-    line: &[u8],
+    line: &ScriptLine<'_>,
 ) -> Result<bool, RunFault>
-    requires unasked { asks_query (line_at_hand long line.now) ≡ false }
-    requires limits { AreLimits limits.now }
-    requires savable { CanBeSaved engine.old.version }
-    requires number { engine.old.version.number + wish wanted.old < merge_end }
-    requires room { completed.old < far }
-    ensures step { IfOk result (λ refusal. (state : State) → IsAt (F.held files.old) engine.old wanted.old state → IsRead state (line_at_hand long line.now) →
-        HasWritten limits.now state (line_at_hand long line.now) engine.new wanted.new refusal (K.written sink.old) (K.written sink.new)) }
-    ensures stop { (state : State) → IsAt (F.held files.old) engine.old wanted.old state → IsRead state (line_at_hand long line.now) →
-        StopsWithin state (answer limits.now state (line_at_hand long line.now)) completed.old completed.new engine.new }
-    ensures part { (state : State) → IsAt (F.held files.old) engine.old wanted.old state → IsRead state (line_at_hand long line.now) →
-        GetsPart (K.written sink.old) (K.written sink.new) (answer_text limits.now state (line_at_hand long line.now)) }
-    ensures completed { OnOk result (completed.new ≡ completed.old + 1) }
-    ensures publisher { engine.new.publisher ≡ engine.old.publisher }
-    ensures number { OnOk result (engine.new.version.number + wish wanted.new ≤ engine.old.version.number + wish wanted.old + 1) }
-    ensures savable { OnOk result (CanBeSaved engine.new.version) }
-    ensures quiet { names_of_line (line_at_hand long line.now) ≡ [] → files.new ≡ files.old }
-    ensures unsaved { names_kept_of_line (line_at_hand long line.now) ≡ [] → F.held files.new ≡ F.held files.old }
-    ensures files { (state : State) → IsAt (F.held files.old) engine.old wanted.old state →
-        HoldsAfterLine limits.now state (line_at_hand long line.now) completed.old completed.new
+    requires unasked { asks_query (line_at_hand line.now) ≡ false }
+    requires limits { AreLimits setting.now.limits }
+    requires savable { CanBeSaved opened.old.engine.version }
+    requires number { opened.old.engine.version.number + wish wanted.old < merge_end }
+    requires room { opened.old.lines < far }
+    ensures step { IfOk result (λ refusal. (state : State) → IsAt (F.held files.old) opened.old.engine wanted.old state → IsRead state (line_at_hand line.now) →
+        HasWritten setting.now.limits state (line_at_hand line.now) opened.new.engine wanted.new refusal (K.written sink.old) (K.written sink.new)) }
+    ensures stop { (state : State) → IsAt (F.held files.old) opened.old.engine wanted.old state → IsRead state (line_at_hand line.now) →
+        StopsWithin state (answer setting.now.limits state (line_at_hand line.now)) opened.old.lines opened.new.lines opened.new.engine }
+    ensures part { (state : State) → IsAt (F.held files.old) opened.old.engine wanted.old state → IsRead state (line_at_hand line.now) →
+        GetsPart (K.written sink.old) (K.written sink.new) (answer_text setting.now.limits state (line_at_hand line.now)) }
+    ensures completed { OnOk result (opened.new.lines ≡ opened.old.lines + 1) }
+    ensures readers { opened.new.readers ≡ opened.old.readers }
+    ensures publisher { opened.new.engine.publisher ≡ opened.old.engine.publisher }
+    ensures number { OnOk result (opened.new.engine.version.number + wish wanted.new ≤ opened.old.engine.version.number + wish wanted.old + 1) }
+    ensures savable { OnOk result (CanBeSaved opened.new.engine.version) }
+    ensures quiet { names_of_line (line_at_hand line.now) ≡ [] → files.new ≡ files.old }
+    ensures unsaved { names_kept_of_line (line_at_hand line.now) ≡ [] → F.held files.new ≡ F.held files.old }
+    ensures files { (state : State) → IsAt (F.held files.old) opened.old.engine wanted.old state →
+        HoldsAfterLine setting.now.limits state (line_at_hand line.now) opened.old.lines opened.new.lines
         (F.unkept files.new ≡ F.unkept files.old) (F.held files.new) result }
     ensures causes { HasCauses (K.faults sink.old) (K.faults sink.new) (F.faults files.old) (F.faults files.new) result }
     ensures sink_calm { OnOk result (K.faults sink.new ≡ K.faults sink.old) }
@@ -91,7 +62,13 @@ fn serve_line<R: Wait, F: Files, K: Sink, G: Gate>(
     ensures kept { IsErrOf result RunFault.Write → F.unkept files.new ≡ F.unkept files.old }
 {
     let refused = answer_line(
-        rt, alloc, gate, out, files, engine, completed, wanted, limits, long, line,
+        setting,
+        out,
+        files,
+        &mut opened.engine,
+        &mut opened.lines,
+        wanted,
+        line,
     )?;
     write_all(sink, out.as_slice())?;
     Ok(refused)
@@ -99,48 +76,40 @@ fn serve_line<R: Wait, F: Files, K: Sink, G: Gate>(
 
 /// Answers the queries that begin with the line at hand, or else this line alone.
 fn serve_some<R: Threads + Wait + Sync, F: Files, K: Sink, G: Gate + Sync>(
-    rt: &R,
-    alloc: Global,
-    gate: &G,
-    out: &mut Vec<u8>,
+    setting: &Setting<R, G>,
     files: &mut F,
     sink: &mut K,
-    engine: &mut Engine,
-    works: &mut [Work],
-    readers: &mut [Reader],
-    completed: &mut u64,
-    wanted: &mut bool,
+    opened: &mut Opened,
     course: &mut Course,
-    limits: &Limits,
     script: &[u8],
     cut: LineCut,
 ) -> Result<(), RunFault>
     requires cut { IsCut script.now course.old.at cut }
-    requires line { ComesNext limits.now.line script.now course.old.at cut }
-    requires room { completed.old + (length script.now - course.old.at) ≤ most_script }
-    requires asked { course.old.asked ≤ completed.old }
-    requires limits { AreLimits limits.now }
-    requires savable { CanBeSaved engine.old.version }
-    requires numbers { engine.old.version.number + wish wanted.old ≤ completed.old }
-    requires same { length works.old ≡ length readers.old }
-    requires lanes { length readers.old ≤ most_readers }
-    requires of { AreOf engine.old.publisher readers.old }
-    ensures goes { OnOk result (GoesBetween limits.now.line script.now course.old.at course.new.at completed.old completed.new) }
-    ensures come { OnOk result (Advances limits.now (lines_from limits.now.line script.now course.old.at)
-        (stand completed.old (F.held files.old) engine.old wanted.old course.old.refused)
-        (stand completed.new (F.held files.new) engine.new wanted.new course.new.refused) (K.written sink.old) (K.written sink.new)) }
-    ensures stopped { Stops limits.now (lines_from limits.now.line script.now course.old.at) (F.unkept files.new ≡ F.unkept files.old)
-        (stand completed.old (F.held files.old) engine.old wanted.old course.old.refused)
-        (stand completed.new (F.held files.new) engine.new wanted.new course.new.refused) (K.written sink.old) (K.written sink.new) }
+    requires line { ComesNext setting.now.limits.line script.now course.old.at cut }
+    requires room { opened.old.lines + (length script.now - course.old.at) ≤ most_script }
+    requires asked { course.old.asked ≤ opened.old.lines }
+    requires limits { AreLimits setting.now.limits }
+    requires savable { CanBeSaved opened.old.engine.version }
+    requires numbers { opened.old.engine.version.number + wish course.old.wanted ≤ opened.old.lines }
+    requires same { length course.old.works.items ≡ length opened.old.readers.items }
+    requires lanes { length opened.old.readers.items ≤ most_readers }
+    requires of { AreOf opened.old.engine.publisher opened.old.readers.items }
+    ensures goes { OnOk result (GoesBetween setting.now.limits.line script.now course.old.at course.new.at opened.old.lines opened.new.lines) }
+    ensures come { OnOk result (Advances setting.now.limits (lines_from setting.now.limits.line script.now course.old.at)
+        (stand opened.old.lines (F.held files.old) opened.old.engine course.old.wanted course.old.refused)
+        (stand opened.new.lines (F.held files.new) opened.new.engine course.new.wanted course.new.refused) (K.written sink.old) (K.written sink.new)) }
+    ensures stopped { Stops setting.now.limits (lines_from setting.now.limits.line script.now course.old.at) (F.unkept files.new ≡ F.unkept files.old)
+        (stand opened.old.lines (F.held files.old) opened.old.engine course.old.wanted course.old.refused)
+        (stand opened.new.lines (F.held files.new) opened.new.engine course.new.wanted course.new.refused) (K.written sink.old) (K.written sink.new) }
     ensures further { OnOk result ((course.old.at < course.new.at) × (course.new.at ≤ length script.now)) }
-    ensures counted { OnOk result ((completed.new + course.old.at ≤ completed.old + course.new.at) × (course.new.asked ≤ completed.new)) }
-    ensures numbers { OnOk result (engine.new.version.number + wish wanted.new ≤ completed.new) }
-    ensures savable { OnOk result (CanBeSaved engine.new.version) }
-    ensures of { AreOf engine.new.publisher readers.new }
-    ensures same { length works.new ≡ length readers.new }
-    ensures lanes { length readers.new ≤ most_readers }
-    ensures quiet { names_of (lines_from limits.now.line script.now course.old.at) ≡ [] → files.new ≡ files.old }
-    ensures unsaved { names_kept_of (lines_from limits.now.line script.now course.old.at) ≡ [] → F.held files.new ≡ F.held files.old }
+    ensures counted { OnOk result ((opened.new.lines + course.old.at ≤ opened.old.lines + course.new.at) × (course.new.asked ≤ opened.new.lines)) }
+    ensures numbers { OnOk result (opened.new.engine.version.number + wish course.new.wanted ≤ opened.new.lines) }
+    ensures savable { OnOk result (CanBeSaved opened.new.engine.version) }
+    ensures of { AreOf opened.new.engine.publisher opened.new.readers.items }
+    ensures same { length course.new.works.items ≡ length opened.new.readers.items }
+    ensures lanes { length opened.new.readers.items ≤ most_readers }
+    ensures quiet { names_of (lines_from setting.now.limits.line script.now course.old.at) ≡ [] → files.new ≡ files.old }
+    ensures unsaved { names_kept_of (lines_from setting.now.limits.line script.now course.old.at) ≡ [] → F.held files.new ≡ F.held files.old }
     ensures causes { HasCauses (K.faults sink.old) (K.faults sink.new) (F.faults files.old) (F.faults files.new) result }
     ensures sink_calm { OnOk result (K.faults sink.new ≡ K.faults sink.old) }
     ensures files_calm { OnOk result (F.faults files.new ≡ F.faults files.old) }
@@ -148,23 +117,29 @@ fn serve_some<R: Threads + Wait + Sync, F: Files, K: Sink, G: Gate + Sync>(
     ensures kept { IsErrOf result RunFault.Write → F.unkept files.new ≡ F.unkept files.old }
 {
     let batch = take_batch(
-        alloc,
+        setting.alloc,
         script,
         course.at,
-        limits.line as usize,
-        limits.batch as usize,
+        setting.limits.line as usize,
+        setting.limits.batch as usize,
         course.asked + 1,
     )?;
     if !batch.asks.is_empty() {
-        serve_queries(
-            rt, alloc, gate, out, files, sink, engine, works, readers, completed, wanted, course,
-            limits, script, batch,
-        )?;
+        serve_queries(setting, files, sink, opened, course, script, batch)?;
         return Ok(());
     }
-    let line = &script[cut.from..cut.to];
+    let line = ScriptLine {
+        long: cut.long,
+        bytes: &script[cut.from..cut.to],
+    };
     let refused = serve_line(
-        rt, alloc, gate, out, files, sink, engine, completed, wanted, limits, cut.long, line,
+        setting,
+        &mut course.out,
+        files,
+        sink,
+        opened,
+        &mut course.wanted,
+        &line,
     )?;
     course.refused |= refused;
     course.at = cut.after;
@@ -173,44 +148,36 @@ fn serve_some<R: Threads + Wait + Sync, F: Files, K: Sink, G: Gate + Sync>(
 
 /// Answers the lines of some bytes.
 pub(crate) fn serve_held<R: Threads + Wait + Sync, F: Files, K: Sink, G: Gate + Sync>(
-    rt: &R,
-    alloc: Global,
-    gate: &G,
-    out: &mut Vec<u8>,
+    setting: &Setting<R, G>,
     files: &mut F,
     sink: &mut K,
-    engine: &mut Engine,
-    works: &mut [Work],
-    readers: &mut [Reader],
-    completed: &mut u64,
-    wanted: &mut bool,
+    opened: &mut Opened,
     course: &mut Course,
-    limits: &Limits,
     script: &[u8],
 ) -> Result<(), RunFault>
-    requires room { completed.old + length script.now ≤ most_script }
-    requires asked { course.old.asked ≤ completed.old }
-    requires limits { AreLimits limits.now }
-    requires savable { CanBeSaved engine.old.version }
-    requires numbers { engine.old.version.number + wish wanted.old ≤ completed.old }
-    requires same { length works.old ≡ length readers.old }
-    requires lanes { length readers.old ≤ most_readers }
-    requires of { AreOf engine.old.publisher readers.old }
-    ensures each { OnOk result (completed.new ≡ completed.old + length (lines limits.now.line script.now)) }
-    ensures come { OnOk result (Advances limits.now (lines limits.now.line script.now)
-        (stand completed.old (F.held files.old) engine.old wanted.old course.old.refused)
-        (stand completed.new (F.held files.new) engine.new wanted.new course.new.refused) (K.written sink.old) (K.written sink.new)) }
-    ensures stopped { Stops limits.now (lines limits.now.line script.now) (F.unkept files.new ≡ F.unkept files.old)
-        (stand completed.old (F.held files.old) engine.old wanted.old course.old.refused)
-        (stand completed.new (F.held files.new) engine.new wanted.new course.new.refused) (K.written sink.old) (K.written sink.new) }
-    ensures counted { OnOk result ((completed.new ≤ completed.old + length script.now) × (course.new.asked ≤ completed.new)) }
-    ensures numbers { OnOk result (engine.new.version.number + wish wanted.new ≤ completed.new) }
-    ensures savable { OnOk result (CanBeSaved engine.new.version) }
-    ensures of { AreOf engine.new.publisher readers.new }
-    ensures same { length works.new ≡ length readers.new }
-    ensures lanes { length readers.new ≤ most_readers }
-    ensures quiet { names_of (lines limits.now.line script.now) ≡ [] → files.new ≡ files.old }
-    ensures unsaved { names_kept_of (lines limits.now.line script.now) ≡ [] → F.held files.new ≡ F.held files.old }
+    requires room { opened.old.lines + length script.now ≤ most_script }
+    requires asked { course.old.asked ≤ opened.old.lines }
+    requires limits { AreLimits setting.now.limits }
+    requires savable { CanBeSaved opened.old.engine.version }
+    requires numbers { opened.old.engine.version.number + wish course.old.wanted ≤ opened.old.lines }
+    requires same { length course.old.works.items ≡ length opened.old.readers.items }
+    requires lanes { length opened.old.readers.items ≤ most_readers }
+    requires of { AreOf opened.old.engine.publisher opened.old.readers.items }
+    ensures each { OnOk result (opened.new.lines ≡ opened.old.lines + length (lines setting.now.limits.line script.now)) }
+    ensures come { OnOk result (Advances setting.now.limits (lines setting.now.limits.line script.now)
+        (stand opened.old.lines (F.held files.old) opened.old.engine course.old.wanted course.old.refused)
+        (stand opened.new.lines (F.held files.new) opened.new.engine course.new.wanted course.new.refused) (K.written sink.old) (K.written sink.new)) }
+    ensures stopped { Stops setting.now.limits (lines setting.now.limits.line script.now) (F.unkept files.new ≡ F.unkept files.old)
+        (stand opened.old.lines (F.held files.old) opened.old.engine course.old.wanted course.old.refused)
+        (stand opened.new.lines (F.held files.new) opened.new.engine course.new.wanted course.new.refused) (K.written sink.old) (K.written sink.new) }
+    ensures counted { OnOk result ((opened.new.lines ≤ opened.old.lines + length script.now) × (course.new.asked ≤ opened.new.lines)) }
+    ensures numbers { OnOk result (opened.new.engine.version.number + wish course.new.wanted ≤ opened.new.lines) }
+    ensures savable { OnOk result (CanBeSaved opened.new.engine.version) }
+    ensures of { AreOf opened.new.engine.publisher opened.new.readers.items }
+    ensures same { length course.new.works.items ≡ length opened.new.readers.items }
+    ensures lanes { length opened.new.readers.items ≤ most_readers }
+    ensures quiet { names_of (lines setting.now.limits.line script.now) ≡ [] → files.new ≡ files.old }
+    ensures unsaved { names_kept_of (lines setting.now.limits.line script.now) ≡ [] → F.held files.new ≡ F.held files.old }
     ensures causes { HasCauses (K.faults sink.old) (K.faults sink.new) (F.faults files.old) (F.faults files.new) result }
     ensures sink_calm { OnOk result (K.faults sink.new ≡ K.faults sink.old) }
     ensures files_calm { OnOk result (F.faults files.new ≡ F.faults files.old) }
@@ -218,11 +185,8 @@ pub(crate) fn serve_held<R: Threads + Wait + Sync, F: Files, K: Sink, G: Gate + 
     ensures kept { IsErrOf result RunFault.Write → F.unkept files.new ≡ F.unkept files.old }
 {
     course.at = 0;
-    while let Some(cut) = line_at(script, course.at, limits.line as usize) {
-        serve_some(
-            rt, alloc, gate, out, files, sink, engine, works, readers, completed, wanted, course,
-            limits, script, cut,
-        )?;
+    while let Some(cut) = line_at(script, course.at, setting.limits.line as usize) {
+        serve_some(setting, files, sink, opened, course, script, cut)?;
     }
     Ok(())
 }

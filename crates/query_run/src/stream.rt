@@ -9,14 +9,15 @@ ghost use Rattle.query_run.specs.Progress.{HasStreamCauses, IsSure};
 ghost use Rattle.query_run.specs.Answers.{names_kept_of, names_of, output_by};
 ghost use Rattle.query_run.specs.Runs.{WhereTold, GetsPart, IsAnsweredBy, IsLeftBy, IsStopped, HandsOverMore, TakesWithin, within};
 
+use crate::course::Course;
 use crate::limits::Limits;
 use crate::merging::merge_wanted;
 use crate::read::read_piece;
-use crate::serving::{Course, serve_held};
+use crate::serving::serve_held;
+use crate::setting::Setting;
 use crate::status::Status;
 use crate::stream_fault::StreamFault;
-use collection::{Engine, Opened};
-use manifest_publish::Reader;
+use collection::Opened;
 use outside::{Files, Gate, Sink, Source};
 use query_lanes::Work;
 use script_lang::LineFeed;
@@ -26,87 +27,56 @@ use std::thread::Threads;
 
 /// Reads a script piece by piece, and answers the lines of each piece before it reads the next; says whether a refusal is among the answers.
 fn serve_pieces<R: Threads + Wait + Sync, F: Files, S: Source, K: Sink, G: Gate + Sync>(
-    rt: &R,
-    alloc: Global,
-    gate: &G,
+    setting: &Setting<R, G>,
     files: &mut F,
     source: &mut S,
     sink: &mut K,
-    engine: &mut Engine,
-    readers: &mut [Reader],
-    completed: &mut u64,
-    limits: &Limits,
+    opened: &mut Opened,
 ) -> Result<bool, StreamFault>
-    requires opened { IsFresh engine.old completed.old }
-    requires of { AreOf engine.old.publisher readers.old }
-    requires lanes { length readers.old ≤ most_readers }
-    requires limits { AreLimits limits.now }
-    ensures answered { IfOk result (λ refusal. WhereTold limits.now (Some engine.old.version.first) (S.left source.old) (F.held files.old) (λ start script.
-        IsAnsweredBy limits.now start script refusal (S.left source.new) (F.held files.new) (K.written sink.old) (K.written sink.new))) }
-    ensures left { OnOk result (WhereTold limits.now (Some engine.old.version.first) (S.left source.old) (F.held files.old) (λ start script.
-        IsLeftBy limits.now start script engine.new completed.new)) }
-    ensures stopped { WhereTold limits.now (Some engine.old.version.first) (S.left source.old) (F.held files.old) (λ start script.
-        IsStopped limits.now start (lines limits.now.line script) completed.new engine.new.version (F.unkept files.new ≡ F.unkept files.old)
-        (F.held files.new) (K.written sink.old) (K.written sink.new)) }
+    requires opened { IsFresh opened.old.engine opened.old.lines }
+    requires of { AreOf opened.old.engine.publisher opened.old.readers.items }
+    requires lanes { length opened.old.readers.items ≤ most_readers }
+    requires limits { AreLimits setting.now.limits }
+    ensures answered { IfOk result (λ refusal.
+        WhereTold setting.now.limits (Some opened.old.engine.version.first) (S.left source.old) (F.held files.old) (λ start script.
+        IsAnsweredBy setting.now.limits start script refusal (S.left source.new) (F.held files.new) (K.written sink.old) (K.written sink.new))) }
+    ensures left { OnOk result (
+        WhereTold setting.now.limits (Some opened.old.engine.version.first) (S.left source.old) (F.held files.old) (λ start script.
+        IsLeftBy setting.now.limits start script opened.new.engine opened.new.lines)) }
+    ensures stopped { WhereTold setting.now.limits (Some opened.old.engine.version.first) (S.left source.old) (F.held files.old) (λ start script.
+        IsStopped setting.now.limits start (lines setting.now.limits.line script) opened.new.lines opened.new.engine.version
+        (F.unkept files.new ≡ F.unkept files.old) (F.held files.new) (K.written sink.old) (K.written sink.new)) }
     ensures sure { IsSure result → F.unkept files.new ≡ F.unkept files.old }
     ensures part_within { IsErrOf result StreamFault.TooLong →
-        WhereTold limits.now (Some engine.old.version.first) (S.left source.old) (F.held files.old) (λ start script.
-        GetsPart (K.written sink.old) (K.written sink.new) (output_by limits.now start (within limits.now.script script))) }
-    ensures too_long { IsErrOf result StreamFault.TooLong → HandsOverMore limits.now.script (S.left source.old) (S.left source.new) }
-    ensures took { TakesWithin limits.now.script (S.left source.old) (S.left source.new) }
-    ensures short { OnOk result (IfSome (S.left source.old) (λ script. length script ≤ limits.now.script)) }
-    ensures quiet { IfSome (S.left source.old) (λ script. names_of (lines limits.now.line script) ≡ [] → files.new ≡ files.old) }
-    ensures unsaved { IfSome (S.left source.old) (λ script. names_kept_of (lines limits.now.line script) ≡ [] → F.held files.new ≡ F.held files.old) }
+        WhereTold setting.now.limits (Some opened.old.engine.version.first) (S.left source.old) (F.held files.old) (λ start script.
+        GetsPart (K.written sink.old) (K.written sink.new) (output_by setting.now.limits start (within setting.now.limits.script script))) }
+    ensures too_long { IsErrOf result StreamFault.TooLong → HandsOverMore setting.now.limits.script (S.left source.old) (S.left source.new) }
+    ensures took { TakesWithin setting.now.limits.script (S.left source.old) (S.left source.new) }
+    ensures short { OnOk result (IfSome (S.left source.old) (λ script. length script ≤ setting.now.limits.script)) }
+    ensures quiet { IfSome (S.left source.old) (λ script. names_of (lines setting.now.limits.line script) ≡ [] → files.new ≡ files.old) }
+    ensures unsaved { IfSome (S.left source.old) (λ script. names_kept_of (lines setting.now.limits.line script) ≡ [] → F.held files.new ≡ F.held files.old) }
     ensures causes { HasStreamCauses (S.faults source.old) (S.faults source.new) (K.faults sink.old) (K.faults sink.new)
         (F.faults files.old) (F.faults files.new) result }
     ensures source_calm { OnOk result (S.faults source.new ≡ S.faults source.old) }
     ensures sink_calm { OnOk result (K.faults sink.new ≡ K.faults sink.old) }
     ensures files_calm { OnOk result (F.faults files.new ≡ F.faults files.old) }
 {
-    let _version = engine.version();
-    let mut works = Work::of_lanes(alloc, readers.len())?;
-    let works = works.as_mut_slice();
-    let mut out = Vec::new(alloc);
-    let mut wanted = false;
-    let mut course = Course::new();
-    let mut feed = LineFeed::new(alloc, limits.line);
+    let _version = opened.engine.version();
+    let works = Work::of_lanes(setting.alloc, opened.readers.len())?;
+    let mut course = Course::new(setting.alloc, works);
+    let mut feed = LineFeed::new(setting.alloc, setting.limits.line);
     let mut read = 0;
-    while read_piece(source, &mut feed, &mut read, limits.script)? {
-        serve_held(
-            rt,
-            alloc,
-            gate,
-            &mut out,
-            files,
-            sink,
-            engine,
-            works,
-            readers,
-            completed,
-            &mut wanted,
-            &mut course,
-            limits,
-            feed.ready(),
-        )?;
+    while read_piece(source, &mut feed, &mut read, setting.limits.script)? {
+        serve_held(setting, files, sink, opened, &mut course, feed.ready())?;
         feed.take_ready();
     }
-    serve_held(
-        rt,
-        alloc,
-        gate,
-        &mut out,
-        files,
-        sink,
-        engine,
-        works,
-        readers,
-        completed,
-        &mut wanted,
-        &mut course,
-        limits,
-        feed.rest(),
+    serve_held(setting, files, sink, opened, &mut course, feed.rest())?;
+    merge_wanted(
+        setting.rt,
+        setting.gate,
+        &mut opened.engine,
+        &mut course.wanted,
     )?;
-    merge_wanted(rt, gate, engine, &mut wanted)?;
     Ok(course.refused)
 }
 
@@ -182,19 +152,13 @@ pub fn serve<R: Threads + Wait + Sync, F: Files, S: Source, K: Sink, G: Gate + S
     ensures unasked { IfSome (S.left source.old) (λ script. names_of (lines limits.now.line script) ≡ [] → files.new ≡ files.old) }
     ensures unsaved { IfSome (S.left source.old) (λ script. names_kept_of (lines limits.now.line script) ≡ [] → F.held files.new ≡ F.held files.old) }
 {
-    let answered = serve_pieces(
+    let setting = Setting {
         rt,
         alloc,
         gate,
-        files,
-        source,
-        sink,
-        &mut opened.engine,
-        opened.readers.as_mut_slice(),
-        &mut opened.lines,
-        limits,
-    );
-    match answered {
+        limits: *limits,
+    };
+    match serve_pieces(&setting, files, source, sink, opened) {
         Ok(false) => Status::Done,
         Ok(true) => Status::DoneWithRefusals,
         Err(StreamFault::Read) => Status::ReadFault,

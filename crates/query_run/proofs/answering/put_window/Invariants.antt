@@ -12,7 +12,7 @@ invariant-loop-found g l = record {
   rest : into_iter_items l.found-iterator ≡ map (answer_in (version_text l.engine.version)) (drop l.i l.asks);
   sized : into_iter_len l.found-iterator ≡ length (into_iter_items l.found-iterator);
   within : l.i ≤ length l.asks;
-  puts : Puts (g.K.Sink.written l.initial.sink) (g.K.Sink.written l.sink) l.initial.out.items l.out.items (fronted (version_text l.engine.version) (take l.i l.fronts) (take l.i l.asks));
+  puts : Puts (g.K.Sink.written l.initial.sink) (g.K.Sink.written l.sink) l.initial.out.items l.out.items (fronted (version_text l.engine.version) (take l.i l.window.fronts.items) (take l.i l.asks));
   later : g.K.Sink.faults l.initial.sink ≤ g.K.Sink.faults l.sink;
   calm : g.K.Sink.faults l.sink ≡ g.K.Sink.faults l.initial.sink;
 }

@@ -11,11 +11,11 @@ use Rattle.query_run.proofs.answering.serve_window.Goals as goal
 
 pub returns-in_err-append-clause-stop : goal.returns-in_err-append-clause-stop
 returns-in_err-append-clause-stop g c =
-    window_waits c.args.window c.args.asks.items c.args.completed.now c.args.engine.now c.args.engine.now c.args.wanted.now (g.K.Sink.written c.args.sink.now) (λ state keeps. keeps.stands)
+    window_waits c.args.window c.args.asks.items c.args.opened.now.lines c.args.opened.now.engine c.args.opened.now.engine c.args.wanted.now (g.K.Sink.written c.args.sink.now) (λ state keeps. keeps.stands)
 
 pub returns-in_err-answers-clause-stop : goal.returns-in_err-answers-clause-stop
 returns-in_err-answers-clause-stop g c =
-    window_waits c.args.window c.args.asks.items c.args.completed.now c.args.engine.now c.answer_batch.new.engine c.args.wanted.now (g.K.Sink.written c.args.sink.now)
+    window_waits c.args.window c.args.asks.items c.args.opened.now.lines c.args.opened.now.engine c.answer_batch.new.engine c.args.wanted.now (g.K.Sink.written c.args.sink.now)
     (λ state keeps. c.in_err-answers.ensures.stands state.collection keeps.stands)
 
 pub returns-in_err-refused-clause-stop : goal.returns-in_err-refused-clause-stop
@@ -32,10 +32,10 @@ returns-in_err-refused-clause-stop g c =
     c.split_at.ensures.back ∙ ap (drop c.len.result) all ∙ ap (λ (k : ℕ). drop k (window.asks.items ++ asks)) count ∙ drop-append_seam window.asks.items asks in
     let old = g.K.Sink.written c.args.sink.now in
     let new = g.K.Sink.written c.write_answers.new.sink in
-    let keeps : KeepsAll c.args.engine.now c.answer_batch.new.engine c.args.wanted.now = λ state keeps. merged_keeps c.args.wanted.now c.args.engine.now c.answer_batch.new.engine state c.in_ok-answers.ensures.merged keeps in
-    let i : ℕ = c.write_answers.new.completed - c.args.completed.now in
-    let counted : c.write_answers.new.completed ≤ c.args.completed.now + length asks = subst (λ (l : List Ask). c.write_answers.new.completed ≤ c.args.completed.now + length l) back c.in_err-refused.ensures.counted.1 in
-    window_stops window asks c.args.engine.now c.answer_batch.new.engine c.args.wanted.now old new keeps i (omega (arith, counted))
+    let keeps : KeepsAll c.args.opened.now.engine c.answer_batch.new.engine c.args.wanted.now = λ state keeps. merged_keeps c.args.wanted.now c.args.opened.now.engine c.answer_batch.new.engine state c.in_ok-answers.ensures.merged keeps in
+    let i : ℕ = c.write_answers.new.completed - c.args.opened.now.lines in
+    let counted : c.write_answers.new.completed ≤ c.args.opened.now.lines + length asks = subst (λ (l : List Ask). c.write_answers.new.completed ≤ c.args.opened.now.lines + length l) back c.in_err-refused.ensures.counted.1 in
+    window_stops window asks c.args.opened.now.engine c.answer_batch.new.engine c.args.wanted.now old new keeps i (omega (arith, counted))
     (subst (λ (l : List Ask). GetsPart old new ((fronted text window.fronts.items l ++ window.tail.items) ++ asks_text text (take (i + 1) asks))) front
     (subst (λ (l : List Ask). GetsPart old new ((fronted text window.fronts.items c.split_at.result.0.now ++ window.tail.items) ++ asks_text text (take (i + 1) l))) back c.in_err-refused.ensures.part))
 
@@ -58,8 +58,8 @@ returns-clause-step g c =
     c.split_at.ensures.back ∙ ap (drop c.len.result) all ∙ ap (λ (k : ℕ). drop k (window.asks.items ++ asks)) count ∙ drop-append_seam window.asks.items asks in
     let old = g.K.Sink.written c.args.sink.now in
     let new = g.K.Sink.written c.write_answers.new.sink in
-    let keeps : KeepsAll c.args.engine.now c.answer_batch.new.engine c.args.wanted.now = λ state keeps. merged_keeps c.args.wanted.now c.args.engine.now c.answer_batch.new.engine state c.in_ok-answers.ensures.merged keeps in
-    window_answers window asks c.args.engine.now c.answer_batch.new.engine c.args.wanted.now old new keeps c.in_ok-refused.refused (c.in_ok-refused.ensures.refusal ∙ ap (asks_refuse text) back)
+    let keeps : KeepsAll c.args.opened.now.engine c.answer_batch.new.engine c.args.wanted.now = λ state keeps. merged_keeps c.args.wanted.now c.args.opened.now.engine c.answer_batch.new.engine state c.in_ok-answers.ensures.merged keeps in
+    window_answers window asks c.args.opened.now.engine c.answer_batch.new.engine c.args.wanted.now old new keeps c.in_ok-refused.refused (c.in_ok-refused.ensures.refusal ∙ ap (asks_refuse text) back)
     (subst (λ (l : List Ask). Appends old new ((fronted text window.fronts.items l ++ window.tail.items) ++ asks_text text asks)) front
     (subst (λ (l : List Ask). Appends old new ((fronted text window.fronts.items c.split_at.result.0.now ++ window.tail.items) ++ asks_text text l)) back c.in_ok-refused.ensures.written))
 
@@ -77,9 +77,9 @@ returns-clause-stop g c =
     c.split_at.ensures.back ∙ ap (drop c.len.result) all ∙ ap (λ (k : ℕ). drop k (window.asks.items ++ asks)) count ∙ drop-append_seam window.asks.items asks in
     let old = g.K.Sink.written c.args.sink.now in
     let new = g.K.Sink.written c.write_answers.new.sink in
-    let keeps : KeepsAll c.args.engine.now c.answer_batch.new.engine c.args.wanted.now = λ state keeps. merged_keeps c.args.wanted.now c.args.engine.now c.answer_batch.new.engine state c.in_ok-answers.ensures.merged keeps in
-    let i : ℕ = c.write_answers.new.completed - c.args.completed.now in
-    let counted : c.write_answers.new.completed ≤ c.args.completed.now + length asks = subst (λ (l : List Ask). c.write_answers.new.completed ≤ c.args.completed.now + length l) back c.in_ok-refused.ensures.counted.1 in
-    window_stops window asks c.args.engine.now c.answer_batch.new.engine c.args.wanted.now old new keeps i (omega (arith, counted))
+    let keeps : KeepsAll c.args.opened.now.engine c.answer_batch.new.engine c.args.wanted.now = λ state keeps. merged_keeps c.args.wanted.now c.args.opened.now.engine c.answer_batch.new.engine state c.in_ok-answers.ensures.merged keeps in
+    let i : ℕ = c.write_answers.new.completed - c.args.opened.now.lines in
+    let counted : c.write_answers.new.completed ≤ c.args.opened.now.lines + length asks = subst (λ (l : List Ask). c.write_answers.new.completed ≤ c.args.opened.now.lines + length l) back c.in_ok-refused.ensures.counted.1 in
+    window_stops window asks c.args.opened.now.engine c.answer_batch.new.engine c.args.wanted.now old new keeps i (omega (arith, counted))
     (subst (λ (l : List Ask). GetsPart old new ((fronted text window.fronts.items l ++ window.tail.items) ++ asks_text text (take (i + 1) asks))) front
     (subst (λ (l : List Ask). GetsPart old new ((fronted text window.fronts.items c.split_at.result.0.now ++ window.tail.items) ++ asks_text text (take (i + 1) l))) back c.in_ok-refused.ensures.part))

@@ -1,8 +1,8 @@
-use Rattle.std.proofs.Common.{◌≡◌, ◌+◌, ◌-◌, ◌++◌, [], List, ℕ, take, ap, ◌∙◌, subst, rules}
+use Rattle.std.proofs.Common.{◌≡◌, ◌+◌, ◌-◌, ◌++◌, [], List, ℕ, take, subst, rules}
 use Rattle.std.specs.Io.KnownBytes.{Appends}
 use Rattle.live_version.specs.Contents.{version_text}
 use Rattle.query_run.specs.Runs.{GetsPart}
-use Rattle.query_run.specs.Windows.{asks_text, fronted}
+use Rattle.query_run.specs.Windows.{asks_text, waiting_text}
 use Rattle.query_run.proofs.PutLemmas.{all_written, begin_put, part_on, part_written, puts_on, puts_part}
 use Rattle.query_run.proofs.WindowLemmas.{all_asked, whole_part}
 use Rattle.query_run.proofs.answering.write_answers.Goals as goal
@@ -13,13 +13,9 @@ returns-in_err-put_window-clause-part g c =
     let old = g.K.Sink.written c.args.sink.now in
     let new = g.K.Sink.written c.put_window.new.sink in
     let held = c.clear.new.self.items in
-    let there : List ℕ = fronted text c.as_slice.result.now c.args.put_off.now ++ c.as_slice-2.result.now in
-    let here : List ℕ = fronted text c.args.window.now.fronts.items c.args.put_off.now ++ c.args.window.now.tail.items in
-    let same : there ≡ here =
-    ap (λ (l : List (List ℕ)). fronted text l c.args.put_off.now ++ c.as_slice-2.result.now) c.as_slice.ensures.value
-    ∙ ap (λ (l : List ℕ). fronted text c.args.window.now.fronts.items c.args.put_off.now ++ l) c.as_slice-2.ensures.value in
+    let here : List ℕ = waiting_text text c.args.window.now.fronts.items c.args.window.now.tail.items c.args.put_off.now in
     let more : List ℕ = asks_text text (take (c.args.completed.now - c.args.completed.now + 1) c.args.asks.now) in
-    subst (λ (l : List ℕ). GetsPart old new (l ++ more)) same (part_on old new held there more c.in_err-put_window.ensures.part old [] (begin_put old held c.clear.ensures.items))
+    part_on old new held here more c.in_err-put_window.ensures.part old [] (begin_put old held c.clear.ensures.items)
 
 pub returns-in_err-put_window-clause-causes : goal.returns-in_err-put_window-clause-causes
 returns-in_err-put_window-clause-causes g c = λ n.
@@ -33,14 +29,9 @@ returns-in_err-refused-clause-part g c =
     let mid = g.K.Sink.written c.put_window.new.sink in
     let new = g.K.Sink.written c.put_answers.new.sink in
     let held = c.clear.new.self.items in
-    let there : List ℕ = fronted text c.as_slice.result.now c.args.put_off.now ++ c.as_slice-2.result.now in
-    let here : List ℕ = fronted text c.args.window.now.fronts.items c.args.put_off.now ++ c.args.window.now.tail.items in
-    let same : there ≡ here =
-    ap (λ (l : List (List ℕ)). fronted text l c.args.put_off.now ++ c.as_slice-2.result.now) c.as_slice.ensures.value
-    ∙ ap (λ (l : List ℕ). fronted text c.args.window.now.fronts.items c.args.put_off.now ++ l) c.as_slice-2.ensures.value in
+    let here : List ℕ = waiting_text text c.args.window.now.fronts.items c.args.window.now.tail.items c.args.put_off.now in
     let more : List ℕ = asks_text text (take (c.put_answers.new.completed - c.args.completed.now + 1) c.args.asks.now) in
-    subst (λ (l : List ℕ). GetsPart old new (l ++ more)) same
-    (puts_part old mid new held c.put_window.new.out.items there more c.in_ok-put_window.ensures.puts c.in_err-refused.ensures.part old [] (begin_put old held c.clear.ensures.items))
+    puts_part old mid new held c.put_window.new.out.items here more c.in_ok-put_window.ensures.puts c.in_err-refused.ensures.part old [] (begin_put old held c.clear.ensures.items)
 
 pub returns-in_err-refused-clause-causes : goal.returns-in_err-refused-clause-causes
 returns-in_err-refused-clause-causes g c = λ n.
@@ -55,17 +46,12 @@ returns-in_err-write_all-clause-part g c =
     let last = g.K.Sink.written c.put_answers.new.sink in
     let new = g.K.Sink.written c.write_all.new.sink in
     let held = c.clear.new.self.items in
-    let there : List ℕ = fronted text c.as_slice.result.now c.args.put_off.now ++ c.as_slice-2.result.now in
-    let here : List ℕ = fronted text c.args.window.now.fronts.items c.args.put_off.now ++ c.args.window.now.tail.items in
-    let same : there ≡ here =
-    ap (λ (l : List (List ℕ)). fronted text l c.args.put_off.now ++ c.as_slice-2.result.now) c.as_slice.ensures.value
-    ∙ ap (λ (l : List ℕ). fronted text c.args.window.now.fronts.items c.args.put_off.now ++ l) c.as_slice-2.ensures.value in
+    let here : List ℕ = waiting_text text c.args.window.now.fronts.items c.args.window.now.tail.items c.args.put_off.now in
     let all : List ℕ = asks_text text c.args.asks.now in
-    let value : c.as_slice-3.result.now ≡ c.put_answers.new.out.items = search rules in
-    let puts = puts_on old mid last held c.put_window.new.out.items c.put_answers.new.out.items there all c.in_ok-put_window.ensures.puts c.in_ok-refused.ensures.puts in
+    let value : c.as_slice.result.now ≡ c.put_answers.new.out.items = search rules in
+    let puts = puts_on old mid last held c.put_window.new.out.items c.put_answers.new.out.items here all c.in_ok-put_window.ensures.puts c.in_ok-refused.ensures.puts in
     subst (λ (l : List ℕ). GetsPart old new (here ++ l)) (all_asked text c.args.asks.now c.args.completed.now c.put_answers.new.completed c.in_ok-refused.ensures.completed)
-    (subst (λ (l : List ℕ). GetsPart old new (l ++ all)) same
-    (part_written old last new held c.put_answers.new.out.items (there ++ all) c.clear.ensures.items puts (subst (λ (l : List ℕ). GetsPart last new l) value c.in_err-write_all.ensures.part)))
+    (part_written old last new held c.put_answers.new.out.items (here ++ all) c.clear.ensures.items puts (subst (λ (l : List ℕ). GetsPart last new l) value c.in_err-write_all.ensures.part))
 
 pub returns-clause-written : goal.returns-clause-written
 returns-clause-written g c =
@@ -75,21 +61,16 @@ returns-clause-written g c =
     let last = g.K.Sink.written c.put_answers.new.sink in
     let new = g.K.Sink.written c.write_all.new.sink in
     let held = c.clear.new.self.items in
-    let there : List ℕ = fronted text c.as_slice.result.now c.args.put_off.now ++ c.as_slice-2.result.now in
-    let here : List ℕ = fronted text c.args.window.now.fronts.items c.args.put_off.now ++ c.args.window.now.tail.items in
-    let same : there ≡ here =
-    ap (λ (l : List (List ℕ)). fronted text l c.args.put_off.now ++ c.as_slice-2.result.now) c.as_slice.ensures.value
-    ∙ ap (λ (l : List ℕ). fronted text c.args.window.now.fronts.items c.args.put_off.now ++ l) c.as_slice-2.ensures.value in
+    let here : List ℕ = waiting_text text c.args.window.now.fronts.items c.args.window.now.tail.items c.args.put_off.now in
     let all : List ℕ = asks_text text c.args.asks.now in
-    let value : c.as_slice-3.result.now ≡ c.put_answers.new.out.items = search rules in
-    let puts = puts_on old mid last held c.put_window.new.out.items c.put_answers.new.out.items there all c.in_ok-put_window.ensures.puts c.in_ok-refused.ensures.puts in
-    subst (λ (l : List ℕ). Appends old new (l ++ all)) same
-    (all_written old last new held c.put_answers.new.out.items (there ++ all) c.clear.ensures.items puts (subst (λ (l : List ℕ). Appends last new l) value c.in_ok-write_all.ensures.written))
+    let value : c.as_slice.result.now ≡ c.put_answers.new.out.items = search rules in
+    let puts = puts_on old mid last held c.put_window.new.out.items c.put_answers.new.out.items here all c.in_ok-put_window.ensures.puts c.in_ok-refused.ensures.puts in
+    all_written old last new held c.put_answers.new.out.items (here ++ all) c.clear.ensures.items puts (subst (λ (l : List ℕ). Appends last new l) value c.in_ok-write_all.ensures.written)
 
 pub returns-clause-part : goal.returns-clause-part
 returns-clause-part g c =
     let text = version_text c.args.engine.now.version in
-    let here : List ℕ = fronted text c.args.window.now.fronts.items c.args.put_off.now ++ c.args.window.now.tail.items in
+    let here : List ℕ = waiting_text text c.args.window.now.fronts.items c.args.window.now.tail.items c.args.put_off.now in
     let old = g.K.Sink.written c.args.sink.now in
     let new = g.K.Sink.written c.write_all.new.sink in
     subst (λ (l : List ℕ). GetsPart old new (here ++ l)) (all_asked text c.args.asks.now c.args.completed.now c.put_answers.new.completed c.in_ok-refused.ensures.completed)

@@ -10,15 +10,15 @@ use Rattle.query_run.proofs.WindowLemmas.{does_halts, no_name_behind, over_does,
 use Rattle.query_run.proofs.over.go_on.Goals as goal
 
 pub returns-in_err-refused-clause-halts : goal.returns-in_err-refused-clause-halts
-returns-in_err-refused-clause-halts g c = on_err (WhoseLines (lines c.args.limits.now.line (drop c.args.course.now.at c.args.script.now)) c.args.completed.now (λ (all : List Line). HaltsOver c.args.limits.now all c.args.completed.now c.go_over.new.completed
-    (g.F.Files.held c.args.files.now) c.args.engine.now c.go_over.new.engine c.args.wanted.now c.args.course.now.refused c.args.window.now)) _ (λ all rest within cut.
+returns-in_err-refused-clause-halts g c = on_err (WhoseLines (lines c.args.setting.now.limits.line (drop c.args.course.now.at c.args.script.now)) c.args.opened.now.lines (λ (all : List Line). HaltsOver c.args.setting.now.limits all c.args.opened.now.lines c.go_over.new.opened.lines
+    (g.F.Files.held c.args.files.now) c.args.opened.now.engine c.go_over.new.opened.engine c.args.course.now.wanted c.args.course.now.refused c.args.window.now)) _ (λ all rest within cut.
     let begins = c.requires.begins in
     let line : Line = line_of_cut c.args.script.now c.args.cut in
-    let left = lines c.args.limits.now.line (drop c.args.cut.after c.args.script.now) in
-    let split : drop c.args.completed.now all ≡ begins.batch ++ line ∷ (left ++ rest) =
+    let left = lines c.args.setting.now.limits.line (drop c.args.cut.after c.args.script.now) in
+    let split : drop c.args.opened.now.lines all ≡ begins.batch ++ line ∷ (left ++ rest) =
     cut ∙ ap (λ l. l ++ rest) (begins.whole ∙ ap (λ l. begins.batch ++ l) c.requires.line) ∙ append_assoc begins.batch (line ∷ left) rest in
-    over_halts c.args.limits.now all begins.batch (left ++ rest) line c.args.batch.asks.items c.args.completed.now c.go_over.new.completed (g.F.Files.held c.args.files.now) c.args.engine.now c.go_over.new.engine
-    c.args.wanted.now c.args.course.now.refused c.args.window.now within split begins.are c.requires.unsaved (λ s at read. c.in_err-refused.ensures.stop s at read))
+    over_halts c.args.setting.now.limits all begins.batch (left ++ rest) line c.args.batch.asks.items c.args.opened.now.lines c.go_over.new.opened.lines (g.F.Files.held c.args.files.now) c.args.opened.now.engine c.go_over.new.opened.engine
+    c.args.course.now.wanted c.args.course.now.refused c.args.window.now within split begins.are c.requires.unsaved (λ s at read. c.in_err-refused.ensures.stop s at read))
 
 pub returns-in_err-refused-clause-quiet : goal.returns-in_err-refused-clause-quiet
 returns-in_err-refused-clause-quiet g c = λ none.
@@ -34,7 +34,7 @@ pub returns-clause-goes : goal.returns-clause-goes
 returns-clause-goes g c =
     let begins = c.requires.begins in
     let line : Line = line_of_cut c.args.script.now c.args.cut in
-    let left = lines c.args.limits.now.line (drop c.args.cut.after c.args.script.now) in
+    let left = lines c.args.setting.now.limits.line (drop c.args.cut.after c.args.script.now) in
     let long = length-append begins.batch (line ∷ []) in
     let asked = batch_length c.args.batch.asks.items begins.batch begins.are in
     let completed = c.in_ok-refused.ensures.completed in
@@ -48,11 +48,11 @@ pub returns-clause-does : goal.returns-clause-does
 returns-clause-does g c = λ all rest within cut.
     let begins = c.requires.begins in
     let line : Line = line_of_cut c.args.script.now c.args.cut in
-    let left = lines c.args.limits.now.line (drop c.args.cut.after c.args.script.now) in
-    let split : drop c.args.completed.now all ≡ begins.batch ++ line ∷ (left ++ rest) =
+    let left = lines c.args.setting.now.limits.line (drop c.args.cut.after c.args.script.now) in
+    let split : drop c.args.opened.now.lines all ≡ begins.batch ++ line ∷ (left ++ rest) =
     cut ∙ ap (λ l. l ++ rest) (begins.whole ∙ ap (λ l. begins.batch ++ l) c.requires.line) ∙ append_assoc begins.batch (line ∷ left) rest in
-    over_does c.args.limits.now all begins.batch (left ++ rest) line c.args.batch.asks.items c.args.completed.now c.go_over.new.completed (g.F.Files.held c.args.files.now) c.args.engine.now c.go_over.new.engine
-    c.args.wanted.now c.go_over.new.wanted c.args.course.now.refused c.in_ok-refused.refused c.args.window.now c.go_over.new.window split begins.are c.in_ok-refused.ensures.completed c.requires.unsaved
+    over_does c.args.setting.now.limits all begins.batch (left ++ rest) line c.args.batch.asks.items c.args.opened.now.lines c.go_over.new.opened.lines (g.F.Files.held c.args.files.now) c.args.opened.now.engine c.go_over.new.opened.engine
+    c.args.course.now.wanted c.go_over.new.wanted c.args.course.now.refused c.in_ok-refused.refused c.args.window.now c.go_over.new.window split begins.are c.in_ok-refused.ensures.completed c.requires.unsaved
     (λ s at read. c.in_ok-refused.ensures.step s at read)
 
 pub returns-clause-quiet : goal.returns-clause-quiet
@@ -61,26 +61,26 @@ returns-clause-quiet g c = λ none.
     c.in_ok-refused.ensures.quiet (no_name_behind names_of_line _ begins.batch _ _ (begins.whole ∙ ap (λ l. begins.batch ++ l) c.requires.line) none)
 
 pub returns-in_err-next-clause-halts : goal.returns-in_err-next-clause-halts
-returns-in_err-next-clause-halts g c = on_err (WhoseLines (lines c.args.limits.now.line (drop c.args.course.now.at c.args.script.now)) c.args.completed.now (λ (all : List Line). HaltsOver c.args.limits.now all c.args.completed.now c.go_over.new.completed
-    (g.F.Files.held c.args.files.now) c.args.engine.now c.go_over.new.engine c.args.wanted.now c.args.course.now.refused c.args.window.now)) _ (λ all rest within cut.
+returns-in_err-next-clause-halts g c = on_err (WhoseLines (lines c.args.setting.now.limits.line (drop c.args.course.now.at c.args.script.now)) c.args.opened.now.lines (λ (all : List Line). HaltsOver c.args.setting.now.limits all c.args.opened.now.lines c.go_over.new.opened.lines
+    (g.F.Files.held c.args.files.now) c.args.opened.now.engine c.go_over.new.opened.engine c.args.course.now.wanted c.args.course.now.refused c.args.window.now)) _ (λ all rest within cut.
     let begins = c.requires.begins in
     let line : Line = line_of_cut c.args.script.now c.args.cut in
-    let left = lines c.args.limits.now.line (drop c.args.cut.after c.args.script.now) in
-    let split : drop c.args.completed.now all ≡ begins.batch ++ line ∷ (left ++ rest) =
+    let left = lines c.args.setting.now.limits.line (drop c.args.cut.after c.args.script.now) in
+    let split : drop c.args.opened.now.lines all ≡ begins.batch ++ line ∷ (left ++ rest) =
     cut ∙ ap (λ l. l ++ rest) (begins.whole ∙ ap (λ l. begins.batch ++ l) c.requires.line) ∙ append_assoc begins.batch (line ∷ left) rest in
     let long = length-append begins.batch (line ∷ []) in
     let asked = batch_length c.args.batch.asks.items begins.batch begins.are in
     let completed = c.in_ok-refused.ensures.completed in
-    let goes : GoesOn (lines c.args.limits.now.line (drop c.args.course.now.at c.args.script.now)) left c.args.completed.now c.go_over.new.completed = record {
+    let goes : GoesOn (lines c.args.setting.now.limits.line (drop c.args.course.now.at c.args.script.now)) left c.args.opened.now.lines c.go_over.new.opened.lines = record {
       taken = begins.batch ++ line ∷ [];
       whole = begins.whole ∙ ap (λ l. begins.batch ++ l) c.requires.line ∙ sym (append_assoc begins.batch (line ∷ []) left);
       count = omega (arith, long, asked, completed);
     } in
-    let there = behind _ left all rest c.args.completed.now c.go_over.new.completed goes within cut in
-    does_halts c.args.limits.now all c.args.completed.now c.go_over.new.completed (g.F.Files.held c.args.files.now) c.args.engine.now c.go_over.new.engine
-    c.args.wanted.now c.go_over.new.wanted c.args.course.now.refused _ c.args.window.now c.go_over.new.window there.0
-    (over_does c.args.limits.now all begins.batch (left ++ rest) line c.args.batch.asks.items c.args.completed.now c.go_over.new.completed (g.F.Files.held c.args.files.now) c.args.engine.now c.go_over.new.engine
-    c.args.wanted.now c.go_over.new.wanted c.args.course.now.refused c.in_ok-refused.refused c.args.window.now c.go_over.new.window split begins.are c.in_ok-refused.ensures.completed c.requires.unsaved
+    let there = behind _ left all rest c.args.opened.now.lines c.go_over.new.opened.lines goes within cut in
+    does_halts c.args.setting.now.limits all c.args.opened.now.lines c.go_over.new.opened.lines (g.F.Files.held c.args.files.now) c.args.opened.now.engine c.go_over.new.opened.engine
+    c.args.course.now.wanted c.go_over.new.wanted c.args.course.now.refused _ c.args.window.now c.go_over.new.window there.0
+    (over_does c.args.setting.now.limits all begins.batch (left ++ rest) line c.args.batch.asks.items c.args.opened.now.lines c.go_over.new.opened.lines (g.F.Files.held c.args.files.now) c.args.opened.now.engine c.go_over.new.opened.engine
+    c.args.course.now.wanted c.go_over.new.wanted c.args.course.now.refused c.in_ok-refused.refused c.args.window.now c.go_over.new.window split begins.are c.in_ok-refused.ensures.completed c.requires.unsaved
     (λ s at read. c.in_ok-refused.ensures.step s at read)))
 
 pub returns-in_err-next-clause-quiet : goal.returns-in_err-next-clause-quiet

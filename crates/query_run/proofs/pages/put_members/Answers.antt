@@ -15,7 +15,7 @@ use Rattle.query_run.proofs.pages.put_members.Goals as goal
 
 pub returns-in_err-put_page-clause-part : goal.returns-in_err-put_page-clause-part
 returns-in_err-put_page-clause-part g c =
-    let list = members_asked c.args.asked (concordance (text_asked c.args.own.now (version_text c.args.engine.now.version)) (form_of c.args.expr.now)) in
+    let list = members_asked c.args.ask.now.asked (concordance (text_asked c.args.ask.now.pass (version_text c.args.engine.now.version)) (form_of c.args.expr.now)) in
     let page = c.in-Some.page in
     let put : ℕ = c.loop-next.put in
     let old = g.K.Sink.written c.args.sink.now in
@@ -33,21 +33,21 @@ returns-in_err-put_page-clause-causes g c = λ n.
 
 pub overflow_add-put : goal.overflow_add-put
 overflow_add-put g c =
-    let all = concordance (text_asked c.args.own.now (version_text c.args.engine.now.version)) (form_of c.args.expr.now) in
-    let list = members_asked c.args.asked all in
+    let all = concordance (text_asked c.args.ask.now.pass (version_text c.args.engine.now.version)) (form_of c.args.expr.now) in
+    let list = members_asked c.args.ask.now.asked all in
     let page = c.in-Some.page in
     let put : ℕ = c.loop-next.put in
     let here = subst (λ (o : Option (List Extent)). IfSome o (λ p. p ≡ page_from put list)) c.in-Some.is c.loop-next.invariant.some in
     let within : put + length page ≤ length list = page_within list page put here c.loop-next.invariant.within in
-    let few : length list ≤ length all = asked_few c.args.asked all in
-    let end : (text_asked c.args.own.now (version_text c.args.engine.now.version)).next ≤ address_end = subst (λ (n : ℕ). n ≤ address_end) c.text_end-end.ensures.value c.text_end-end.ensures.in_range in
-    let bound : length all ≤ address_end = list_few (text_asked c.args.own.now (version_text c.args.engine.now.version)) (form_of c.args.expr.now) end in
+    let few : length list ≤ length all = asked_few c.args.ask.now.asked all in
+    let end : (text_asked c.args.ask.now.pass (version_text c.args.engine.now.version)).next ≤ address_end = subst (λ (n : ℕ). n ≤ address_end) c.text_end-end.ensures.value c.text_end-end.ensures.in_range in
+    let bound : length all ≤ address_end = list_few (text_asked c.args.ask.now.pass (version_text c.args.engine.now.version)) (form_of c.args.expr.now) end in
     let count : c.len.result ≡ length page = c.len.ensures in
     omega (arith, within, few, bound, count)
 
 pub returns-in_err-next-clause-part : goal.returns-in_err-next-clause-part
 returns-in_err-next-clause-part g c =
-    let list = members_asked c.args.asked (concordance (text_asked c.args.own.now (version_text c.args.engine.now.version)) (form_of c.args.expr.now)) in
+    let list = members_asked c.args.ask.now.asked (concordance (text_asked c.args.ask.now.pass (version_text c.args.engine.now.version)) (form_of c.args.expr.now)) in
     let page = c.in-Some.page in
     let put : ℕ = c.loop-next.put in
     let old = g.K.Sink.written c.args.sink.now in
@@ -61,7 +61,7 @@ returns-in_err-next-clause-part g c =
 
 pub loop-next-preserved : goal.loop-next-preserved
 loop-next-preserved g c =
-    let list = members_asked c.args.asked (concordance (text_asked c.args.own.now (version_text c.args.engine.now.version)) (form_of c.args.expr.now)) in
+    let list = members_asked c.args.ask.now.asked (concordance (text_asked c.args.ask.now.pass (version_text c.args.engine.now.version)) (form_of c.args.expr.now)) in
     let page = c.in-Some.page in
     let put : ℕ = c.loop-next.put in
     let old = g.K.Sink.written c.args.sink.now in
@@ -83,18 +83,18 @@ loop-next-preserved g c =
 
 pub returns-clause-puts : goal.returns-clause-puts
 returns-clause-puts g c =
-    let list = members_asked c.args.asked (concordance (text_asked c.args.own.now (version_text c.args.engine.now.version)) (form_of c.args.expr.now)) in
+    let list = members_asked c.args.ask.now.asked (concordance (text_asked c.args.ask.now.pass (version_text c.args.engine.now.version)) (form_of c.args.expr.now)) in
     puts_as (g.K.Sink.written c.args.sink.now) (g.K.Sink.written c.loop-next.sink) c.args.out.now.items c.loop-next.out.items (members_text (take c.loop-next.put list)) (members_text list)
     (all_text list c.loop-next.put (c.loop-next.invariant.none (ap is_some c.in_default.is))) c.loop-next.invariant.puts
 
 pub returns-clause-part : goal.returns-clause-part
 returns-clause-part g c =
-    let list = members_asked c.args.asked (concordance (text_asked c.args.own.now (version_text c.args.engine.now.version)) (form_of c.args.expr.now)) in
+    let list = members_asked c.args.ask.now.asked (concordance (text_asked c.args.ask.now.pass (version_text c.args.engine.now.version)) (form_of c.args.expr.now)) in
     part_of_put (g.K.Sink.written c.args.sink.now) (g.K.Sink.written c.loop-next.sink) c.args.out.now.items c.loop-next.out.items (members_text list) (returns-clause-puts g c)
 
 pub returns-clause-count : goal.returns-clause-count
 returns-clause-count g c =
-    let list = members_asked c.args.asked (concordance (text_asked c.args.own.now (version_text c.args.engine.now.version)) (form_of c.args.expr.now)) in
+    let list = members_asked c.args.ask.now.asked (concordance (text_asked c.args.ask.now.pass (version_text c.args.engine.now.version)) (form_of c.args.expr.now)) in
     let over : length list ≤ c.loop-next.put = none_after c.loop-next.put list (c.loop-next.invariant.none (ap is_some c.in_default.is)) in
     let within : c.loop-next.put ≤ length list = c.loop-next.invariant.within in
     omega (arith, over, within)

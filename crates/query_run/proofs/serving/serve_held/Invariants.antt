@@ -11,23 +11,23 @@ use Rattle.query_run.proofs.serving.serve_held.Given as goal
 abbrev pub invariant-loop-cut : goal.invariant-loop-cut
 invariant-loop-cut g l = record {
   within : l.course.at ≤ length l.script;
-  room : l.completed + (length l.script - l.course.at) ≤ l.initial.completed + length l.script;
-  asked : l.course.asked ≤ l.completed;
-  numbers : l.engine.version.number + wish l.wanted ≤ l.completed;
-  savable : CanBeSaved l.engine.version;
-  same : length l.works ≡ length l.readers;
-  lanes : length l.readers ≤ most_readers;
-  of : AreOf l.engine.publisher l.readers;
-  unsaved : names_kept_of (lines l.limits.line l.script) ≡ [] → g.F.Files.held l.files ≡ g.F.Files.held l.initial.files;
-  quiet : names_of (lines l.limits.line l.script) ≡ [] → l.files ≡ l.initial.files;
+  room : l.opened.lines + (length l.script - l.course.at) ≤ l.initial.opened.lines + length l.script;
+  asked : l.course.asked ≤ l.opened.lines;
+  numbers : l.opened.engine.version.number + wish l.course.wanted ≤ l.opened.lines;
+  savable : CanBeSaved l.opened.engine.version;
+  same : length l.course.works.items ≡ length l.opened.readers.items;
+  lanes : length l.opened.readers.items ≤ most_readers;
+  of : AreOf l.opened.engine.publisher l.opened.readers.items;
+  unsaved : names_kept_of (lines l.setting.limits.line l.script) ≡ [] → g.F.Files.held l.files ≡ g.F.Files.held l.initial.files;
+  quiet : names_of (lines l.setting.limits.line l.script) ≡ [] → l.files ≡ l.initial.files;
   sink_later : g.K.Sink.faults l.initial.sink ≤ g.K.Sink.faults l.sink;
   files_later : g.F.Files.faults l.initial.files ≤ g.F.Files.faults l.files;
   sink_calm : g.K.Sink.faults l.sink ≡ g.K.Sink.faults l.initial.sink;
   files_calm : g.F.Files.faults l.files ≡ g.F.Files.faults l.initial.files;
   unkept : g.F.Files.unkept l.files ≡ g.F.Files.unkept l.initial.files;
-  goes : GoesOn (lines l.limits.line l.script) (lines l.limits.line (drop l.course.at l.script)) l.initial.completed l.completed;
-  come : WhoseLines (lines l.limits.line l.script) l.initial.completed (λ all. ComesOn l.limits all l.initial.completed l.completed (g.F.Files.held l.initial.files) (g.F.Files.held l.files)
-      l.initial.engine l.engine l.initial.wanted l.wanted l.initial.course.refused l.course.refused (g.K.Sink.written l.initial.sink) (g.K.Sink.written l.sink));
+  goes : GoesOn (lines l.setting.limits.line l.script) (lines l.setting.limits.line (drop l.course.at l.script)) l.initial.opened.lines l.opened.lines;
+  come : WhoseLines (lines l.setting.limits.line l.script) l.initial.opened.lines (λ all. ComesOn l.setting.limits all l.initial.opened.lines l.opened.lines (g.F.Files.held l.initial.files) (g.F.Files.held l.files)
+      l.initial.opened.engine l.opened.engine l.initial.course.wanted l.course.wanted l.initial.course.refused l.course.refused (g.K.Sink.written l.initial.sink) (g.K.Sink.written l.sink));
 }
 
 abbrev pub decreases-loop-cut : goal.decreases-loop-cut
