@@ -226,10 +226,57 @@ fn contain(alloc: Global, kind: Containment, a: Expr, b: Expr) -> Result<Expr, A
     })
 }
 
-fn interval(start: u64, end: u64) -> Interval
-    requires { start ≤ end }
+/// The first and the last address of an interval.
+type Ends = (u64, u64);
+
+/// The tokens of a file at consecutive addresses.
+fn text_of<R: Abort + AllocGlobal>(
+    rt: &R,
+    first: u64,
+    tokens: &TokenList,
+) -> Result<PlainText, AllocError> {
+    assert!(rt; first <= 10);
+    assert!(rt; tokens.len() <= 200_000);
+    of_tokens(rt.alloc(), first, tokens)
+}
+
+/// The text of these words from this address on.
+fn words_from<R: Abort + AllocGlobal>(
+    rt: &R,
+    first: u64,
+    words: &[&str],
+) -> Result<PlainText, AllocError> {
+    let tokens = TokenList::of(rt.alloc(), words)?;
+    text_of(rt, first, &tokens)
+}
+
+/// These are the members.
+fn are<R: Abort>(rt: &R, members: &[Interval], want: &[Ends]) {
+    assert_eq!(rt; members.len(), want.len(), "{members:?}");
+    for (member, ends) in members.iter().zip(want) {
+        assert_eq!(rt; (member.start, member.end), *ends, "{members:?}");
+    }
+}
+
+/// The expression is asked for this access at an address, and has this answer.
+fn is_answered<R: Abort>(
+    rt: &R,
+    expr: &Expr,
+    text: &PlainText,
+    access: Access,
+    k: u64,
+    want: Option<Interval>,
+)
+    requires well_formed { IsWellFormed (form_of expr.now) }
+    requires below { k < far }
 {
-    Interval::new(start, end)
+    let asked = AccessAt {
+        expr,
+        text,
+        access,
+        k,
+    };
+    assert_eq!(rt; uncounted(&asked), want, "at {k}");
 }
 
 /// Each access of the expression at an address is that of the members.
@@ -238,79 +285,95 @@ fn accesses_are<R: Abort>(rt: &R, expr: &Expr, text: &PlainText, members: &[Inte
     requires below { k < far }
 {
     let first = members.iter().copied().find(|m| m.start >= k);
+    is_answered(rt, expr, text, Access::FirstStart, k, first);
     let ending = members.iter().copied().find(|m| m.end >= k);
+    is_answered(rt, expr, text, Access::FirstEnd, k, ending);
     let last = members.iter().rev().copied().find(|m| m.end <= k);
+    is_answered(rt, expr, text, Access::LastEnd, k, last);
     let starting = members.iter().rev().copied().find(|m| m.start <= k);
-    for (access, want) in [
-        (Access::FirstStart, first),
-        (Access::FirstEnd, ending),
-        (Access::LastEnd, last),
-        (Access::LastStart, starting),
-    ] {
-        let asked = AccessAt {
-            expr,
-            text,
-            access,
-            k,
-        };
-        assert_eq!(rt; uncounted(&asked), want, "{members:?} at {k}");
+    is_answered(rt, expr, text, Access::LastStart, k, starting);
+}
+
+/// Of these members the first `most` that start at `k` or later.
+fn front(
+    alloc: Global,
+    members: &[Interval],
+    k: u64,
+    most: u64,
+) -> Result<Vec<Interval>, AllocError> {
+    let mut front = Vec::new(alloc);
+    for member in members.iter().copied() {
+        if member.start >= k && (front.len() as u64) < most {
+            front.push(member)?;
+        }
     }
+    Ok(front)
+}
+
+/// A list has these members.
+fn same<R: Abort>(rt: &R, list: &IntervalList, want: &[Interval]) {
+    assert_eq!(rt; list.as_slice(), want);
 }
 
 /// The list from an address on is the front of the members that start there or later.
-fn pages_are<R: Abort>(
+fn page_is<R: Abort + AllocGlobal>(
     rt: &R,
-    alloc: Global,
     expr: &Expr,
     text: &PlainText,
     members: &[Interval],
     k: u64,
+    most: u64,
 ) -> Result<(), AllocError>
     requires well_formed { IsWellFormed (form_of expr.now) }
     requires below { k < far }
 {
-    for most in 0..4u64 {
-        let mut want = Vec::new(alloc);
-        for member in members.iter().copied() {
-            if member.start >= k && (want.len() as u64) < most {
-                want.push(member)?;
-            }
-        }
-        let page = uncounted(&ListFrom {
-            alloc,
-            expr,
-            text,
-            k,
-            most,
-        })?;
-        assert_eq!(rt;
-            page.as_slice(),
-            want.as_slice(),
-            "{members:?}: {most} from {k}"
-        );
-    }
+    let alloc = rt.alloc();
+    let want = front(alloc, members, k, most)?;
+    let page = uncounted(&ListFrom {
+        alloc,
+        expr,
+        text,
+        k,
+        most,
+    })?;
+    same(rt, &page, want.as_slice());
     Ok(())
 }
 
-/// The members are these, by the plain list too, and the count, the list, each access and each page follow.
-fn has<R: Abort>(
+/// The count and the list are those of the members.
+fn is_listed<R: Abort + AllocGlobal>(
     rt: &R,
-    alloc: Global,
+    expr: &Expr,
     text: &PlainText,
-    expr: Expr,
-    want: &[Interval],
+    members: &[Interval],
 ) -> Result<(), AllocError>
-    requires well_formed { IsWellFormed (form_of expr) }
+    requires { IsWellFormed (form_of expr.now) }
 {
-    let expr = &expr;
-    let members = slow_list(alloc, expr, text)?;
-    assert_eq!(rt; members.as_slice(), want);
-    assert_eq!(rt; uncounted(&Count { expr, text }), want.len() as u64);
+    let alloc = rt.alloc();
+    assert_eq!(rt; uncounted(&Count { expr, text }), members.len() as u64);
     let listed = uncounted(&List { alloc, expr, text })?;
-    assert_eq!(rt; listed.as_slice(), want);
+    same(rt, &listed, members);
+    Ok(())
+}
+
+/// The members are these by the plain list, and the count, the list, each access and each page follow.
+fn has<R: Abort + AllocGlobal>(
+    rt: &R,
+    text: &PlainText,
+    expr: &Expr,
+    want: &[Ends],
+) -> Result<(), AllocError>
+    requires { IsWellFormed (form_of expr.now) }
+{
+    let members = slow_list(rt.alloc(), expr, text)?;
+    let members = members.as_slice();
+    are(rt, members, want);
+    is_listed(rt, expr, text, members)?;
     for k in 0..10u64 {
-        accesses_are(rt, expr, text, want, k);
-        pages_are(rt, alloc, expr, text, want, k)?;
+        accesses_are(rt, expr, text, members, k);
+        for most in 0..4u64 {
+            page_is(rt, expr, text, members, k, most)?;
+        }
     }
     Ok(())
 }
@@ -318,56 +381,53 @@ fn has<R: Abort>(
 /// `to be or not to be` between the tokens of a file's boundary, at 0 to 7.
 const HAMLET: [&str; 8] = ["<file!>", "to", "be", "or", "not", "to", "be", "</file!>"];
 
+/// Over `HAMLET` these are the members.
+fn hamlet_has<R: Abort + AllocGlobal>(rt: &R, expr: &Expr, want: &[Ends]) -> Result<(), AllocError>
+    requires { IsWellFormed (form_of expr.now) }
+{
+    let text = words_from(rt, 0, &HAMLET)?;
+    has(rt, &text, expr, want)
+}
+
 #[test]
 fn each_kind_of_leaf_has_the_members_of_the_plain_list(rt: HostRuntime) -> Result<(), Fail> {
     let alloc = rt.alloc();
-    let tokens = TokenList::of(alloc, &HAMLET)?;
-    assert_eq!(rt; tokens.len(), 8);
-    let text = of_tokens(alloc, 0, &tokens)?;
-    let to = [interval(1, 1), interval(5, 5)];
-    has(&rt, alloc, &text, term(alloc, "to")?, &to)?;
-    let to_be = [interval(1, 2), interval(5, 6)];
-    has(&rt, alloc, &text, phrase(alloc, "to", "be")?, &to_be)?;
-    let sevens = [interval(0, 6), interval(1, 7)];
-    has(&rt, alloc, &text, width(7), &sevens)?;
-    has(&rt, alloc, &text, width(1 << 56), &[])?;
+    hamlet_has(&rt, &term(alloc, "to")?, &[(1, 1), (5, 5)])?;
+    hamlet_has(&rt, &phrase(alloc, "to", "be")?, &[(1, 2), (5, 6)])?;
+    hamlet_has(&rt, &width(7), &[(0, 6), (1, 7)])?;
+    hamlet_has(&rt, &width(1 << 56), &[])?;
     Ok(())
+}
+
+const CHAINS: [(Chain, &str, &str, &[Ends]); 3] = [
+    (Chain::Both, "to", "not", &[(1, 4), (4, 5)]),
+    (Chain::Seq, "be", "to", &[(2, 5)]),
+    (Chain::One, "to", "be", &[(1, 1), (2, 2), (5, 5), (6, 6)]),
+];
+
+/// A chain of a chain: `("to" ^ "not") + "be"`.
+fn nested(alloc: Global) -> Result<Expr, AllocError>
+    ensures { IfOk result (λ expr. IsWellFormed (form_of expr)) }
+{
+    let to_not = two(alloc, Chain::Both, "to", "not")?;
+    pair(alloc, Chain::One, to_not, term(alloc, "be")?)
 }
 
 #[test]
 fn each_kind_of_chain_has_the_members_of_the_plain_list(rt: HostRuntime) -> Result<(), Fail> {
-    let alloc = rt.alloc();
-    let tokens = TokenList::of(alloc, &HAMLET)?;
-    assert_eq!(rt; tokens.len(), 8);
-    let text = of_tokens(alloc, 0, &tokens)?;
-    let to_not = [interval(1, 4), interval(4, 5)];
-    let be_to = [interval(2, 5)];
-    let to_or_be = [
-        interval(1, 1),
-        interval(2, 2),
-        interval(5, 5),
-        interval(6, 6),
-    ];
-    for (chain, a, b, want) in [
-        (Chain::Both, "to", "not", to_not.as_slice()),
-        (Chain::Seq, "be", "to", be_to.as_slice()),
-        (Chain::One, "to", "be", to_or_be.as_slice()),
-    ] {
-        has(&rt, alloc, &text, two(alloc, chain, a, b)?, want)?;
+    for (chain, a, b, want) in CHAINS {
+        hamlet_has(&rt, &two(rt.alloc(), chain, a, b)?, want)?;
     }
-    let to_not = two(alloc, Chain::Both, "to", "not")?;
-    let or_be = pair(alloc, Chain::One, to_not, term(alloc, "be")?)?;
-    let want = [interval(2, 2), interval(4, 5), interval(6, 6)];
-    has(&rt, alloc, &text, or_be, &want)?;
+    hamlet_has(&rt, &nested(rt.alloc())?, &[(2, 2), (4, 5), (6, 6)])?;
     Ok(())
 }
 
-/// Each place of a token that is one of these words.
-fn places_of(alloc: Global, tokens: &[&str], words: &[&str]) -> Result<Vec<Interval>, AllocError> {
+/// The ends of each place of a token that is one of these words.
+fn places_of(alloc: Global, tokens: &[&str], words: &[&str]) -> Result<Vec<Ends>, AllocError> {
     let mut places = Vec::new(alloc);
     for (i, token) in tokens.iter().enumerate() {
         if words.iter().any(|word| word == token) {
-            places.push(interval(i as u64, i as u64))?;
+            places.push((i as u64, i as u64))?;
         }
     }
     Ok(places)
@@ -379,13 +439,30 @@ const ALPHABET: [&str; 17] = [
     "a", "b", "c", "d", "e", "f", "g", "h", "i", "j", "k", "l", "m", "n", "o", "p", "q",
 ];
 
+/// The number of members is this, and found in so many look-ups.
+fn is_counted<R: Abort>(rt: &R, expr: &Expr, text: &PlainText, want: (u64, u64))
+    requires { IsWellFormed (form_of expr.now) }
+{
+    assert_eq!(rt; counted(&Count { expr, text }), want);
+}
+
+/// Over `LETTERS` one of these words has the places of each, which are counted in so many look-ups.
+fn one_of_has<R: Abort + AllocGlobal>(
+    rt: &R,
+    words: &[&str],
+    look_ups: u64,
+) -> Result<(), AllocError> {
+    assert!(rt; words.len() >= 2);
+    let text = words_from(rt, 0, &LETTERS)?;
+    let want = places_of(rt.alloc(), &LETTERS, words)?;
+    let expr = one_of(rt.alloc(), words)?;
+    is_counted(rt, &expr, &text, (want.len() as u64, look_ups));
+    has(rt, &text, &expr, want.as_slice())
+}
+
 /// Each operand is looked up once at first, and once more for each of its members; the last of 65 has no place and is asked at each turn.
 #[test]
 fn one_of_many_words_has_the_places_of_each(rt: HostRuntime) -> Result<(), Fail> {
-    let alloc = rt.alloc();
-    let tokens = TokenList::of(alloc, &LETTERS)?;
-    assert_eq!(rt; tokens.len(), 12);
-    let text = &of_tokens(alloc, 0, &tokens)?;
     let mut many = ["none"; 65];
     many[0] = "c";
     many[63] = "a";
@@ -399,165 +476,215 @@ fn one_of_many_words_has_the_places_of_each(rt: HostRuntime) -> Result<(), Fail>
         (&ALPHABET[12..], 5),
         (many.as_slice(), 76),
     ] {
-        assert!(rt; words.len() >= 2);
-        let want = places_of(alloc, &LETTERS, words)?;
-        let expr = &one_of(alloc, words)?;
-        assert_eq!(rt;
-            counted(&Count { expr, text }),
-            (want.len() as u64, look_ups)
-        );
-        has(&rt, alloc, text, one_of(alloc, words)?, want.as_slice())?;
+        one_of_has(&rt, words, look_ups)?;
     }
     Ok(())
+}
+
+/// `"to be" + ("be" .. "not") + ("or" ^ "to")`
+fn one_of_three(alloc: Global) -> Result<Expr, AllocError>
+    ensures { IfOk result (λ expr. IsWellFormed (form_of expr)) }
+{
+    let mut operands = Vec::new(alloc);
+    operands.push(phrase(alloc, "to", "be")?)?;
+    operands.push(two(alloc, Chain::Seq, "be", "not")?)?;
+    operands.push(two(alloc, Chain::Both, "or", "to")?)?;
+    Ok(node(Chain::One, operands))
 }
 
 /// The first answer of `"or" ^ "to"`, (1, 3), has (1, 2) in it: it is passed together with that, and the operand is asked again.
 #[test]
 fn one_of_longer_operands_has_the_members_of_the_plain_list(rt: HostRuntime) -> Result<(), Fail> {
-    let alloc = rt.alloc();
-    let tokens = TokenList::of(alloc, &HAMLET)?;
-    assert_eq!(rt; tokens.len(), 8);
-    let text = of_tokens(alloc, 0, &tokens)?;
-    let mut operands = Vec::new(alloc);
-    operands.push(phrase(alloc, "to", "be")?)?;
-    operands.push(two(alloc, Chain::Seq, "be", "not")?)?;
-    operands.push(two(alloc, Chain::Both, "or", "to")?)?;
-    let want = [
-        interval(1, 2),
-        interval(2, 4),
-        interval(3, 5),
-        interval(5, 6),
-    ];
-    has(&rt, alloc, &text, node(Chain::One, operands), &want)?;
+    let want = [(1, 2), (2, 4), (3, 5), (5, 6)];
+    hamlet_has(&rt, &one_of_three(rt.alloc())?, &want)?;
     Ok(())
 }
+
+/// `("to" ^ "be")` or another chain, and a word, by this containment.
+fn chain_and_word(
+    alloc: Global,
+    kind: Containment,
+    chain: (Chain, &str, &str),
+    word: &str,
+) -> Result<Expr, AllocError>
+    ensures { IfOk result (λ expr. IsWellFormed (form_of expr)) }
+{
+    let (chain, a, b) = chain;
+    contain(alloc, kind, two(alloc, chain, a, b)?, term(alloc, word)?)
+}
+
+/// A word, and a chain, by this containment.
+fn word_and_chain(
+    alloc: Global,
+    kind: Containment,
+    word: &str,
+    chain: (Chain, &str, &str),
+) -> Result<Expr, AllocError>
+    ensures { IfOk result (λ expr. IsWellFormed (form_of expr)) }
+{
+    let (chain, a, b) = chain;
+    contain(alloc, kind, term(alloc, word)?, two(alloc, chain, a, b)?)
+}
+
+/// Two words by this containment.
+fn word_and_word(alloc: Global, kind: Containment, a: &str, b: &str) -> Result<Expr, AllocError>
+    ensures { IfOk result (λ expr. IsWellFormed (form_of expr)) }
+{
+    contain(alloc, kind, term(alloc, a)?, term(alloc, b)?)
+}
+
+// Of `"to" ^ "be"` those with "not" or without, and of "to" those in `"be" .. "to"` or not.
+const CONTAINMENTS: [(Containment, &[Ends]); 2] = [
+    (Containment::Containing, &[(2, 5)]),
+    (Containment::NotContaining, &[(1, 2), (5, 6)]),
+];
+
+const CONTAINED: [(Containment, &[Ends]); 2] = [
+    (Containment::ContainedIn, &[(5, 5)]),
+    (Containment::NotContainedIn, &[(1, 1)]),
+];
 
 #[test]
 fn each_kind_of_containment_has_the_members_of_the_plain_list(rt: HostRuntime) -> Result<(), Fail> {
-    let alloc = rt.alloc();
-    let tokens = TokenList::of(alloc, &HAMLET)?;
-    assert_eq!(rt; tokens.len(), 8);
-    let text = of_tokens(alloc, 0, &tokens)?;
-    let with_not = [interval(2, 5)];
-    let without_not = [interval(1, 2), interval(5, 6)];
-    for (kind, want) in [
-        (Containment::Containing, with_not.as_slice()),
-        (Containment::NotContaining, without_not.as_slice()),
-    ] {
-        let to_and_be = two(alloc, Chain::Both, "to", "be")?;
-        let expr = contain(alloc, kind, to_and_be, term(alloc, "not")?)?;
-        has(&rt, alloc, &text, expr, want)?;
+    let to_and_be = (Chain::Both, "to", "be");
+    for (kind, want) in CONTAINMENTS {
+        hamlet_has(
+            &rt,
+            &chain_and_word(rt.alloc(), kind, to_and_be, "not")?,
+            want,
+        )?;
     }
-    let last_to = [interval(5, 5)];
-    let first_to = [interval(1, 1)];
-    for (kind, want) in [
-        (Containment::ContainedIn, last_to.as_slice()),
-        (Containment::NotContainedIn, first_to.as_slice()),
-    ] {
-        let be_to = two(alloc, Chain::Seq, "be", "to")?;
-        let expr = contain(alloc, kind, term(alloc, "to")?, be_to)?;
-        has(&rt, alloc, &text, expr, want)?;
+    let be_to = (Chain::Seq, "be", "to");
+    for (kind, want) in CONTAINED {
+        hamlet_has(&rt, &word_and_chain(rt.alloc(), kind, "to", be_to)?, want)?;
     }
     Ok(())
 }
 
-/// `a b a c b a b` at 3 to 9. A far access of "both of" or "one of" takes two near ones, and "followed by" asks its nearest operand once.
-#[test]
-fn each_access_takes_so_many_look_ups(rt: HostRuntime) -> Result<(), Fail> {
-    let alloc = rt.alloc();
-    let tokens = TokenList::of(alloc, &["a", "b", "a", "c", "b", "a", "b"])?;
-    assert_eq!(rt; tokens.len(), 7);
-    let text = &of_tokens(alloc, 3, &tokens)?;
-    for (chain, access, k, want) in [
-        (
-            Chain::Both,
-            Access::FirstStart,
-            0,
-            (Some(interval(4, 6)), 4),
-        ),
-        (Chain::Both, Access::LastEnd, 9, (Some(interval(6, 7)), 4)),
-        (Chain::Both, Access::FirstEnd, 7, (Some(interval(6, 7)), 8)),
-        (Chain::Both, Access::LastStart, 5, (Some(interval(4, 6)), 8)),
-        (Chain::One, Access::FirstStart, 5, (Some(interval(6, 6)), 2)),
-        (Chain::One, Access::FirstEnd, 5, (Some(interval(6, 6)), 4)),
-        (Chain::Seq, Access::FirstStart, 0, (Some(interval(4, 6)), 3)),
-        (Chain::Seq, Access::LastEnd, 9, (Some(interval(4, 6)), 3)),
-    ] {
-        let expr = &two(alloc, chain, "b", "c")?;
-        let asked = AccessAt {
-            expr,
-            text,
-            access,
-            k,
-        };
-        assert_eq!(rt; counted(&asked), want, "at {k}");
+/// An access, its address, the interval that it answers and the look-ups that it takes.
+type Taken = (Access, u64, Option<Ends>, u64);
+
+fn ends_of(answer: Option<Interval>) -> Option<Ends> {
+    match answer {
+        Some(interval) => Some((interval.start, interval.end)),
+        None => None,
     }
-    let expr = &width(3);
+}
+
+/// The access of the expression has this answer, and takes so many look-ups.
+fn takes<R: Abort>(rt: &R, expr: &Expr, text: &PlainText, taken: Taken)
+    requires { IsWellFormed (form_of expr.now) }
+{
+    let (access, k, want, look_ups) = taken;
+    assert!(rt; k <= 10);
     let asked = AccessAt {
         expr,
         text,
-        access: Access::FirstStart,
-        k: 0,
+        access,
+        k,
     };
-    assert_eq!(rt; counted(&asked), (Some(interval(3, 5)), 0));
+    let (answer, count) = counted(&asked);
+    assert_eq!(rt; (ends_of(answer), count), (want, look_ups), "at {k}");
+}
+
+/// Over `a b a c b a b` at 3 to 9, the access of a chain has this answer, and takes so many look-ups.
+fn chain_takes<R: Abort + AllocGlobal>(
+    rt: &R,
+    chain: Chain,
+    words: (&str, &str),
+    taken: Taken,
+) -> Result<(), AllocError> {
+    let text = words_from(rt, 3, &["a", "b", "a", "c", "b", "a", "b"])?;
+    let expr = two(rt.alloc(), chain, words.0, words.1)?;
+    takes(rt, &expr, &text, taken);
     Ok(())
 }
+
+// Accesses of "b" and "c" by each chain.
+const OF_B_AND_C: [(Chain, Taken); 8] = [
+    (Chain::Both, (Access::FirstStart, 0, Some((4, 6)), 4)),
+    (Chain::Both, (Access::LastEnd, 9, Some((6, 7)), 4)),
+    (Chain::Both, (Access::FirstEnd, 7, Some((6, 7)), 8)),
+    (Chain::Both, (Access::LastStart, 5, Some((4, 6)), 8)),
+    (Chain::One, (Access::FirstStart, 5, Some((6, 6)), 2)),
+    (Chain::One, (Access::FirstEnd, 5, Some((6, 6)), 4)),
+    (Chain::Seq, (Access::FirstStart, 0, Some((4, 6)), 3)),
+    (Chain::Seq, (Access::LastEnd, 9, Some((4, 6)), 3)),
+];
+
+/// A far access of "both of" or "one of" takes two near ones, and "followed by" asks its nearest operand once. A width asks nothing.
+#[test]
+fn each_access_takes_so_many_look_ups(rt: HostRuntime) -> Result<(), Fail> {
+    for (chain, taken) in OF_B_AND_C {
+        chain_takes(&rt, chain, ("b", "c"), taken)?;
+    }
+    let text = words_from(&rt, 3, &["a", "b", "a", "c", "b", "a", "b"])?;
+    takes(
+        &rt,
+        &width(3),
+        &text,
+        (Access::FirstStart, 0, Some((3, 5)), 0),
+    );
+    Ok(())
+}
+
+// Far accesses of two words, one followed by the other.
+const IN_ORDER: [((&str, &str), Taken); 8] = [
+    (("b", "c"), (Access::FirstEnd, 5, Some((4, 6)), 3)),
+    (("b", "c"), (Access::LastStart, 5, Some((4, 6)), 3)),
+    (("b", "a"), (Access::FirstEnd, 6, Some((7, 8)), 3)),
+    (("b", "c"), (Access::FirstEnd, 7, None, 1)),
+    (("c", "b"), (Access::FirstEnd, 8, None, 4)),
+    (("a", "c"), (Access::LastStart, 4, None, 4)),
+    (("c", "b"), (Access::FirstEnd, 4, Some((6, 7)), 5)),
+    (("b", "c"), (Access::LastStart, 8, Some((4, 6)), 5)),
+];
 
 /// The last operand is asked first, then the way goes back and on again: three look-ups in place of four to six where it ends
 /// as it began, and one where the last operand has no answer. Else the next member is looked for, past that way or from the edge.
 #[test]
 fn a_far_access_of_followed_by_asks_its_last_operand_first(rt: HostRuntime) -> Result<(), Fail> {
-    let alloc = rt.alloc();
-    let tokens = TokenList::of(alloc, &["a", "b", "a", "c", "b", "a", "b"])?;
-    assert_eq!(rt; tokens.len(), 7);
-    let text = &of_tokens(alloc, 3, &tokens)?;
-    for (first, last, access, k, want) in [
-        ("b", "c", Access::FirstEnd, 5, (Some(interval(4, 6)), 3)),
-        ("b", "c", Access::LastStart, 5, (Some(interval(4, 6)), 3)),
-        ("b", "a", Access::FirstEnd, 6, (Some(interval(7, 8)), 3)),
-        ("b", "c", Access::FirstEnd, 7, (None, 1)),
-        ("c", "b", Access::FirstEnd, 8, (None, 4)),
-        ("a", "c", Access::LastStart, 4, (None, 4)),
-        ("c", "b", Access::FirstEnd, 4, (Some(interval(6, 7)), 5)),
-        ("b", "c", Access::LastStart, 8, (Some(interval(4, 6)), 5)),
-    ] {
-        let expr = &two(alloc, Chain::Seq, first, last)?;
-        let asked = AccessAt {
-            expr,
-            text,
-            access,
-            k,
-        };
-        assert_eq!(rt; counted(&asked), want, "{first} and {last} at {k}");
+    for (words, taken) in IN_ORDER {
+        chain_takes(&rt, Chain::Seq, words, taken)?;
     }
     Ok(())
 }
 
-#[test]
-fn three_words_in_order_have_the_members_of_the_plain_list(rt: HostRuntime) -> Result<(), Fail> {
-    let alloc = rt.alloc();
-    let tokens = TokenList::of(alloc, &LETTERS)?;
-    assert_eq!(rt; tokens.len(), 12);
-    let text = of_tokens(alloc, 0, &tokens)?;
+/// Over `LETTERS` these are the members.
+fn letters_have<R: Abort + AllocGlobal>(
+    rt: &R,
+    expr: &Expr,
+    want: &[Ends],
+) -> Result<(), AllocError>
+    requires { IsWellFormed (form_of expr.now) }
+{
+    let text = words_from(rt, 0, &LETTERS)?;
+    has(rt, &text, expr, want)
+}
+
+/// `"a" .. "b" .. "a"`
+fn three_in_order(alloc: Global) -> Result<Expr, AllocError>
+    ensures { IfOk result (λ expr. IsWellFormed (form_of expr)) }
+{
     let mut operands = Vec::new(alloc);
     operands.push(term(alloc, "a")?)?;
     operands.push(term(alloc, "b")?)?;
     operands.push(term(alloc, "a")?)?;
-    let want = [interval(0, 2), interval(2, 5)];
-    has(&rt, alloc, &text, node(Chain::Seq, operands), &want)?;
+    Ok(node(Chain::Seq, operands))
+}
+
+#[test]
+fn three_words_in_order_have_the_members_of_the_plain_list(rt: HostRuntime) -> Result<(), Fail> {
+    letters_have(&rt, &three_in_order(rt.alloc())?, &[(0, 2), (2, 5)])?;
     Ok(())
 }
 
 /// Two look-ups for each of the two members, and one that finds no further one.
 #[test]
 fn counting_a_containment_takes_turns_alone(rt: HostRuntime) -> Result<(), Fail> {
-    let alloc = rt.alloc();
-    let tokens = TokenList::of(alloc, &HAMLET)?;
-    assert_eq!(rt; tokens.len(), 8);
-    let text = &of_tokens(alloc, 0, &tokens)?;
-    let to = term(alloc, "to")?;
-    let expr = &contain(alloc, Containment::ContainedIn, to, term(alloc, "to")?)?;
-    assert_eq!(rt; counted(&Count { expr, text }), (2, 5));
+    let text = words_from(&rt, 0, &HAMLET)?;
+    let expr = word_and_word(rt.alloc(), Containment::ContainedIn, "to", "to")?;
+    is_counted(&rt, &expr, &text, (2, 5));
     Ok(())
 }
 
@@ -566,24 +693,10 @@ fn counting_a_containment_takes_turns_alone(rt: HostRuntime) -> Result<(), Fail>
 fn a_containment_asks_its_second_operand_once_while_the_answer_holds(
     rt: HostRuntime,
 ) -> Result<(), Fail> {
-    let alloc = rt.alloc();
-    let tokens = TokenList::of(alloc, &HAMLET)?;
-    assert_eq!(rt; tokens.len(), 8);
-    let text = &of_tokens(alloc, 0, &tokens)?;
-    let or_and_be = two(alloc, Chain::Both, "or", "be")?;
-    let expr = &contain(
-        alloc,
-        Containment::Containing,
-        or_and_be,
-        term(alloc, "not")?,
-    )?;
-    let asked = AccessAt {
-        expr,
-        text,
-        access: Access::FirstStart,
-        k: 0,
-    };
-    assert_eq!(rt; counted(&asked), (Some(interval(3, 6)), 13));
+    let text = words_from(&rt, 0, &HAMLET)?;
+    let or_and_be = (Chain::Both, "or", "be");
+    let expr = chain_and_word(rt.alloc(), Containment::Containing, or_and_be, "not")?;
+    takes(&rt, &expr, &text, (Access::FirstStart, 0, Some((3, 6)), 13));
     Ok(())
 }
 
@@ -592,23 +705,21 @@ fn a_containment_asks_its_second_operand_once_while_the_answer_holds(
 fn a_count_keeps_what_is_known_of_the_second_operand_from_member_to_member(
     rt: HostRuntime,
 ) -> Result<(), Fail> {
-    let alloc = rt.alloc();
-    let tokens = TokenList::of(alloc, &LETTERS)?;
-    assert_eq!(rt; tokens.len(), 12);
-    let text = &of_tokens(alloc, 0, &tokens)?;
-    let all = [interval(0, 0), interval(2, 2), interval(5, 5)];
-    let a = term(alloc, "a")?;
-    let expr = contain(alloc, Containment::NotContaining, a, term(alloc, "h")?)?;
-    let count = Count { expr: &expr, text };
-    assert_eq!(rt; counted(&count), (3, 5));
-    has(&rt, alloc, text, expr, &all)?;
-    let c_to_h = two(alloc, Chain::Seq, "c", "h")?;
-    let a = term(alloc, "a")?;
-    let expr = contain(alloc, Containment::NotContainedIn, a, c_to_h)?;
-    has(&rt, alloc, text, expr, &all[..2])?;
-    let a_to_b = two(alloc, Chain::Seq, "a", "b")?;
-    let expr = contain(alloc, Containment::Containing, a_to_b, term(alloc, "c")?)?;
-    has(&rt, alloc, text, expr, &[interval(2, 4)])?;
+    let text = words_from(&rt, 0, &LETTERS)?;
+    let expr = word_and_word(rt.alloc(), Containment::NotContaining, "a", "h")?;
+    is_counted(&rt, &expr, &text, (3, 5));
+    letters_have(&rt, &expr, &[(0, 0), (2, 2), (5, 5)])?;
+    Ok(())
+}
+
+#[test]
+fn containments_of_letters_have_the_members_of_the_plain_list(rt: HostRuntime) -> Result<(), Fail> {
+    let c_to_h = (Chain::Seq, "c", "h");
+    let outside = word_and_chain(rt.alloc(), Containment::NotContainedIn, "a", c_to_h)?;
+    letters_have(&rt, &outside, &[(0, 0), (2, 2)])?;
+    let a_to_b = (Chain::Seq, "a", "b");
+    let around = chain_and_word(rt.alloc(), Containment::Containing, a_to_b, "c")?;
+    letters_have(&rt, &around, &[(2, 4)])?;
     Ok(())
 }
 
@@ -624,17 +735,21 @@ fn push_times(
     Ok(())
 }
 
+/// So many times "x", then "y", and so many times "x" again.
+fn around_a_rare_word(alloc: Global, times: u64) -> Result<TokenList, AllocError> {
+    let mut tokens = TokenList::new(alloc);
+    push_times(alloc, &mut tokens, "x", times)?;
+    push_times(alloc, &mut tokens, "y", 1)?;
+    push_times(alloc, &mut tokens, "x", times)?;
+    Ok(tokens)
+}
+
 /// Four look-ups for each of the two members, and two that find no further one.
 #[test]
 fn a_rare_word_beside_a_common_one_is_counted_in_few_look_ups(rt: HostRuntime) -> Result<(), Fail> {
-    let alloc = rt.alloc();
-    let mut tokens = TokenList::new(alloc);
-    push_times(alloc, &mut tokens, "x", 50_000)?;
-    push_times(alloc, &mut tokens, "y", 1)?;
-    push_times(alloc, &mut tokens, "x", 50_000)?;
-    assert_eq!(rt; tokens.len(), 100_001);
-    let text = &of_tokens(alloc, 0, &tokens)?;
-    let expr = &two(alloc, Chain::Both, "x", "y")?;
-    assert_eq!(rt; counted(&Count { expr, text }), (2, 10));
+    let tokens = around_a_rare_word(rt.alloc(), 50_000)?;
+    let text = text_of(&rt, 0, &tokens)?;
+    let expr = two(rt.alloc(), Chain::Both, "x", "y")?;
+    is_counted(&rt, &expr, &text, (2, 10));
     Ok(())
 }

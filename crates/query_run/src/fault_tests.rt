@@ -2,18 +2,19 @@
 ghost use Rattle.std.specs.Prelude.{◌≡◌, Some};
 ghost use Rattle.outside.specs.Causes.{HasFileCause, CountsFileFault};
 ghost use Rattle.outside.specs.Contents.{IsKept};
-ghost use Rattle.query_run.specs.States.{AreLimits};
 
 use crate::stream_tests::SlowSource;
-use crate::tests::{held, run_over};
-use crate::{Limits, Status, run, serve};
-use collection::{Engine, Opened};
-use gcl_model::Bytes;
+use crate::trials::{
+    NAMES, ends, failing_call, holds, mem_files, mem_sink, one_file, ran, run_over, says,
+    served_over, serves, sure_files, sure_source, writes,
+};
+use crate::{Limits, Status, run};
 use outside::{
-    FileError, Files, FreeGate, GhostCount, Loaded, MemFiles, MemSink, Sink, SureFiles, SureSink,
+    FileError, Files, FreeGate, GhostCount, Loaded, MemFiles, Sink, SureFiles, SureSink,
     SureSource, WriteError,
 };
 use std::alloc::{AllocError, Global};
+use std::process::Abort;
 use std::sync::Wait;
 use std::test::Fail;
 use std::thread::Threads;
@@ -52,12 +53,18 @@ struct Ended {
 }
 
 /// This call where it is of that object, and none else.
-fn call_of(alloc: Global, part: Part, whose: Part, call: u64) -> Result<Vec<u64>, AllocError> {
-    let mut calls = Vec::new(alloc);
-    if part == whose {
-        calls.push(call)?;
+fn call_of(part: Part, whose: Part, call: u64) -> u64 {
+    if part == whose { call } else { 0 }
+}
+
+/// Whether each name holds what it held.
+fn are_same(files: &MemFiles) -> bool {
+    for (name, content) in NAMES {
+        if files.content(name) != Some(content) {
+            return false;
+        }
     }
-    Ok(calls)
+    true
 }
 
 /// Runs the script where one object fails at one call.
@@ -66,45 +73,42 @@ fn failing<R: Threads + Wait + Sync + AllocGlobal>(
     part: Part,
     call: u64,
 ) -> Result<Ended, AllocError> {
-    let alloc = rt.alloc();
-    let calls = call_of(alloc, part, Part::Source, call)?;
-    let mut source = SlowSource::new(alloc, SCRIPT, HANDED, calls)?;
-    let mut sink = MemSink::new(alloc, call_of(alloc, part, Part::Sink, call)?);
-    let calls = call_of(alloc, part, Part::Files, call)?;
-    let mut files = MemFiles::new(alloc, held(alloc)?, calls);
-    let status = run(
-        rt,
-        alloc,
-        &[],
-        &mut files,
-        &mut source,
-        &mut sink,
-        &FreeGate,
-    );
+    let calls = failing_call(rt.alloc(), call_of(part, Part::Source, call))?;
+    let mut source = SlowSource::new(rt.alloc(), SCRIPT, HANDED, calls)?;
+    let mut sink = mem_sink(rt.alloc(), call_of(part, Part::Sink, call))?;
+    let mut files = mem_files(rt.alloc(), call_of(part, Part::Files, call))?;
+    let status = ran(rt, &[], &mut files, &mut source, &mut sink, &FreeGate)?;
     Ok(Ended {
         status,
-        written: sink.written().to_vec(alloc)?,
+        written: sink.written().to_vec(rt.alloc())?,
         kept: files.content(b"i").is_some(),
-        same: held(alloc)?.iter().all(|entry| files.content(entry.0.as_slice())
-            == Some(entry.1.as_slice())),
+        same: are_same(&files),
     })
 }
 
-/// What is written over the whole lines that the source handed over before this call.
-fn answered_before<R: Threads + Wait + Sync + AllocGlobal>(
-    rt: &R,
-    call: u64,
-) -> Result<Vec<u8>, AllocError> {
-    let alloc = rt.alloc();
+/// The whole lines that the source handed over before this call.
+fn lines_before(call: u64) -> &'static [u8] {
     let count = (call as usize).saturating_sub(1).saturating_mul(HANDED);
     let front = &SCRIPT[..count.min(SCRIPT.len())];
-    let lines = match front.iter().rposition(|byte| *byte == b'\n') {
+    match front.iter().rposition(|byte| *byte == b'\n') {
         Some(at) => &front[..at + 1],
         None => b"",
-    };
-    let mut files = MemFiles::new(alloc, held(alloc)?, Vec::new(alloc));
-    let (_, written) = run_over(rt, &mut files, lines)?;
-    Ok(written)
+    }
+}
+
+/// The lines before this call of the source are answered where it fails, and no more.
+fn fails_at_read<R: Threads + Wait + Sync + AllocGlobal + Abort>(
+    rt: &R,
+    call: u64,
+) -> Result<(), AllocError> {
+    let ended = failing(rt, Part::Source, call)?;
+    let mut files = mem_files(rt.alloc(), 0)?;
+    let (_, want) = run_over(rt, &[], &mut files, lines_before(call), &FreeGate)?;
+    let is_kept = want.len() > BEFORE_SAVED.len();
+    let want = (Status::ReadFault, want.as_slice());
+    ends(rt, &call, (ended.status, ended.written.as_slice()), want);
+    holds(rt, &call, ended.kept == is_kept);
+    Ok(())
 }
 
 #[test]
@@ -113,16 +117,49 @@ fn whichever_call_of_the_source_fails_the_lines_before_it_are_answered(
 ) -> Result<(), Fail> {
     let calls = (SCRIPT.len() / HANDED) as u64;
     for call in 1..calls + 2 {
-        let ended = failing(&rt, Part::Source, call)?;
-        let want = answered_before(&rt, call)?;
-        assert_eq!(rt; ended.written.as_slice(), want.as_slice(), "{call}");
-        assert_eq!(rt; ended.status, Status::ReadFault, "{call}");
-        assert_eq!(rt; ended.kept, want.len() > BEFORE_SAVED.len(), "{call}");
+        fails_at_read(&rt, call)?;
     }
     let ended = failing(&rt, Part::Source, calls + 2)?;
-    assert_eq!(rt; ended.written.as_slice(), TEXT);
-    assert_eq!(rt; ended.status, Status::Done);
+    let got = (ended.status, ended.written.as_slice());
+    ends(&rt, &"no call", got, (Status::Done, TEXT));
     Ok(())
+}
+
+/// A beginning is written, and each name but that of the image holds what it held.
+fn begins<R: Abort>(rt: &R, part: Part, call: u64, ended: &Ended) {
+    let case = (part, call);
+    holds(rt, &case, TEXT.starts_with(ended.written.as_slice()));
+    holds(rt, &case, ended.same);
+}
+
+/// Whether all is written; where it is not, the run ended with this status, and the image is kept from so many bytes on.
+fn is_whole<R: Abort>(rt: &R, call: u64, ended: &Ended, want: Status, bytes: usize) -> bool {
+    let written = ended.written.as_slice();
+    if ended.status == Status::Done {
+        writes(rt, &call, written, TEXT);
+        return true;
+    }
+    says(rt, &call, ended.status, want);
+    holds(rt, &call, written.len() < TEXT.len());
+    holds(rt, &call, ended.kept == (written.len() >= bytes));
+    false
+}
+
+/// How many calls an object gets: each fails in turn, and none in the last run.
+fn calls_that_fail<R: Threads + Wait + Sync + AllocGlobal + Abort>(
+    rt: &R,
+    part: Part,
+    want: Status,
+    bytes: usize,
+) -> Result<u64, AllocError> {
+    for call in 1..MANY {
+        let ended = failing(rt, part, call)?;
+        begins(rt, part, call, &ended);
+        if is_whole(rt, call, &ended, want, bytes) {
+            return Ok(call);
+        }
+    }
+    Ok(0)
 }
 
 #[test]
@@ -130,28 +167,10 @@ fn whichever_call_fails_a_beginning_is_written_and_the_image_is_kept_or_not(
     rt: HostRuntime,
 ) -> Result<(), Fail> {
     // after how many bytes the image is kept: where the save itself fails it is not
-    let cases = [
-        (Part::Sink, Status::WriteFault, BEFORE_SAVED.len()),
-        (Part::Files, Status::FileFault, TEXT.len()),
-    ];
-    for (part, want, bytes) in cases {
-        let mut is_whole = false;
-        for call in 1..MANY {
-            let ended = failing(&rt, part, call)?;
-            let written = ended.written.as_slice();
-            assert!(rt; TEXT.starts_with(written), "{part:?} at {call}");
-            assert!(rt; ended.same, "{part:?} at {call}");
-            if ended.status == Status::Done {
-                assert_eq!(rt; written, TEXT, "{part:?} at {call}");
-                is_whole = call > 2;
-                break;
-            }
-            assert_eq!(rt; ended.status, want, "{part:?} at {call}");
-            assert!(rt; written.len() < TEXT.len(), "{part:?} at {call}");
-            assert_eq!(rt; ended.kept, written.len() >= bytes, "{part:?} at {call}");
-        }
-        assert!(rt; is_whole, "{part:?}");
-    }
+    let sink = calls_that_fail(&rt, Part::Sink, Status::WriteFault, BEFORE_SAVED.len())?;
+    holds(&rt, &"sink", sink > 2);
+    let files = calls_that_fail(&rt, Part::Files, Status::FileFault, TEXT.len())?;
+    holds(&rt, &"files", files > 2);
     Ok(())
 }
 
@@ -232,71 +251,71 @@ impl Files for HungryFiles {
     }
 }
 
-/// Runs the script where the sink wants memory at one call, and the files at one.
+/// Whether each name holds what it held.
+fn are_sure_same(files: &SureFiles) -> bool {
+    for (name, content) in NAMES {
+        if files.content(name) != Some(content) {
+            return false;
+        }
+    }
+    true
+}
+
+/// Runs the script where one object wants memory at one call.
 fn hungry<R: Threads + Wait + Sync + AllocGlobal>(
     rt: &R,
-    sink_call: u64,
-    files_call: u64,
+    part: Part,
+    call: u64,
 ) -> Result<Ended, AllocError> {
-    let alloc = rt.alloc();
-    let mut source = SureSource::new(alloc, Bytes::copy_of(alloc, SCRIPT)?);
+    let mut source = sure_source(rt.alloc(), SCRIPT)?;
     let mut sink = HungrySink {
-        taken: Vec::new(alloc),
+        taken: Vec::new(rt.alloc()),
         calls: 0,
-        hungry: sink_call,
+        hungry: call_of(part, Part::Sink, call),
     };
     let mut files = HungryFiles {
-        inner: SureFiles::new(alloc, held(alloc)?),
+        inner: sure_files(rt.alloc())?,
         calls: 0,
-        hungry: files_call,
+        hungry: call_of(part, Part::Files, call),
         unkept: GhostCount::none(),
     };
-    let status = run(
-        rt,
-        alloc,
-        &[],
-        &mut files,
-        &mut source,
-        &mut sink,
-        &FreeGate,
-    );
+    let status = ran(rt, &[], &mut files, &mut source, &mut sink, &FreeGate)?;
     Ok(Ended {
         status,
         written: sink.taken,
         kept: files.inner.content(b"i").is_some(),
-        same: held(alloc)?.iter().all(|entry| files.inner.content(entry.0.as_slice())
-            == Some(entry.1.as_slice())),
+        same: are_sure_same(&files.inner),
     })
+}
+
+/// How many calls an object gets: each wants memory in turn, and none in the last run.
+fn calls_that_want<R: Threads + Wait + Sync + AllocGlobal + Abort>(
+    rt: &R,
+    part: Part,
+) -> Result<u64, AllocError> {
+    for call in 1..MANY {
+        let ended = hungry(rt, part, call)?;
+        begins(rt, part, call, &ended);
+        // all that is left to write then is the answer to the save and to what follows it
+        let is_kept = ended.written.len() >= BEFORE_SAVED.len();
+        holds(rt, &(part, call), ended.kept == is_kept);
+        if ended.status == Status::Done {
+            writes(rt, &(part, call), ended.written.as_slice(), TEXT);
+            return Ok(call);
+        }
+        says(rt, &(part, call), ended.status, Status::NoMemory);
+    }
+    Ok(0)
 }
 
 #[test]
 fn whichever_call_wants_memory_a_beginning_is_written_and_no_other_name_is_changed(
     rt: HostRuntime,
 ) -> Result<(), Fail> {
-    for part in [Part::Sink, Part::Files] {
-        let mut is_whole = false;
-        for call in 1..MANY {
-            let ended = match part {
-                Part::Files => hungry(&rt, 0, call)?,
-                _ => hungry(&rt, call, 0)?,
-            };
-            let written = ended.written.as_slice();
-            assert!(rt; TEXT.starts_with(written), "{part:?} at {call}");
-            assert!(rt; ended.same, "{part:?} at {call}");
-            // all that is left to write then is the answer to the save and to what follows it
-            assert_eq!(rt;
-                ended.kept,
-                written.len() >= BEFORE_SAVED.len(),
-                "{part:?} at {call}"
-            );
-            if ended.status == Status::Done {
-                is_whole = call > 3 && written == TEXT && ended.kept;
-                break;
-            }
-            assert_eq!(rt; ended.status, Status::NoMemory, "{part:?} at {call}");
-        }
-        assert!(rt; is_whole, "{part:?}");
-    }
+    let sink = calls_that_want(&rt, Part::Sink)?;
+    holds(&rt, &"sink", sink > 3);
+    let files = calls_that_want(&rt, Part::Files)?;
+    holds(&rt, &"files", files > 3);
     Ok(())
 }
 
@@ -317,106 +336,91 @@ fn sure_run<R: Threads + Wait + Sync>(
 
 #[test]
 fn over_sure_objects_a_name_that_is_not_held_has_no_bytes(rt: HostRuntime) -> Result<(), Fail> {
-    let alloc = rt.alloc();
-    let mut files = SureFiles::new(alloc, held(alloc)?);
-    let script = b"open missing\nadd missing\nfiles\n";
-    let mut source = SureSource::new(alloc, Bytes::copy_of(alloc, script)?);
-    let mut sink = SureSink::new(alloc);
-    let status = sure_run(&rt, alloc, &mut files, &mut source, &mut sink);
-    assert_eq!(rt; status, Status::DoneWithRefusals);
-    let text = b"! not an image\nfile 0 0 1\n0 0 1 missing\n= 1\n".as_slice();
-    assert_eq!(rt; sink.written(), text);
+    let mut files = sure_files(rt.alloc())?;
+    let mut source = sure_source(rt.alloc(), b"open missing\nadd missing\nfiles\n")?;
+    let mut sink = SureSink::new(rt.alloc());
+    let status = sure_run(&rt, rt.alloc(), &mut files, &mut source, &mut sink);
+    let want = b"! not an image\nfile 0 0 1\n0 0 1 missing\n= 1\n".as_slice();
+    let want = (Status::DoneWithRefusals, want);
+    ends(&rt, &"missing", (status, sink.written()), want);
     Ok(())
 }
 
-/// The status of `serve` by these limits over files that it may change, and what was written.
-fn served<R: Threads + Wait + Sync>(
-    rt: &R,
-    alloc: Global,
-    limits: &Limits,
-    files: &mut MemFiles,
-    script: &[u8],
-) -> Result<(Status, Vec<u8>), AllocError>
-    requires { AreLimits limits.now }
-{
-    let mut source = SureSource::new(alloc, Bytes::copy_of(alloc, script)?);
-    let mut sink = SureSink::new(alloc);
-    let Ok(mut opened) = Engine::open(rt, alloc, 0, 0) else {
-        return Err(AllocError);
-    };
-    let status = serve(
-        rt,
-        alloc,
-        &mut opened,
-        limits,
-        files,
-        &mut source,
-        &mut sink,
-        &FreeGate,
-    );
-    let Opened {
-        engine,
-        readers: _readers,
-        lines: _lines,
-    } = opened;
-    engine.end(rt);
-    Ok((status, sink.written().to_vec(alloc)?))
-}
+// The most bytes of an image; the status, the output, and whether the image is kept.
+const IMAGES: [(u64, Status, &[u8], bool); 2] = [
+    (
+        96,
+        Status::DoneWithRefusals,
+        b"file 0 0 7\n! file too long\n",
+        false,
+    ),
+    (97, Status::Done, b"file 0 0 7\nsaved 97\n", true),
+];
 
 #[test]
 fn an_image_of_a_byte_too_many_is_not_kept(rt: HostRuntime) -> Result<(), Fail> {
-    let alloc = rt.alloc();
-    let cases: [(u64, Status, &[u8], bool); 2] = [
-        (
-            96,
-            Status::DoneWithRefusals,
-            b"file 0 0 7\n! file too long\n",
-            false,
-        ),
-        (97, Status::Done, b"file 0 0 7\nsaved 97\n", true),
-    ];
-    for (image, want, output, kept) in cases {
+    for (image, want, output, kept) in IMAGES {
         let limits = Limits {
             image,
             ..Limits::greatest()
         };
-        assert!(rt; limits.are_allowed(), "{image}");
-        let mut files = MemFiles::new(alloc, held(alloc)?, Vec::new(alloc));
-        let (status, written) = served(&rt, alloc, &limits, &mut files, b"add a\nsave i\n")?;
-        assert_eq!(rt; written.as_slice(), output, "{image}");
-        assert_eq!(rt; status, want, "{image}");
-        assert_eq!(rt; files.content(b"i").is_some(), kept, "{image}");
+        let mut files = mem_files(rt.alloc(), 0)?;
+        let got = served_over(&rt, 0, &limits, &mut files, b"add a\nsave i\n")?;
+        serves(&rt, &image, &got, (want, 2, output));
+        holds(&rt, &image, files.content(b"i").is_some() == kept);
     }
     Ok(())
 }
 
 /// Files that hold this image as `i`.
 fn with_image(alloc: Global, image: &[u8]) -> Result<MemFiles, AllocError> {
-    let mut entries = Vec::new(alloc);
-    entries.push((Bytes::copy_of(alloc, b"i")?, Bytes::copy_of(alloc, image)?))?;
-    Ok(MemFiles::new(alloc, entries, Vec::new(alloc)))
+    Ok(MemFiles::new(alloc, one_file(alloc, b"i", image)?, Vec::new(alloc)))
 }
 
 /// The image of the file `a`.
 fn saved_image<R: Threads + Wait + Sync + AllocGlobal>(rt: &R) -> Result<Vec<u8>, AllocError> {
-    let alloc = rt.alloc();
-    let mut files = MemFiles::new(alloc, held(alloc)?, Vec::new(alloc));
-    let (_, _) = run_over(rt, &mut files, b"add a\nsave i\n")?;
-    files.content(b"i").unwrap_or(b"").to_vec(alloc)
+    let mut files = mem_files(rt.alloc(), 0)?;
+    let (_, _) = run_over(rt, &[], &mut files, b"add a\nsave i\n", &FreeGate)?;
+    files.content(b"i").unwrap_or(b"").to_vec(rt.alloc())
+}
+
+/// These bytes are not opened.
+fn is_no_image<R: Threads + Wait + Sync + AllocGlobal + Abort>(
+    rt: &R,
+    image: &[u8],
+) -> Result<(), AllocError> {
+    let mut files = with_image(rt.alloc(), image)?;
+    let (status, written) = run_over(rt, &[], &mut files, b"open i\n", &FreeGate)?;
+    let want = (Status::DoneWithRefusals, b"! not an image\n".as_slice());
+    ends(rt, &image.len(), (status, written.as_slice()), want);
+    Ok(())
 }
 
 #[test]
 fn a_front_part_of_an_image_is_not_opened(rt: HostRuntime) -> Result<(), Fail> {
     let image = saved_image(&rt)?;
-    assert_eq!(rt; image.len(), 97);
+    holds(&rt, &"97 bytes", image.len() == 97);
     for len in 0..image.len() {
         let (front, _) = image.split_at(len);
-        let mut files = with_image(rt.alloc(), front)?;
-        let (status, written) = run_over(&rt, &mut files, b"open i\n")?;
-        assert_eq!(rt; written.as_slice(), b"! not an image\n".as_slice(), "{len}");
-        assert_eq!(rt; status, Status::DoneWithRefusals, "{len}");
+        is_no_image(&rt, front)?;
     }
     Ok(())
+}
+
+/// Whether this image is opened, and then it is saved again as it is. The byte at this place was changed.
+fn is_opened<R: Threads + Wait + Sync + AllocGlobal + Abort>(
+    rt: &R,
+    image: &[u8],
+    at: usize,
+) -> Result<bool, AllocError> {
+    let mut files = with_image(rt.alloc(), image)?;
+    let (_, written) = run_over(rt, &[], &mut files, b"open i\nsave j\n", &FreeGate)?;
+    if written.as_slice() == b"opened 1\nsaved 97\n".as_slice() {
+        holds(rt, &at, files.content(b"j") == Some(image));
+        return Ok(true);
+    }
+    writes(rt, &at, written.as_slice(), b"! not an image\nsaved 48\n");
+    Ok(false)
 }
 
 #[test]
@@ -428,17 +432,9 @@ fn an_image_with_a_changed_byte_is_refused_or_saved_again_as_it_is(
     for at in 0..image.len() {
         let byte = image[at];
         image[at] = byte.wrapping_add(1);
-        let mut files = with_image(rt.alloc(), image.as_slice())?;
-        let (_, written) = run_over(&rt, &mut files, b"open i\nsave j\n")?;
-        if written.as_slice() == b"opened 1\nsaved 97\n".as_slice() {
-            assert_eq!(rt; files.content(b"j"), Some(image.as_slice()), "{at}");
-            is_ever_opened = true;
-        } else {
-            let refused = b"! not an image\nsaved 48\n".as_slice();
-            assert_eq!(rt; written.as_slice(), refused, "{at}");
-        }
+        is_ever_opened |= is_opened(&rt, image.as_slice(), at)?;
         image[at] = byte;
     }
-    assert!(rt; is_ever_opened);
+    holds(&rt, &"some change is an image", is_ever_opened);
     Ok(())
 }

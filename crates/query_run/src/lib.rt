@@ -54,4 +54,6 @@ mod stream_tests;
 #[cfg(test)]
 mod tests;
 #[cfg(test)]
+mod trials;
+#[cfg(test)]
 mod window_tests;

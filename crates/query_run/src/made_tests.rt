@@ -1,43 +1,36 @@
 ghost use Rattle.std.specs.Prelude.{◌≤◌};
 
-use crate::{Status, run};
-use gcl_model::Bytes;
+use crate::Status;
+use crate::trials::{ends, run_over};
 use made_corpus::{MadeFiles, SummarySink, made_script};
-use outside::{FreeGate, Sink, SureFiles, SureSink, SureSource};
+use outside::{FreeGate, Sink, SureFiles};
 use std::alloc::{AllocError, Global};
 use std::sync::Wait;
 use std::test::Fail;
 use std::thread::Threads;
-
-fn list(alloc: Global, words: &[&[u8]]) -> Result<Vec<Bytes>, AllocError> {
-    let mut list = Vec::new(alloc);
-    for word in words {
-        list.push(Bytes::copy_of(alloc, word)?)?;
-    }
-    Ok(list)
-}
 
 /// The status of a run with these words over no files and an empty script, and what was written.
 fn told<R: Threads + Wait + Sync + AllocGlobal>(
     rt: &R,
     words: &[&[u8]],
 ) -> Result<(Status, Vec<u8>), AllocError> {
-    let alloc = rt.alloc();
-    let words = list(alloc, words)?;
-    let mut files = SureFiles::new(alloc, Vec::new(alloc));
-    let mut source = SureSource::new(alloc, Bytes::new(alloc));
-    let mut sink = SureSink::new(alloc);
-    let words = words.as_slice();
-    let status = run(
-        rt,
-        alloc,
-        words,
-        &mut files,
-        &mut source,
-        &mut sink,
-        &FreeGate,
-    );
-    Ok((status, sink.written().to_vec(alloc)?))
+    let mut files = SureFiles::new(rt.alloc(), Vec::new(rt.alloc()));
+    run_over(rt, words, &mut files, b"", &FreeGate)
+}
+
+/// The summary of these bytes.
+fn summary_of(
+    alloc: Global,
+    written: &[u8],
+    start: u64,
+    count: u64,
+    lines: u64,
+) -> Result<Vec<u8>, Fail> {
+    let mut summary = SummarySink::new();
+    summary.write(written)?;
+    let mut out = Vec::new(alloc);
+    summary.put_summary(&mut out, start, count, lines)?;
+    Ok(out)
 }
 
 /// The summary of the whole output that a plain run over the made files and the made script writes.
@@ -49,49 +42,33 @@ fn summed<R: Threads + Wait + Sync + AllocGlobal>(
 ) -> Result<Vec<u8>, Fail>
     requires { count ≤ 10000 }
 {
-    let alloc = rt.alloc();
-    let words = list(alloc, words)?;
-    let script = made_script(alloc, start, count)?;
-    let mut files = MadeFiles::new(alloc, start, count);
-    let mut source = SureSource::new(alloc, script.text);
-    let mut sink = SureSink::new(alloc);
-    let words = words.as_slice();
-    let _ = run(
-        rt,
-        alloc,
-        words,
-        &mut files,
-        &mut source,
-        &mut sink,
-        &FreeGate,
-    );
-    let mut summary = SummarySink::new();
-    summary.write(sink.written())?;
-    let mut out = Vec::new(alloc);
-    summary.put_summary(&mut out, start, count, script.lines)?;
-    Ok(out)
+    let script = made_script(rt.alloc(), start, count)?;
+    let mut files = MadeFiles::new(rt.alloc(), start, count);
+    let (_, written) = run_over(rt, words, &mut files, script.text.as_slice(), &FreeGate)?;
+    summary_of(rt.alloc(), written.as_slice(), start, count, script.lines)
 }
+
+// Words, what is written, and the status.
+const TOLD: [(&[&[u8]], &[u8], Status); 4] = [
+    (
+        &[b"--made", b"0", b"--count", b"1"],
+        b"made 0 1\nlines 4\nrefused 0\nbytes 24\nsum 1177\n",
+        Status::Done,
+    ),
+    (
+        &[b"--count=0", b"--made=7"],
+        b"made 7 0\nlines 0\nrefused 0\nbytes 0\nsum 0\n",
+        Status::Done,
+    ),
+    (&[b"--made", b"7"], b"", Status::Usage),
+    (&[b"--made", b"7", b"--count", b"10001"], b"", Status::Usage),
+];
 
 #[test]
 fn a_made_corpus_is_told_in_five_lines(rt: HostRuntime) -> Result<(), Fail> {
-    let cases: [(&[&[u8]], &[u8], Status); 4] = [
-        (
-            &[b"--made", b"0", b"--count", b"1"],
-            b"made 0 1\nlines 4\nrefused 0\nbytes 24\nsum 1177\n",
-            Status::Done,
-        ),
-        (
-            &[b"--count=0", b"--made=7"],
-            b"made 7 0\nlines 0\nrefused 0\nbytes 0\nsum 0\n",
-            Status::Done,
-        ),
-        (&[b"--made", b"7"], b"", Status::Usage),
-        (&[b"--made", b"7", b"--count", b"10001"], b"", Status::Usage),
-    ];
-    for (words, output, want) in cases {
+    for (words, output, want) in TOLD {
         let (status, written) = told(&rt, words)?;
-        assert_eq!(rt; written.as_slice(), output, "{words:?}");
-        assert_eq!(rt; status, want, "{words:?}");
+        ends(&rt, &words, (status, written.as_slice()), (want, output));
     }
     Ok(())
 }
@@ -110,8 +87,8 @@ fn the_five_lines_are_those_of_the_whole_output_for_every_number_of_readers(
             readers,
         ];
         let (status, written) = told(&rt, &words)?;
-        assert_eq!(rt; written.as_slice(), want.as_slice(), "{readers:?}");
-        assert_eq!(rt; status, Status::DoneWithRefusals, "{readers:?}");
+        let want = (Status::DoneWithRefusals, want.as_slice());
+        ends(&rt, &readers, (status, written.as_slice()), want);
     }
     Ok(())
 }

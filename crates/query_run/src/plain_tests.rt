@@ -1,10 +1,9 @@
-ghost use Rattle.std.specs.Prelude.{◌≤◌};
-
+use crate::Status;
 use crate::tests::QUERIES;
-use crate::{Status, run};
-use gcl_model::{Bytes, IntervalList, TokenList};
+use crate::trials::{ends, one_file, run_over};
+use gcl_model::{IntervalList, TokenList};
 use gcl_parser::parse;
-use outside::{FreeGate, SureFiles, SureSink, SureSource};
+use outside::{FreeGate, SureFiles};
 use plain_text::{PlainText, of_tokens, slow_list};
 use script_lang::{put_file, put_interval, put_total};
 use std::alloc::{AllocError, Global};
@@ -224,7 +223,7 @@ fn plain_list<R: Abort>(
 }
 
 /// What a file with these tokens says.
-fn content_of(alloc: Global, tokens: &[&str]) -> Result<Bytes, AllocError> {
+fn content_of(alloc: Global, tokens: &[&str]) -> Result<Vec<u8>, AllocError> {
     let mut content = Vec::new(alloc);
     for token in tokens {
         if !token.ends_with("file!>") {
@@ -232,7 +231,7 @@ fn content_of(alloc: Global, tokens: &[&str]) -> Result<Bytes, AllocError> {
             content.push(b' ')?;
         }
     }
-    Bytes::copy_of(alloc, content.as_slice())
+    Ok(content)
 }
 
 /// What a run over the file of a sample writes.
@@ -241,27 +240,10 @@ fn written<R: Threads + Wait + Sync + AllocGlobal>(
     sample: Sample,
     script: &[u8],
 ) -> Result<(Status, Vec<u8>), AllocError> {
-    let alloc = rt.alloc();
-    let mut words = Vec::new(alloc);
-    words.push(Bytes::copy_of(alloc, sample.option)?)?;
-    let mut held = Vec::new(alloc);
-    held.push((
-        Bytes::copy_of(alloc, b"x")?,
-        content_of(alloc, sample.tokens)?,
-    ))?;
-    let mut files = SureFiles::new(alloc, held);
-    let mut source = SureSource::new(alloc, Bytes::copy_of(alloc, script)?);
-    let mut sink = SureSink::new(alloc);
-    let status = run(
-        rt,
-        alloc,
-        words.as_slice(),
-        &mut files,
-        &mut source,
-        &mut sink,
-        &FreeGate,
-    );
-    Ok((status, sink.written().to_vec(alloc)?))
+    let content = content_of(rt.alloc(), sample.tokens)?;
+    let held = one_file(rt.alloc(), b"x", content.as_slice())?;
+    let mut files = SureFiles::new(rt.alloc(), held);
+    run_over(rt, &[sample.option], &mut files, script, &FreeGate)
 }
 
 /// A script of queries, and what is to be written.
@@ -298,24 +280,50 @@ impl Play {
     }
 }
 
+/// The script is answered as it is to be, over the file of a sample.
+fn is_played<R: Threads + Wait + Sync + AllocGlobal + Abort>(
+    rt: &R,
+    sample: Sample,
+    play: &Play,
+) -> Result<(), AllocError> {
+    let (status, written) = written(rt, sample, play.script.as_slice())?;
+    let want = (Status::Done, play.want.as_slice());
+    ends(rt, &sample.tokens, (status, written.as_slice()), want);
+    Ok(())
+}
+
+/// Each query is answered over a text as by the plain program.
+fn each_is_answered_plainly<R: Threads + Wait + Sync + AllocGlobal + Abort>(
+    rt: &R,
+    sample: Sample,
+) -> Result<(), AllocError> {
+    let alloc = rt.alloc();
+    let text = text_of(rt, alloc, sample)?;
+    let mut play = Play::begun(alloc, sample)?;
+    for (query, _) in QUERIES {
+        play.ask(query, &plain_list(rt, alloc, query, &text)?)?;
+    }
+    for query in MORE {
+        let query = query.as_bytes();
+        play.ask(query, &plain_list(rt, alloc, query, &text)?)?;
+    }
+    is_played(rt, sample, &play)
+}
+
 #[test]
 fn every_query_is_answered_as_by_the_plain_program(rt: HostRuntime) -> Result<(), Fail> {
-    let alloc = rt.alloc();
     for sample in SAMPLES {
-        let text = text_of(&rt, alloc, sample)?;
-        let mut play = Play::begun(alloc, sample)?;
-        for (query, _) in QUERIES {
-            play.ask(query, &plain_list(&rt, alloc, query, &text)?)?;
-        }
-        for query in MORE {
-            let query = query.as_bytes();
-            play.ask(query, &plain_list(&rt, alloc, query, &text)?)?;
-        }
-        let (status, written) = written(&rt, sample, play.script.as_slice())?;
-        assert_eq!(rt; written.as_slice(), play.want.as_slice());
-        assert_eq!(rt; status, Status::Done);
+        each_is_answered_plainly(&rt, sample)?;
     }
     Ok(())
+}
+
+/// A list has these members.
+fn has<R: Abort>(rt: &R, query: &str, list: &IntervalList, intervals: &[(u64, u64)]) {
+    assert_eq!(rt; list.len(), intervals.len(), "{query}");
+    for (member, (start, end)) in list.as_slice().iter().zip(intervals) {
+        assert_eq!(rt; (member.start, member.end), (*start, *end), "{query}");
+    }
 }
 
 /// Each query of a table denotes its intervals, by the plain program and by a run.
@@ -329,15 +337,10 @@ fn each_denotes<R: Threads + Wait + Sync + AllocGlobal + Abort>(
     let mut play = Play::begun(alloc, sample)?;
     for (query, intervals) in rows {
         let list = plain_list(rt, alloc, query.as_bytes(), &text)?;
-        assert_eq!(rt; list.len(), intervals.len(), "{query}");
-        for (member, (start, end)) in list.as_slice().iter().zip(*intervals) {
-            assert_eq!(rt; (member.start, member.end), (*start, *end), "{query}");
-        }
+        has(rt, query, &list, intervals);
         play.ask(query.as_bytes(), &list)?;
     }
-    let (_, written) = written(rt, sample, play.script.as_slice())?;
-    assert_eq!(rt; written.as_slice(), play.want.as_slice());
-    Ok(())
+    is_played(rt, sample, &play)
 }
 
 #[test]

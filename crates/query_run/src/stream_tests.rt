@@ -1,20 +1,21 @@
 // What is written where a script comes in pieces, and where the answers go out in pieces.
 ghost use Rattle.std.specs.Prelude.{None, Some};
-ghost use Rattle.query_run.specs.States.{AreLimits};
 
-use crate::tests::{SCRIPTS, held, served_from};
+use crate::tests::SCRIPTS;
+use crate::trials::{Served, counts, ends, files_and, joined, repeated, served_from, serves};
 use crate::{Limits, Status};
 use gcl_model::{Bytes, Interval};
 use outside::{FailList, Failed, MemSource, Sink, Source, SureFiles, WriteError};
 use script_lang::{put_file, put_interval, put_total};
 use std::alloc::{AllocError, Global};
+use std::process::Abort;
 use std::sync::Wait;
 use std::sync::atomic::{AtomicU64, Ordering};
 use std::test::Fail;
 use std::thread::Threads;
 
 // The most bytes that go through one call.
-const PIECE: usize = 65_536;
+pub(crate) const PIECE: usize = 65_536;
 
 /// Hands over at most so many bytes a call, and keeps the most that it was asked for. It does not tell what it holds.
 #[derive(Drop)]
@@ -84,17 +85,9 @@ impl Sink for SlowSink {
 }
 
 /// The files of the other tests, and `x` with so many words.
-fn files_with_words(alloc: Global, words: u64) -> Result<SureFiles, AllocError> {
-    let mut content = Vec::new(alloc);
-    for _ in 0..words {
-        content.extend_from_slice(b"x ")?;
-    }
-    let mut files = held(alloc)?;
-    files.push((
-        Bytes::copy_of(alloc, b"x")?,
-        Bytes::copy_of(alloc, content.as_slice())?,
-    ))?;
-    Ok(SureFiles::new(alloc, files))
+pub(crate) fn files_with_words(alloc: Global, words: u64) -> Result<SureFiles, AllocError> {
+    let content = repeated(alloc, b"x ", words)?;
+    files_and(alloc, b"x", content.as_slice())
 }
 
 /// Limits of so many bytes for a script, and of 20 for a line.
@@ -106,21 +99,19 @@ fn limited(script: u64) -> Limits {
     }
 }
 
-/// The status of `serve` over these files where the source hands over at most so many bytes a call, the number of lines that were completed, and
-/// what was written.
-fn in_pieces<R: Threads + Wait + Sync + AllocGlobal>(
+/// How `serve` ends with so many readers and by these limits, where `x` has so many words and the source hands over at most so many bytes a call.
+pub(crate) fn in_pieces<R: Threads + Wait + Sync + AllocGlobal + Abort>(
     rt: &R,
+    readers: usize,
     limits: &Limits,
-    files: &mut SureFiles,
+    words: u64,
     script: &[u8],
     most: usize,
-) -> Result<(Status, u64, Vec<u8>), AllocError>
-    requires { AreLimits limits.now }
-{
-    let alloc = rt.alloc();
-    let mut source = SlowSource::new(alloc, script, most, Vec::new(alloc))?;
-    let mut sink = SlowSink::new(alloc, PIECE);
-    let (status, lines) = served_from(rt, 2, limits, files, &mut source, &mut sink)?;
+) -> Result<Served, AllocError> {
+    let mut files = files_with_words(rt.alloc(), words)?;
+    let mut source = SlowSource::new(rt.alloc(), script, most, Vec::new(rt.alloc()))?;
+    let mut sink = SlowSink::new(rt.alloc(), PIECE);
+    let (status, lines) = served_from(rt, readers, limits, &mut files, &mut source, &mut sink)?;
     Ok((status, lines, sink.taken))
 }
 
@@ -131,21 +122,26 @@ const LINES: &[u8] =
 const ANSWERS: &[u8] =
     b"file 0 0 7\nfile 1 8 9\n1 1\n5 5\n= 2\n= 2\n1 2\n= 1\n! long line\nmerging\n= 1\n! command\nshards 1\n= 1\n";
 
+/// Each script has its output where the source hands over at most so many bytes a call.
+fn each_is_answered_in_pieces<R: Threads + Wait + Sync + AllocGlobal + Abort>(
+    rt: &R,
+    most: usize,
+) -> Result<(), AllocError> {
+    let limits = limited(1_000);
+    for (name, script, output) in SCRIPTS {
+        let (status, _, written) = in_pieces(rt, 2, &limits, 0, script, most)?;
+        let want = (Status::Done, output);
+        ends(rt, &(name, most), (status, written.as_slice()), want);
+    }
+    Ok(())
+}
+
 #[test]
 fn a_script_is_answered_alike_in_pieces_of_any_size(rt: HostRuntime) -> Result<(), Fail> {
-    let limits = limited(1_000);
-    assert!(rt; limits.are_allowed());
     for most in [1, 2, 7, PIECE] {
-        let mut files = files_with_words(rt.alloc(), 0)?;
-        let (status, lines, written) = in_pieces(&rt, &limits, &mut files, LINES, most)?;
-        assert_eq!(rt; written.as_slice(), ANSWERS, "{most}");
-        assert_eq!(rt; (status, lines), (Status::DoneWithRefusals, 13), "{most}");
-        for (name, script, output) in SCRIPTS {
-            let mut files = files_with_words(rt.alloc(), 0)?;
-            let (status, _, written) = in_pieces(&rt, &limits, &mut files, script, most)?;
-            assert_eq!(rt; written.as_slice(), output, "{name}, {most}");
-            assert_eq!(rt; status, Status::Done, "{name}, {most}");
-        }
+        let got = in_pieces(&rt, 2, &limited(1_000), 0, LINES, most)?;
+        serves(&rt, &most, &got, (Status::DoneWithRefusals, 13, ANSWERS));
+        each_is_answered_in_pieces(&rt, most)?;
     }
     Ok(())
 }
@@ -246,27 +242,35 @@ const PARTS: [(&[u8], &[u8]); 20] = [
     (b"count \"be\"", b""),
 ];
 
+/// The parts are answered in turns with so many readers.
+fn is_answered_in_turns<R: Threads + Wait + Sync + AllocGlobal + Abort>(
+    rt: &R,
+    readers: usize,
+    want: &[u8],
+) -> Result<(), AllocError> {
+    let told = AtomicU64::new(0);
+    let mut files = files_with_words(rt.alloc(), 0)?;
+    let mut source = AskingSource::new(rt.alloc(), &PARTS, &told);
+    let mut sink = TellingSink {
+        taken: Vec::new(rt.alloc()),
+        told: &told,
+    };
+    let limits = Limits::greatest();
+    let (status, _) = served_from(rt, readers, &limits, &mut files, &mut source, &mut sink)?;
+    let want = (Status::DoneWithRefusals, want);
+    ends(rt, &readers, (status, sink.taken.as_slice()), want);
+    Ok(())
+}
+
 #[test]
 fn each_line_is_answered_before_more_is_asked_for(rt: HostRuntime) -> Result<(), Fail> {
-    let alloc = rt.alloc();
-    let mut want = Vec::new(alloc);
+    let mut want = Vec::new(rt.alloc());
     for (_, answer) in PARTS {
         want.extend_from_slice(answer)?;
     }
     want.extend_from_slice(b"= 2\n")?;
-    for readers in [0, 4] {
-        let told = AtomicU64::new(0);
-        let mut files = files_with_words(alloc, 0)?;
-        let mut source = AskingSource::new(alloc, &PARTS, &told);
-        let mut sink = TellingSink {
-            taken: Vec::new(alloc),
-            told: &told,
-        };
-        let limits = Limits::greatest();
-        let (status, _) = served_from(&rt, readers, &limits, &mut files, &mut source, &mut sink)?;
-        assert_eq!(rt; sink.taken.as_slice(), want.as_slice(), "{readers}");
-        assert_eq!(rt; status, Status::DoneWithRefusals, "{readers}");
-    }
+    is_answered_in_turns(&rt, 0, want.as_slice())?;
+    is_answered_in_turns(&rt, 4, want.as_slice())?;
     Ok(())
 }
 
@@ -307,70 +311,106 @@ fn paged(alloc: Global) -> Result<(Vec<u8>, Vec<u8>), AllocError> {
 fn lists_longer_than_a_page_are_written_to_their_ends(rt: HostRuntime) -> Result<(), Fail> {
     let (script, want) = paged(rt.alloc())?;
     let limits = limited(1_000);
-    assert!(rt; limits.are_allowed());
     for most in [1, 7, PIECE] {
-        let mut files = files_with_words(rt.alloc(), 5_000)?;
-        let (status, lines, written) = in_pieces(
-            &rt,
-            &limits,
-            &mut files,
-            script.as_slice(),
-            most,
-        )?;
-        assert_eq!(rt; (status, lines), (Status::Done, 9), "{most}");
-        assert!(rt; written.as_slice() == want.as_slice(), "{most}");
+        let got = in_pieces(&rt, 2, &limits, 5_000, script.as_slice(), most)?;
+        serves(&rt, &most, &got, (Status::Done, 9, want.as_slice()));
     }
+    Ok(())
+}
+
+/// This is written where the sink takes at most so many bytes a call, and no call gets more than a piece.
+fn is_written_in_pieces<R: Threads + Wait + Sync + AllocGlobal + Abort>(
+    rt: &R,
+    script: &[u8],
+    want: &[u8],
+    most: usize,
+) -> Result<(), AllocError> {
+    let mut files = files_with_words(rt.alloc(), 5_000)?;
+    let mut source = SlowSource::new(rt.alloc(), script, 2 * PIECE, Vec::new(rt.alloc()))?;
+    let mut sink = SlowSink::new(rt.alloc(), most);
+    let limits = Limits::greatest();
+    let (status, _) = served_from(rt, 4, &limits, &mut files, &mut source, &mut sink)?;
+    ends(
+        rt,
+        &most,
+        (status, sink.taken.as_slice()),
+        (Status::Done, want),
+    );
+    counts(rt, &most, sink.longest as u64, PIECE as u64);
+    counts(rt, &most, source.longest as u64, PIECE as u64);
     Ok(())
 }
 
 #[test]
 fn no_call_gets_more_than_65_536_bytes(rt: HostRuntime) -> Result<(), Fail> {
-    let alloc = rt.alloc();
-    let (mut script, want) = paged(alloc)?;
-    for _ in 0..2 * PIECE {
-        script.push(b'\n')?;
-    }
+    let (script, want) = paged(rt.alloc())?;
+    let ends = repeated(rt.alloc(), b"\n", 2 * PIECE as u64)?;
+    let script = joined(rt.alloc(), &[script.as_slice(), ends.as_slice()])?;
     for most in [3, PIECE - 1, PIECE, 2 * PIECE] {
-        let mut files = files_with_words(alloc, 5_000)?;
-        let mut source = SlowSource::new(alloc, script.as_slice(), 2 * PIECE, Vec::new(alloc))?;
-        let mut sink = SlowSink::new(alloc, most);
-        let limits = Limits::greatest();
-        let (status, _) = served_from(&rt, 4, &limits, &mut files, &mut source, &mut sink)?;
-        assert_eq!(rt; status, Status::Done, "{most}");
-        assert!(rt; sink.taken.as_slice() == want.as_slice(), "{most}");
-        assert_eq!(rt; sink.longest, PIECE, "{most}");
-        assert_eq!(rt; source.longest, PIECE, "{most}");
+        is_written_in_pieces(&rt, script.as_slice(), want.as_slice(), most)?;
     }
     Ok(())
 }
+
+const THREE: &[u8] = b"add a\nfiles\nfiles\n";
+
+// The most bytes of the script, and of a call of the source; the status, the lines that are completed, and the output.
+const CUTS: [(u64, usize, Status, u64, &[u8]); 10] = [
+    (
+        12,
+        1,
+        Status::ScriptTooLong,
+        2,
+        b"file 0 0 7\n0 0 7 a\n= 1\n",
+    ),
+    (12, 5, Status::ScriptTooLong, 1, b"file 0 0 7\n"),
+    (
+        12,
+        6,
+        Status::ScriptTooLong,
+        2,
+        b"file 0 0 7\n0 0 7 a\n= 1\n",
+    ),
+    (12, 7, Status::ScriptTooLong, 1, b"file 0 0 7\n"),
+    (
+        12,
+        12,
+        Status::ScriptTooLong,
+        2,
+        b"file 0 0 7\n0 0 7 a\n= 1\n",
+    ),
+    (12, 13, Status::ScriptTooLong, 0, b""),
+    (12, PIECE, Status::ScriptTooLong, 0, b""),
+    (
+        17,
+        1,
+        Status::ScriptTooLong,
+        2,
+        b"file 0 0 7\n0 0 7 a\n= 1\n",
+    ),
+    (
+        18,
+        1,
+        Status::Done,
+        3,
+        b"file 0 0 7\n0 0 7 a\n= 1\n0 0 7 a\n= 1\n",
+    ),
+    (
+        18,
+        PIECE,
+        Status::Done,
+        3,
+        b"file 0 0 7\n0 0 7 a\n= 1\n0 0 7 a\n= 1\n",
+    ),
+];
 
 #[test]
 fn of_a_script_above_its_limit_the_lines_of_the_pieces_before_are_answered(
     rt: HostRuntime,
 ) -> Result<(), Fail> {
-    let script = b"add a\nfiles\nfiles\n".as_slice();
-    let one = b"file 0 0 7\n".as_slice();
-    let two = b"file 0 0 7\n0 0 7 a\n= 1\n".as_slice();
-    let three = b"file 0 0 7\n0 0 7 a\n= 1\n0 0 7 a\n= 1\n".as_slice();
-    let cases = [
-        (12, 1, Status::ScriptTooLong, 2, two),
-        (12, 5, Status::ScriptTooLong, 1, one),
-        (12, 6, Status::ScriptTooLong, 2, two),
-        (12, 7, Status::ScriptTooLong, 1, one),
-        (12, 12, Status::ScriptTooLong, 2, two),
-        (12, 13, Status::ScriptTooLong, 0, b"".as_slice()),
-        (12, PIECE, Status::ScriptTooLong, 0, b"".as_slice()),
-        (17, 1, Status::ScriptTooLong, 2, two),
-        (18, 1, Status::Done, 3, three),
-        (18, PIECE, Status::Done, 3, three),
-    ];
-    for (limit, most, want, lines, output) in cases {
-        let limits = limited(limit);
-        assert!(rt; limits.are_allowed(), "{limit}");
-        let mut files = files_with_words(rt.alloc(), 0)?;
-        let (status, completed, written) = in_pieces(&rt, &limits, &mut files, script, most)?;
-        assert_eq!(rt; written.as_slice(), output, "{limit} and {most}");
-        assert_eq!(rt; (status, completed), (want, lines), "{limit} and {most}");
+    for (limit, most, want, lines, output) in CUTS {
+        let got = in_pieces(&rt, 2, &limited(limit), 0, THREE, most)?;
+        serves(&rt, &(limit, most), &got, (want, lines, output));
     }
     Ok(())
 }
