@@ -233,7 +233,7 @@ struct Stop {
     member: Head,
 }
 
-/// The first member, or one further on that is below `k`, at most `behind` steps on. It goes by sevens, as long as they end below.
+/// The first member, or one further on that is below `k`, at most `behind` steps on. It goes by runs, as long as they end below.
 #[inline(always)]
 fn leap_below(packed: &[u8], first: Head, behind: usize, k: u64) -> Stop
     requires can { CanUnpack packed.now first.first first.at }
@@ -248,14 +248,17 @@ fn leap_below(packed: &[u8], first: Head, behind: usize, k: u64) -> Stop
         steps: 0,
         member: first,
     };
-    while RUN <= behind - stop.steps {
-        let member = pass_seven(packed, stop.member);
-        if k <= member.first {
+    while RUN <= behind - stop.steps && are_short(packed, stop.member.at) {
+        let first = pass_run(packed, stop.member.first, stop.member.at);
+        if k <= first {
             return stop;
         }
         stop = Stop {
             steps: stop.steps + RUN,
-            member,
+            member: Head {
+                first,
+                at: stop.member.at + RUN,
+            },
         };
     }
     stop
