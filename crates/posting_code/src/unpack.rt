@@ -14,10 +14,28 @@ fn byte_at(packed: &[u8], at: usize) -> u8
 }
 
 /// The member behind another one, and the place behind its difference.
-// Where differences of one byte and of two stand in no order, a branch between them would be guessed wrong time and again. So
-// both are read alike, and only longer ones by a branch.
 #[inline(always)]
 fn next_member(packed: &[u8], before: u64, at: usize) -> Number
+    requires can { CanUnpack packed.now before at }
+    requires some { 0 < length (members_behind packed.now before at) }
+    ensures next { members_behind packed.now before at ≡ result.value ∷ members_behind packed.now result.value result.after }
+    ensures above { before < result.value }
+    ensures within { at ≤ length packed.now → result.after ≤ length packed.now }
+    ensures can { CanUnpack packed.now result.value result.after }
+{
+    match get_number(packed, at) {
+        Some(number) => Number {
+            value: before + number.value,
+            after: number.after,
+        },
+        None => unreachable!(),
+    }
+}
+
+/// The same, where differences of one byte and of two stand in no order.
+// A branch between them would be guessed wrong time and again. So both are read alike, and only longer ones by a branch.
+#[inline(always)]
+fn mixed_member(packed: &[u8], before: u64, at: usize) -> Number
     requires can { CanUnpack packed.now before at }
     requires some { 0 < length (members_behind packed.now before at) }
     ensures next { members_behind packed.now before at ≡ result.value ∷ members_behind packed.now result.value result.after }
@@ -35,25 +53,7 @@ fn next_member(packed: &[u8], before: u64, at: usize) -> Number
             after: at + 1 + more as usize,
         };
     }
-    longer_member(packed, before, at)
-}
-
-/// The same, whatever the length of the difference.
-fn longer_member(packed: &[u8], before: u64, at: usize) -> Number
-    requires can { CanUnpack packed.now before at }
-    requires some { 0 < length (members_behind packed.now before at) }
-    ensures next { members_behind packed.now before at ≡ result.value ∷ members_behind packed.now result.value result.after }
-    ensures above { before < result.value }
-    ensures within { at ≤ length packed.now → result.after ≤ length packed.now }
-    ensures can { CanUnpack packed.now result.value result.after }
-{
-    match get_number(packed, at) {
-        Some(number) => Number {
-            value: before + number.value,
-            after: number.after,
-        },
-        None => unreachable!(),
-    }
+    next_member(packed, before, at)
 }
 
 /// How many differences of one byte are taken in one go.
@@ -105,7 +105,7 @@ fn put_each(packed: &[u8], before: Number, into: &mut [u64], place: usize, count
 {
     let mut member = before;
     for i in 0..count {
-        member = next_member(packed, member.value, member.after);
+        member = mixed_member(packed, member.value, member.after);
         into[place + i] = member.value;
     }
     member
@@ -180,7 +180,7 @@ fn pass_each(packed: &[u8], head: Head, steps: usize) -> Head
     let mut member = head;
     for step in 0..steps {
         let _ = step;
-        let next = next_member(packed, member.first, member.at);
+        let next = mixed_member(packed, member.first, member.at);
         member = Head {
             first: next.value,
             at: next.after,
@@ -233,7 +233,7 @@ struct Stop {
     member: Head,
 }
 
-/// The first member, or one further on that is below `k`, at most `behind` steps on. It goes by sevens, as long as they end below.
+/// The first member, or one further on that is below `k`, at most `behind` steps on. It goes by runs, as long as they end below.
 #[inline(always)]
 fn leap_below(packed: &[u8], first: Head, behind: usize, k: u64) -> Stop
     requires can { CanUnpack packed.now first.first first.at }
@@ -248,14 +248,17 @@ fn leap_below(packed: &[u8], first: Head, behind: usize, k: u64) -> Stop
         steps: 0,
         member: first,
     };
-    while RUN <= behind - stop.steps {
-        let member = pass_seven(packed, stop.member);
-        if k <= member.first {
+    while RUN <= behind - stop.steps && are_short(packed, stop.member.at) {
+        let first = pass_run(packed, stop.member.first, stop.member.at);
+        if k <= first {
             return stop;
         }
         stop = Stop {
             steps: stop.steps + RUN,
-            member,
+            member: Head {
+                first,
+                at: stop.member.at + RUN,
+            },
         };
     }
     stop

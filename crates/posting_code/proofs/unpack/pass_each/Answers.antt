@@ -6,15 +6,15 @@ use Rattle.posting_code.proofs.unpack.pass_each.Goals as goal
 pub loop-step-init : goal.loop-step-init
 loop-step-init c = record { passed = pass_starts _ _ _ _ _ c.requires.can refl refl; within = λ within. within }
 
-pub next_member-next-requires : goal.next_member-next-requires
-next_member-next-requires c =
+pub mixed_member-next-requires : goal.mixed_member-next-requires
+mixed_member-next-requires c =
     let left = pass_left _ _ _ _ _ _ c.loop-step.invariant.passed in
     let enough = c.requires.enough in
     record { can = c.loop-step.invariant.passed.can; some = omega (arith, left, enough, c.loop-step-test.true) }
 
 pub loop-step-preserved : goal.loop-step-preserved
 loop-step-preserved c =
-    let next = c.next_member-next.ensures in
+    let next = c.mixed_member-next.ensures in
     record { passed = pass_goes _ _ _ _ _ _ _ _ c.loop-step.invariant.passed next.next next.can; within = λ within. next.within (c.loop-step.invariant.within within) }
 
 pub returns-clause-rest : goal.returns-clause-rest

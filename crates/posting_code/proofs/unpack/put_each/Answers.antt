@@ -1,4 +1,4 @@
-use Rattle.std.proofs.Common.{◌≡◌, ◌+◌, ◌<◌, ◌++◌, take, drop, refl, sym, ap, ◌∙◌, arith}
+use Rattle.std.proofs.Common.{◌≡◌, ◌+◌, ◌++◌, take, drop, refl, sym, ap, ◌∙◌, arith}
 use Rattle.posting_code.specs.Packed.{members_behind}
 use Rattle.posting_code.proofs.Runs.{run_starts, run_some, run_goes}
 use Rattle.posting_code.proofs.unpack.put_each.Goals as goal
@@ -6,14 +6,14 @@ use Rattle.posting_code.proofs.unpack.put_each.Goals as goal
 pub loop-i-init : goal.loop-i-init
 loop-i-init c = run_starts _ _ _ _ _ _ c.requires.can refl
 
-pub next_member-member-requires-clause-some : goal.next_member-member-requires-clause-some
-next_member-member-requires-clause-some c =
+pub mixed_member-member-requires-clause-some : goal.mixed_member-member-requires-clause-some
+mixed_member-member-requires-clause-some c =
     let enough = c.requires.enough in
     run_some _ _ _ _ _ _ _ _ _ c.loop-i.invariant (omega (arith, enough, c.loop-i-test.true))
 
 pub loop-i-preserved : goal.loop-i-preserved
 loop-i-preserved c =
-    let next = c.next_member-member.ensures in
+    let next = c.mixed_member-member.ensures in
     let long = c.loop-i.invariant.long in
     let room = c.requires.room in
     run_goes _ _ _ _ _ _ _ _ _ _ _ c.loop-i.invariant next.next next.can (omega (arith, long, room, c.loop-i-test.true))

@@ -1,4 +1,4 @@
-use Rattle.std.proofs.Common.{◌≡◌, ◌+◌, ◌<◌, ◌++◌, get_or, take, drop, refl, sym, ap, ◌∙◌, subst, arith}
+use Rattle.std.proofs.Common.{◌≡◌, ◌+◌, ◌<◌, ◌++◌, take, drop, refl, sym, ap, ◌∙◌, subst, arith}
 use Rattle.posting_code.specs.Packed.{members_behind, CanUnpack}
 use Rattle.posting_code.proofs.Runs.{bytes_enough, run_starts, run_byte}
 use Rattle.posting_code.proofs.unpack.put_run.Goals as goal

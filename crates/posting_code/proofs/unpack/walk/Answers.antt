@@ -1,5 +1,4 @@
-use Rattle.std.proofs.Common.{◌≡◌, ◌+◌, ◌-◌, ◌∷◌, drop, refl, sym, ap, ◌∙◌, subst, arith}
-use Rattle.posting_code.specs.Packed.{members_behind}
+use Rattle.std.proofs.Common.{◌≡◌, ◌+◌, ◌-◌, refl, arith}
 use Rattle.posting_code.proofs.Runs.{pass_starts, pass_left, pass_more}
 use Rattle.posting_code.proofs.unpack.walk.Goals as goal
 
