@@ -122,37 +122,6 @@ impl<J: Naming> Finger<J> {
         self.nearest(postings, list.slot, list.place, k, direction, probes)
     }
 
-    /// The first address from `k` on from which on a member of the first list may have one of the second right behind it, by the next
-    /// member of each. Both fingers go on to there.
-    #[inline(never)]
-    pub(crate) fn leap<P: Ledger>(
-        &mut self,
-        other: &mut Finger<J>,
-        list: &SlotList<'_, J>,
-        behind: &SlotList<'_, J>,
-        k: u64,
-        probes: &mut Steps<P>,
-    ) -> Option<u64>
-        ensures from { IfSome result (λ next. k ≤ next) }
-        ensures none { IfSome result (λ next. LackPairs (list_of J.version.slots list.now.slot list.now.place)
-            (list_of J.version.slots behind.now.slot behind.now.place) k next) }
-    {
-        // any call of a list tells that it rises
-        let _count = behind.postings.len();
-        if list.postings.len() == 0 || k < list.postings.first() {
-            return None;
-        }
-        let next = self.least(&list.postings, list.slot, list.place, k, probes)?;
-        let met = other.least(
-            &behind.postings,
-            behind.slot,
-            behind.place,
-            next + 1,
-            probes,
-        )?;
-        Some(met - 1)
-    }
-
     /// The address that is nearest to `k` on one side, in the list at a place of the slot with this number.
     pub(crate) fn nearest<P: Ledger>(
         &mut self,

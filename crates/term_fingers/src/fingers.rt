@@ -3,7 +3,7 @@ ghost use Rattle.gcl_model.specs.Texts.{IsText, places};
 ghost use Rattle.index_shard.specs.Searched.{nearest};
 ghost use Rattle.live_version.specs.Contents.{live_of, version_text};
 
-use crate::look_up::{ByFinger, at_hand_unprobed, earliest_pair_unprobed};
+use crate::look_up::{ByFinger, at_hand_unprobed};
 use crate::naming::Naming;
 use crate::term::Term;
 use crate::whole::WholeSlots;
@@ -83,7 +83,7 @@ impl<'a, J: Naming> Leaves for Fingers<'a, J> {
         let Some(behind) = self.find(second) else {
             return unknown;
         };
-        earliest_pair_unprobed::<J, Brand>(term, behind, &self.whole, k, Blank::new(1))
+        term.earliest_pair(behind, &self.whole, k)
     }
 
     fn span(&self) -> Span {

@@ -6,10 +6,10 @@
 //! The layer above makes them of an expression and then evaluates it. A look-up goes on from the place where the last one of its
 //! term ended, and a block of postings is unpacked once as long as the look-ups stay in it. A term that was not added is looked up by
 //! the version. Where an address lies between the ends of the list that a term's finger is on, and nothing in that list's slot is dead,
-//! the list gives the nearest address of the whole version, and no slot is looked for. Of two terms whose fingers are in such a slot
-//! `earliest_pair` says, without a look-up, up to where the one nowhere comes right after the other, and whether it does there: it goes
-//! from block to block, so a walk over a phrase of two frequent words looks up next to nothing. Nothing takes memory: 16 terms have
-//! fingers, and whatever is added after them has none.
+//! the list gives the nearest address of the whole version, and no slot is looked for. Of two terms whose blocks are both unpacked
+//! `earliest_pair` says, without a look-up, up to where the one nowhere comes right after the other, and, if nothing in the blocks' slot
+//! is dead, whether it does there: so a walk over a phrase of two frequent words looks up little more than the ends of their blocks.
+//! Nothing takes memory: 16 terms have fingers, and whatever is added after them has none.
 //!
 //! Over one file `to be or not to be` from address 0 on, whose first word is at 1, the next `to` from 2 on is at 5.
 #![tactic(auto)]

@@ -1,5 +1,5 @@
-ghost use Rattle.std.specs.Prelude.{◌≡◌, ◌+◌, ◌<◌, ◌≤◌, IfSome, IsTrue, Some, true, false};
-ghost use Rattle.gcl_model.specs.Texts.{any_pair, holds, places};
+ghost use Rattle.std.specs.Prelude.{◌≡◌, ◌<◌, IfSome, Some};
+ghost use Rattle.gcl_model.specs.Texts.{places};
 ghost use Rattle.index_shard.specs.Searched.{nearest};
 ghost use Rattle.index_shard.specs.Tables.{postings_of};
 ghost use Rattle.live_version.specs.Contents.{IsVersion, live_of};
@@ -8,7 +8,7 @@ ghost use Rattle.term_fingers.specs.Lists.{shard_at};
 use crate::naming::Naming;
 use crate::term::Term;
 use crate::whole::WholeSlots;
-use gcl_model::{Direction, Ledger, NoLedger, Pair, Steps};
+use gcl_model::{Direction, Ledger, NoLedger, Steps};
 use index_shard::Shard;
 use live_version::LookUp;
 use std::marker::{Brand, PhantomData};
@@ -96,26 +96,4 @@ pub(crate) fn at_hand_unprobed<'a, J: Naming, B: ledger::Ledger>(
 {
     let mut probes = Steps::<NoLedger<B>>::open(blank);
     term.at_hand(whole, k, direction, &mut probes)
-}
-
-/// An address from `k` on before which the second term nowhere stands right behind the first, and whether it does there, as far as their
-/// fingers tell. The probes are kept nowhere.
-pub(crate) fn earliest_pair_unprobed<'a, J: Naming, B: ledger::Ledger>(
-    term: &Term<'a, J>,
-    behind: &Term<'a, J>,
-    whole: &WholeSlots<'a, J>,
-    k: u64,
-    blank: Blank,
-) -> Pair
-    requires version { IsVersion J.version }
-    requires name { blank.name ≡ B.name }
-    requires parts { blank.parts ≡ B.parts }
-    requires some { 0 < blank.parts }
-    ensures from { k ≤ result.at }
-    ensures none { any_pair (live_of J.version.slots) term.now.bytes.now behind.now.bytes.now k result.at ≡ false }
-    ensures found { IsTrue result.found → (holds (live_of J.version.slots) term.now.bytes.now result.at ≡ true) ×
-        (holds (live_of J.version.slots) behind.now.bytes.now (result.at + 1) ≡ true) }
-{
-    let mut probes = Steps::<NoLedger<B>>::open(blank);
-    term.earliest_pair(behind, whole, k, &mut probes)
 }

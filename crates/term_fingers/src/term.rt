@@ -15,9 +15,6 @@ use live_version::{Slot, Version};
 use posting_access::{at_or_after, at_or_before};
 use std::cell::RefCell;
 
-/// How many times at most two fingers go on beyond their blocks to find a pair.
-const MOST_LEAPS: u32 = 8;
-
 /// A term, its place in the index of each slot, and a finger on the postings that it was last looked for in.
 #[derive(Drop)]
 pub(crate) struct Term<'a, J: Naming> {
@@ -138,12 +135,11 @@ impl<'a, J: Naming> Term<'a, J> {
 
     /// An address from `k` on before which the other term nowhere stands right behind this one, and whether it does there, as far as their
     /// fingers tell.
-    pub(crate) fn earliest_pair<P: Ledger>(
+    pub(crate) fn earliest_pair(
         &self,
         other: &Term<'a, J>,
         whole: &WholeSlots<'a, J>,
         k: u64,
-        probes: &mut Steps<P>,
     ) -> Pair
         requires { IsVersion J.version }
         ensures from { k ≤ result.at }
@@ -162,47 +158,12 @@ impl<'a, J: Naming> Term<'a, J> {
         let Ok(mut behind) = other.finger.try_borrow_mut() else {
             return unknown;
         };
-        self.earliest_pair_by(other, whole, &mut finger, &mut behind, k, probes)
+        self.earliest_pair_by(other, whole, &mut finger, &mut behind, k)
     }
 
-    /// The same by a finger of each term. Where both have no pair in their blocks, they go on to the next ones, but a few times only: no
-    /// look-up is counted for it.
-    fn earliest_pair_by<P: Ledger>(
-        &self,
-        other: &Term<'a, J>,
-        whole: &WholeSlots<'a, J>,
-        finger: &mut Finger<J>,
-        behind: &mut Finger<J>,
-        k: u64,
-        probes: &mut Steps<P>,
-    ) -> Pair
-        requires { IsVersion J.version }
-        ensures from { k ≤ result.at }
-        ensures none { any_pair (live_of J.version.slots) self.now.bytes.now other.now.bytes.now k result.at ≡ false }
-        ensures found { IsTrue result.found → (holds (live_of J.version.slots) self.now.bytes.now result.at ≡ true) ×
-            (holds (live_of J.version.slots) other.now.bytes.now (result.at + 1) ≡ true) }
-    {
-        let mut from = k;
-        for times in 0..MOST_LEAPS {
-            let _ = times;
-            let pair = self.pair_in_blocks(other, whole, finger, behind, from);
-            if pair.found {
-                return pair;
-            }
-            let Some(next) = self.leap(other, whole, finger, behind, pair.at, probes) else {
-                return pair;
-            };
-            from = next;
-        }
-        Pair {
-            at: from,
-            found: false,
-        }
-    }
-
-    /// The same in the blocks that both fingers are on: they tell it where these are of the lists of both terms in one slot. What is dead is
-    /// in the lists, too, so a pair is believed only where nothing in the slot is.
-    fn pair_in_blocks(
+    /// The same by a finger of each term, in the blocks that both are on: they tell it where these are of the lists of both terms in one
+    /// slot. What is dead is in the lists, too, so a pair is believed only where nothing in the slot is.
+    fn earliest_pair_by(
         &self,
         other: &Term<'a, J>,
         whole: &WholeSlots<'a, J>,
@@ -231,30 +192,6 @@ impl<'a, J: Naming> Term<'a, J> {
             at: pair.at,
             found: whole.believes(slot, pair.found),
         }
-    }
-
-    /// An address from `k` on, before which the other term nowhere stands right behind this one: both fingers go on to there, in a slot of which
-    /// nothing is dead.
-    fn leap<P: Ledger>(
-        &self,
-        other: &Term<'a, J>,
-        whole: &WholeSlots<'a, J>,
-        finger: &mut Finger<J>,
-        behind: &mut Finger<J>,
-        k: u64,
-        probes: &mut Steps<P>,
-    ) -> Option<u64>
-        requires { IsVersion J.version }
-        ensures from { IfSome result (λ next. k ≤ next) }
-        ensures none { IfSome result (λ next. any_pair (live_of J.version.slots) self.now.bytes.now other.now.bytes.now k next ≡ false) }
-    {
-        let slot = finger.slot();
-        if !whole.has(slot) {
-            return None;
-        }
-        let list = self.list(whole, slot)?;
-        let list_behind = other.list(whole, slot)?;
-        finger.leap(behind, &list, &list_behind, k, probes)
     }
 
     /// The postings of the term in the slot with this number, if it was found there.
