@@ -1,4 +1,5 @@
-ghost use Rattle.std.specs.Prelude.{◌≤◌};
+ghost use Rattle.std.specs.Prelude.{◌≡◌, ◌≤◌, length};
+ghost use Rattle.made_corpus.specs.MadeLines.{made_lines};
 
 use crate::Status;
 use crate::trials::{ends, run_over};
@@ -25,7 +26,9 @@ fn summary_of(
     start: u64,
     count: u64,
     lines: u64,
-) -> Result<Vec<u8>, Fail> {
+) -> Result<Vec<u8>, Fail>
+    requires { lines ≡ length (made_lines start count) }
+{
     let mut summary = SummarySink::new();
     summary.write(written)?;
     let mut out = Vec::new(alloc);
