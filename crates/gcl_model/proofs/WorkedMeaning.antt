@@ -1,8 +1,10 @@
 -- Worked examples of what expressions denote, of accesses and of costs, computed.
+use native.Mathlib.Omega.{arith}
 use Rattle.std.specs.Prelude.{◌≡◌, ℕ, true, false, List, [], ◌∷◌, Some, None, refl, codes}
 use Rattle.gcl_model.specs.Extents.{extent}
 use Rattle.gcl_model.specs.Access.{first_start, first_end, last_end, last_start}
 use Rattle.gcl_model.specs.Texts.{Text, Word, next_place, previous_place, any_pair}
+use Rattle.gcl_model.specs.Elements.{IsElementFrom, IsElementUpTo}
 use Rattle.gcl_model.specs.Forms.{Form, Forms, term, phrase, width, both, one, seq, containing, contained_in, not_containing, not_contained_in, no_forms, more_forms}
 use Rattle.gcl_model.specs.Meaning.{concordance}
 use Rattle.gcl_model.specs.Cost.{cost}
@@ -53,6 +55,13 @@ a_pair_at_the_last_address = refl
 -- "to" at 5 has "be" right behind it, and "be" no "to"
 pub no_pair_the_other_way : any_pair hamlet.words (codes "be") (codes "to") 0 8 ≡ false
 no_pair_the_other_way = refl
+
+-- from "to" to "be", by three look-ups: at 2 it is found at 5, and at 3 it ends at 6
+pub an_element_from : IsElementFrom hamlet.words (codes "to") (codes "be") 2 (extent 5 6)
+an_element_from = record { at = 5; found = refl; on = refl; back = refl }
+
+pub an_element_up_to : IsElementUpTo hamlet.words (codes "to") (codes "be") 3 (extent 5 6)
+an_element_up_to = record { at = 6; found = refl; behind = omega arith; back = refl; on = refl; reaches = omega arith }
 
 -- (1, 6) begins with the one and ends with the other too, but others are nested in it
 pub followed_by_is_nearest : concordance hamlet (seq (two t b)) ≡ extent 1 2 ∷ extent 5 6 ∷ []

@@ -3,6 +3,7 @@ pub mod Extents
 pub mod Access
 pub mod Directions
 pub mod Texts
+pub mod Elements
 pub mod Forms
 pub mod FormOf
 pub mod WellFormed

@@ -1,6 +1,8 @@
-ghost use Rattle.std.specs.Prelude.{◌≡◌, ◌+◌, ◌≤◌, true, false, IsTrue};
+ghost use Rattle.std.specs.Prelude.{◌≡◌, ◌+◌, ◌*◌, ◌≤◌, true, false, IsTrue, IfSome, IsNone};
 ghost use Rattle.gcl_model.specs.Texts.{holds, next_place, previous_place, any_pair};
+ghost use Rattle.gcl_model.specs.Elements.{IsElementFrom, IsElementUpTo};
 
+use crate::interval::Interval;
 use crate::leaves::Leaves;
 use crate::pair::Pair;
 use crate::span::Span;
@@ -47,6 +49,34 @@ pub trait CountedLeaves {
         ensures found { IsTrue result.found → (holds (text self.now).words first.now result.at ≡ true) ×
             (holds (text self.now).words second.now (result.at + 1) ≡ true) };
 
+    /// The first interval from a `first` to the next `second`, with neither between, that starts at or after `k`, where it is at hand: its
+    /// three look-ups are counted then, and none where it is not.
+    fn element_from(
+        &self,
+        first: &[u8],
+        second: &[u8],
+        k: u64,
+        counter: &mut Self::Counter,
+    ) -> Option<Interval>
+        ensures answer { IfSome result (IsElementFrom (text self.now).words first.now second.now k) }
+        ensures counted { count counter.old ≤ count counter.new }
+        ensures cost { count counter.new ≤ count counter.old + 3 * most self.now }
+        ensures none { IsNone result → count counter.new ≡ count counter.old };
+
+    /// The first such interval that ends at or after `k`, where it is at hand, and where the `first` before the next `second` from `k` on
+    /// leads to it. It is counted alike.
+    fn element_up_to(
+        &self,
+        first: &[u8],
+        second: &[u8],
+        k: u64,
+        counter: &mut Self::Counter,
+    ) -> Option<Interval>
+        ensures answer { IfSome result (IsElementUpTo (text self.now).words first.now second.now k) }
+        ensures counted { count counter.old ≤ count counter.new }
+        ensures cost { count counter.new ≤ count counter.old + 3 * most self.now }
+        ensures none { IsNone result → count counter.new ≡ count counter.old };
+
     /// The addresses, and what holds of the words.
     fn span(&self) -> Span
         ensures first { result.first ≡ (text self.now).first }
@@ -92,6 +122,26 @@ impl<L: Leaves, S: Ledger> CountedLeaves for LentLeaves<'_, L, S> {
 
     fn earliest_pair(&self, first: &[u8], second: &[u8], k: u64) -> Pair {
         self.leaves.earliest_pair(first, second, k)
+    }
+
+    fn element_from(
+        &self,
+        first: &[u8],
+        second: &[u8],
+        k: u64,
+        steps: &mut Steps<S>,
+    ) -> Option<Interval> {
+        self.leaves.element_from(first, second, k, steps)
+    }
+
+    fn element_up_to(
+        &self,
+        first: &[u8],
+        second: &[u8],
+        k: u64,
+        steps: &mut Steps<S>,
+    ) -> Option<Interval> {
+        self.leaves.element_up_to(first, second, k, steps)
     }
 
     fn span(&self) -> Span {
