@@ -11,3 +11,4 @@ mod Worked
 pub mod ContainLoops
 pub mod ContainForms
 pub mod ContainSteps
+pub mod ElementLemmas

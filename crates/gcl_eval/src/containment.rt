@@ -15,6 +15,7 @@ use gcl_contain::{
 use gcl_model::{Containment, Direction, Expr, Interval};
 
 /// The kind of a containment, and its first and its second operand.
+#[inline(always)]
 pub(crate) fn operands(expr: &Expr) -> (Containment, &Expr, &Expr)
     requires { IsContainment (form_of expr.now) }
     ensures form { form_of expr.now ≡ containment_form result.0 (form_of result.1.now) (form_of result.2.now) }
@@ -31,6 +32,7 @@ pub(crate) fn operands(expr: &Expr) -> (Containment, &Expr, &Expr)
 }
 
 /// The access by which the loop goes through the first operand.
+#[inline(always)]
 pub(crate) fn goes_by(containment: Containment, direction: Direction) -> Access
     ensures { access_of result ≡ goes_by direction (loop_of direction containment) }
 {
@@ -47,6 +49,7 @@ pub(crate) fn goes_by(containment: Containment, direction: Direction) -> Access
 }
 
 /// What the loop asks of the second operand at a member of the first: an access and its position.
+#[inline(always)]
 pub(crate) fn question(
     containment: Containment,
     direction: Direction,
@@ -70,6 +73,7 @@ pub(crate) fn question(
 }
 
 /// What the loop does at a member of the first operand, by the second operand's answer there.
+#[inline]
 pub(crate) fn turn(
     containment: Containment,
     direction: Direction,

@@ -19,6 +19,7 @@ pub(crate) enum Access {
 
 impl Access {
     /// Forward for the first member from a position on, backward for the last up to it.
+    #[inline(always)]
     pub(crate) fn direction(self) -> Direction
         ensures { result ≡ direction_of self }
     {
@@ -29,6 +30,7 @@ impl Access {
     }
 }
 
+#[inline(always)]
 pub(crate) fn opposite(direction: Direction) -> Direction
     ensures { result ≡ opposite direction }
 {
@@ -39,6 +41,7 @@ pub(crate) fn opposite(direction: Direction) -> Direction
 }
 
 /// The access of an operand that a chain asks.
+#[inline(always)]
 pub(crate) fn access_by_near_sides(direction: Direction) -> Access
     ensures { access_of result ≡ near_access direction }
 {
@@ -49,6 +52,7 @@ pub(crate) fn access_by_near_sides(direction: Direction) -> Access
 }
 
 /// The access of the last operand of "followed by" that its access by the far sides asks.
+#[inline(always)]
 pub(crate) fn access_by_far_sides(direction: Direction) -> Access
     ensures { access_of result ≡ far_access direction }
 {
@@ -59,6 +63,7 @@ pub(crate) fn access_by_far_sides(direction: Direction) -> Access
 }
 
 /// The operand that comes next, and the others.
+#[inline(always)]
 pub(crate) fn next_operand(direction: Direction, operands: &[Expr]) -> Option<(&Expr, &[Expr])>
     ensures { MatchOption result (operands.now ≡ []) (λ p. operands.now ≡ beside direction p.0.now p.1.now) }
 {
@@ -69,6 +74,7 @@ pub(crate) fn next_operand(direction: Direction, operands: &[Expr]) -> Option<(&
 }
 
 /// The farther of the place so far and the far side of the answer.
+#[inline(always)]
 pub(crate) fn farther(direction: Direction, so_far: u64, answer: Interval) -> u64
     ensures { result ≡ farther direction so_far (far_side direction answer) }
 {
@@ -78,6 +84,7 @@ pub(crate) fn farther(direction: Direction, so_far: u64, answer: Interval) -> u6
     }
 }
 
+#[inline(always)]
 pub(crate) fn between(direction: Direction, near: u64, far: u64) -> Interval
     requires { IsAsFar direction near far }
     ensures { result ≡ between direction near far }
@@ -89,6 +96,7 @@ pub(crate) fn between(direction: Direction, near: u64, far: u64) -> Interval
 }
 
 /// The better of two answers of "one of".
+#[inline]
 pub(crate) fn better(
     direction: Direction,
     best: Option<Interval>,
@@ -103,6 +111,7 @@ pub(crate) fn better(
 }
 
 /// Where the next operand of "followed by" is asked, if anywhere.
+#[inline(always)]
 pub(crate) fn beyond(direction: Direction, answer: Interval) -> Option<u64>
     requires { answer.end < address_end }
     ensures value { result ≡ beyond direction answer }
@@ -114,6 +123,7 @@ pub(crate) fn beyond(direction: Direction, answer: Interval) -> Option<u64>
     }
 }
 
+#[inline(always)]
 pub(crate) fn join(direction: Direction, near: Interval, far: Interval) -> Interval
     requires { CanJoin direction near far }
     ensures { result ≡ join direction near far }
@@ -125,6 +135,7 @@ pub(crate) fn join(direction: Direction, near: Interval, far: Interval) -> Inter
 }
 
 /// Whether the far side of the answer lies at `k` or beyond.
+#[inline(always)]
 pub(crate) fn reaches(direction: Direction, k: u64, answer: Interval) -> bool
     ensures { result ≡ reaches direction k answer }
 {
@@ -135,6 +146,7 @@ pub(crate) fn reaches(direction: Direction, k: u64, answer: Interval) -> bool
 }
 
 /// Where the nearest member that the access of the other form passes over is looked for, if anywhere.
+#[inline(always)]
 pub(crate) fn outside(direction: Direction, span: Span, k: u64) -> Option<u64>
     requires { k < far }
     ensures value { result ≡ outside direction span.next k }
@@ -147,6 +159,7 @@ pub(crate) fn outside(direction: Direction, span: Span, k: u64) -> Option<u64>
 }
 
 /// Where the access of the other form goes on, past that member or from the span's edge.
+#[inline(always)]
 pub(crate) fn resume(direction: Direction, span: Span, passed: Option<Interval>) -> Option<u64>
     requires { IfSome passed (λ a. a.end < address_end) }
     ensures value { result ≡ resume direction span.first span.next passed }

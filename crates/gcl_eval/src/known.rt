@@ -25,6 +25,7 @@ pub(crate) struct Known {
 }
 
 /// Whether `k` is a position where the access, asked at `at` before, comes to.
+#[inline(always)]
 fn goes_on(access: Access, at: u64, k: u64) -> bool
     ensures { result ≡ goes_on access at k }
 {
@@ -35,6 +36,7 @@ fn goes_on(access: Access, at: u64, k: u64) -> bool
 }
 
 /// Whether a member is one that the access at `k` may find.
+#[inline(always)]
 fn lies_beyond(access: Access, k: u64, member: Interval) -> bool
     ensures { result ≡ lies_beyond access k member }
 {
@@ -47,6 +49,7 @@ fn lies_beyond(access: Access, k: u64, member: Interval) -> bool
 }
 
 /// Whether the access at `k` does not pass over the member that it found before, where there was one.
+#[inline(always)]
 fn stays(access: Access, answer: Option<Interval>, k: u64) -> bool
     ensures { result ≡ stays access answer k }
 {
@@ -57,6 +60,7 @@ fn stays(access: Access, answer: Option<Interval>, k: u64) -> bool
 }
 
 /// The answer that is known, where it is that at `k`, too.
+#[inline(always)]
 fn told(access: Access, known: Option<Known>, k: u64) -> Option<Option<Interval>>
     ensures { result ≡ told access known k }
 {
@@ -68,6 +72,7 @@ fn told(access: Access, known: Option<Known>, k: u64) -> Option<Option<Interval>
     }
 }
 
+#[inline(always)]
 fn asked_at(at: u64, answer: &Option<Interval>) -> Known
     ensures at { result.at ≡ at }
     ensures answer { result.answer ≡ answer.now }
@@ -79,6 +84,7 @@ fn asked_at(at: u64, answer: &Option<Interval>) -> Known
 }
 
 /// An access of an expression: the answer that is known where it holds, else a new one, which is kept in its place.
+#[inline]
 #[cycle(access)]
 pub(crate) fn known_access<C: CountedLeaves>(
     expr: &Expr,

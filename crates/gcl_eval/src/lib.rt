@@ -13,6 +13,7 @@ mod chains;
 mod containment;
 mod containments;
 mod direction;
+mod elements;
 mod known;
 mod members;
 mod onward;

@@ -26,6 +26,7 @@ use gcl_model::{CountedLeaves, Direction, Expr, Interval};
 pub(crate) const MOST_KNOWN: usize = 64;
 
 /// The first member from `k` on, and what is known of the operands after it.
+#[inline]
 pub(crate) fn next_member<C: CountedLeaves>(
     expr: &Expr,
     source: &C,
@@ -80,6 +81,7 @@ fn first_of_one<C: CountedLeaves>(
 }
 
 /// A containment: what is known of its second operand has the first place.
+#[inline]
 fn first_of_containment<C: CountedLeaves>(
     expr: &Expr,
     source: &C,
@@ -104,6 +106,7 @@ fn first_of_containment<C: CountedLeaves>(
 }
 
 /// What is known of the operand with this number.
+#[inline(always)]
 fn known_of(known: &[Option<Known>; MOST_KNOWN], number: usize) -> Option<Known>
     ensures { result ≡ get_or known.now number None }
 {
@@ -115,6 +118,7 @@ fn known_of(known: &[Option<Known>; MOST_KNOWN], number: usize) -> Option<Known>
 }
 
 /// Keeps what is known of the operand with this number, where it has a place.
+#[inline(always)]
 fn keep(known: &mut [Option<Known>; MOST_KNOWN], number: usize, last: Option<Known>)
     ensures { known.new ≡ set known.old number last }
 {

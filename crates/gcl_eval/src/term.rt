@@ -8,6 +8,7 @@ use crate::direction::Access;
 use gcl_model::{Bytes, CountedLeaves, Interval};
 
 /// An access of a term.
+#[inline]
 pub(crate) fn term_access<C: CountedLeaves>(
     token: &Bytes,
     access: Access,
@@ -24,6 +25,7 @@ pub(crate) fn term_access<C: CountedLeaves>(
 }
 
 /// The place that the access of a term finds: each of its members starts where it ends.
+#[inline(always)]
 fn look_up<C: CountedLeaves>(
     token: &[u8],
     access: Access,

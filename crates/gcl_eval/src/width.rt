@@ -9,6 +9,7 @@ use fixed_width::{width_first_end, width_first_start, width_last_end, width_last
 use gcl_model::{Interval, Span};
 
 /// An access of the intervals of one width, which looks nothing up.
+#[inline]
 pub(crate) fn width_access(width: u64, access: Access, span: Span, k: u64) -> Option<Interval>
     requires some { 1 ≤ width }
     requires most { width ≤ address_end }

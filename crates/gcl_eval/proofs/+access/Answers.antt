@@ -1,4 +1,4 @@
-use Rattle.std.proofs.Common.{◌+◌, Some, None, drop, refl, ap, sym, ◌∙◌, subst, arith, rules}
+use Rattle.std.proofs.Common.{◌+◌, Some, None, is_some, drop, refl, ap, sym, ◌∙◌, subst, arith, rules}
 use Rattle.gcl_model.specs.Forms.{term, phrase, width, both, one, seq}
 use Rattle.gcl_model.specs.FormOf.{form_of}
 use Rattle.gcl_model.specs.Meaning.{concordance}
@@ -174,7 +174,8 @@ chains::followed_by-returns-in_err-found-clause-answer g t c =
 pub chains::followed_by-returns-in_err-found-clause-cost : goal.chains::followed_by-returns-in_err-found-clause-cost
 chains::followed_by-returns-in_err-found-clause-cost g t c =
     let costs = costs_beside c.args.direction (g.C.CountedLeaves.text c.args.source.now) (g.C.CountedLeaves.most c.args.source.now) c.args.operands.now c.in_ok-nearest.nearest.now c.in_ok-nearest.after_nearest.now c.in_ok-nearest.ensures in
-    omega (arith, c.access.ensures.cost)
+    let none = c.element_from.ensures.none (ap is_some c.in_default.is) in
+    omega (arith, none, c.access.ensures.cost)
 
 pub chains::followed_by-returns-in_err-far-clause-answer : goal.chains::followed_by-returns-in_err-far-clause-answer
 chains::followed_by-returns-in_err-far-clause-answer g t c =
@@ -187,7 +188,8 @@ chains::followed_by-returns-in_err-far-clause-answer g t c =
 pub chains::followed_by-returns-in_err-far-clause-cost : goal.chains::followed_by-returns-in_err-far-clause-cost
 chains::followed_by-returns-in_err-far-clause-cost g t c =
     let costs = costs_beside c.args.direction (g.C.CountedLeaves.text c.args.source.now) (g.C.CountedLeaves.most c.args.source.now) c.args.operands.now c.in_ok-nearest.nearest.now c.in_ok-nearest.after_nearest.now c.in_ok-nearest.ensures in
-    omega (arith, c.access.ensures.cost, c.walk.ensures.cost)
+    let none = c.element_from.ensures.none (ap is_some c.in_default.is) in
+    omega (arith, none, c.access.ensures.cost, c.walk.ensures.cost)
 
 pub chains::followed_by-returns-in_err-near-clause-answer : goal.chains::followed_by-returns-in_err-near-clause-answer
 chains::followed_by-returns-in_err-near-clause-answer g t c =
@@ -202,13 +204,15 @@ pub chains::followed_by-returns-in_err-near-clause-cost : goal.chains::followed_
 chains::followed_by-returns-in_err-near-clause-cost g t c =
     let near_costs = costs_beside c.args.direction (g.C.CountedLeaves.text c.args.source.now) (g.C.CountedLeaves.most c.args.source.now) c.args.operands.now c.in_ok-nearest.nearest.now c.in_ok-nearest.after_nearest.now c.in_ok-nearest.ensures in
     let far_costs = costs_beside c.opposite.result (g.C.CountedLeaves.text c.args.source.now) (g.C.CountedLeaves.most c.args.source.now) c.args.operands.now c.in_ok-before_farthest.field-0-0.now c.in_ok-before_farthest.before_farthest.now c.in_ok-before_farthest.ensures in
-    omega (arith, c.access.ensures.cost, c.walk.ensures.cost, c.walk-2.ensures.cost)
+    let none = c.element_from.ensures.none (ap is_some c.in_default.is) in
+    omega (arith, none, c.access.ensures.cost, c.walk.ensures.cost, c.walk-2.ensures.cost)
 
 pub chains::followed_by-returns-clause-cost : goal.chains::followed_by-returns-clause-cost
 chains::followed_by-returns-clause-cost g t c =
     let near_costs = costs_beside c.args.direction (g.C.CountedLeaves.text c.args.source.now) (g.C.CountedLeaves.most c.args.source.now) c.args.operands.now c.in_ok-nearest.nearest.now c.in_ok-nearest.after_nearest.now c.in_ok-nearest.ensures in
     let far_costs = costs_beside c.opposite.result (g.C.CountedLeaves.text c.args.source.now) (g.C.CountedLeaves.most c.args.source.now) c.args.operands.now c.in_ok-before_farthest.field-0-0.now c.in_ok-before_farthest.before_farthest.now c.in_ok-before_farthest.ensures in
-    omega (arith, c.access.ensures.cost, c.walk.ensures.cost, c.walk-2.ensures.cost)
+    let none = c.element_from.ensures.none (ap is_some c.in_default.is) in
+    omega (arith, none, c.access.ensures.cost, c.walk.ensures.cost, c.walk-2.ensures.cost)
 
 pub chains::followed_by-join-requires : goal.chains::followed_by-join-requires
 chains::followed_by-join-requires g t c =
@@ -380,9 +384,9 @@ chains::followed_by_far_sides-walk-requires g t c =
     let depth = depth_beside c.opposite.result c.args.operands.now c.in_ok-farthest.farthest.now c.in_ok-farthest.before_farthest.now c.in_ok-farthest.ensures in
     search rules
 
-pub chains::followed_by_far_sides-walk-requires-in-Some : goal.chains::followed_by_far_sides-walk-requires-in-Some
-chains::followed_by_far_sides-walk-requires-in-Some g t c =
-    let within = c.in-Some.ensures.within in
+pub chains::followed_by_far_sides-walk-requires-in-Some-walk : goal.chains::followed_by_far_sides-walk-requires-in-Some-walk
+chains::followed_by_far_sides-walk-requires-in-Some-walk g t c =
+    let within = c.in-Some-walk.ensures.within in
     let parts = parts_beside c.args.direction c.args.operands.now c.in_ok-after_nearest.field-0-0.now c.in_ok-after_nearest.after_nearest.now c.in_ok-after_nearest.ensures c.requires.operands.each in
     let depth = depth_beside c.args.direction c.args.operands.now c.in_ok-after_nearest.field-0-0.now c.in_ok-after_nearest.after_nearest.now c.in_ok-after_nearest.ensures in
     search rules
@@ -397,7 +401,8 @@ chains::followed_by_far_sides-returns-in_err-found-clause-answer g t c =
 pub chains::followed_by_far_sides-returns-in_err-found-clause-cost : goal.chains::followed_by_far_sides-returns-in_err-found-clause-cost
 chains::followed_by_far_sides-returns-in_err-found-clause-cost g t c =
     let far_costs = costs_beside c.opposite.result (g.C.CountedLeaves.text c.args.source.now) (g.C.CountedLeaves.most c.args.source.now) c.args.operands.now c.in_ok-farthest.farthest.now c.in_ok-farthest.before_farthest.now c.in_ok-farthest.ensures in
-    omega (arith, c.access.ensures.cost)
+    let none = c.element_up_to.ensures.none (ap is_some c.in_default.is) in
+    omega (arith, none, c.access.ensures.cost)
 
 pub chains::followed_by_far_sides-returns-in-None-clause-answer : goal.chains::followed_by_far_sides-returns-in-None-clause-answer
 chains::followed_by_far_sides-returns-in-None-clause-answer g t c =
@@ -409,55 +414,59 @@ chains::followed_by_far_sides-returns-in-None-clause-answer g t c =
 pub chains::followed_by_far_sides-returns-in-None-clause-cost : goal.chains::followed_by_far_sides-returns-in-None-clause-cost
 chains::followed_by_far_sides-returns-in-None-clause-cost g t c =
     let far_costs = costs_beside c.opposite.result (g.C.CountedLeaves.text c.args.source.now) (g.C.CountedLeaves.most c.args.source.now) c.args.operands.now c.in_ok-farthest.farthest.now c.in_ok-farthest.before_farthest.now c.in_ok-farthest.ensures in
-    omega (arith, c.access.ensures.cost, c.walk.ensures.cost, c.next_past.ensures.cost)
+    let none = c.element_up_to.ensures.none (ap is_some c.in_default.is) in
+    omega (arith, none, c.access.ensures.cost, c.walk.ensures.cost, c.next_past.ensures.cost)
 
-pub chains::followed_by_far_sides-returns-in_err-far-in-Some-clause-answer : goal.chains::followed_by_far_sides-returns-in_err-far-in-Some-clause-answer
-chains::followed_by_far_sides-returns-in_err-far-in-Some-clause-answer g t c =
+pub chains::followed_by_far_sides-returns-in_err-far-in-Some-walk-clause-answer : goal.chains::followed_by_far_sides-returns-in_err-far-in-Some-walk-clause-answer
+chains::followed_by_far_sides-returns-in_err-far-in-Some-walk-clause-answer g t c =
     let far_is = rw c.opposite.ensures at c.in_ok-farthest.ensures in
     let found = rw c.access_by_far_sides.ensures at c.in_ok-found.ensures.answer in
-    let back = rw c.opposite-2.ensures at c.in-Some.ensures.answer in
-    let r = far_on c.args.direction (g.C.CountedLeaves.text c.args.source.now) c.args.operands.now c.in_ok-after_nearest.after_nearest.now c.in_ok-farthest.before_farthest.now c.in_ok-after_nearest.field-0-0.now c.in_ok-farthest.farthest.now c.in_ok-after_nearest.ensures far_is c.args.k c.in_ok-found.found c.in-Some.near found back None c.in_err-far-in-Some.ensures.answer in
+    let back = rw c.opposite-2.ensures at c.in-Some-walk.ensures.answer in
+    let r = far_on c.args.direction (g.C.CountedLeaves.text c.args.source.now) c.args.operands.now c.in_ok-after_nearest.after_nearest.now c.in_ok-farthest.before_farthest.now c.in_ok-after_nearest.field-0-0.now c.in_ok-farthest.farthest.now c.in_ok-after_nearest.ensures far_is c.args.k c.in_ok-found.found c.in-Some-walk.near found back None c.in_err-far-in-Some-walk.ensures.answer in
     search rules
 
-pub chains::followed_by_far_sides-returns-in_err-far-in-Some-clause-cost : goal.chains::followed_by_far_sides-returns-in_err-far-in-Some-clause-cost
-chains::followed_by_far_sides-returns-in_err-far-in-Some-clause-cost g t c =
+pub chains::followed_by_far_sides-returns-in_err-far-in-Some-walk-clause-cost : goal.chains::followed_by_far_sides-returns-in_err-far-in-Some-walk-clause-cost
+chains::followed_by_far_sides-returns-in_err-far-in-Some-walk-clause-cost g t c =
     let far_costs = costs_beside c.opposite.result (g.C.CountedLeaves.text c.args.source.now) (g.C.CountedLeaves.most c.args.source.now) c.args.operands.now c.in_ok-farthest.farthest.now c.in_ok-farthest.before_farthest.now c.in_ok-farthest.ensures in
     let near_costs = costs_beside c.args.direction (g.C.CountedLeaves.text c.args.source.now) (g.C.CountedLeaves.most c.args.source.now) c.args.operands.now c.in_ok-after_nearest.field-0-0.now c.in_ok-after_nearest.after_nearest.now c.in_ok-after_nearest.ensures in
-    omega (arith, c.access.ensures.cost, c.walk.ensures.cost, c.walk-in-Some.ensures.cost)
+    let none = c.element_up_to.ensures.none (ap is_some c.in_default.is) in
+    omega (arith, none, c.access.ensures.cost, c.walk.ensures.cost, c.walk-in-Some-walk.ensures.cost)
 
 pub chains::followed_by_far_sides-join-requires : goal.chains::followed_by_far_sides-join-requires
 chains::followed_by_far_sides-join-requires g t c =
     let far_is = rw c.opposite.ensures at c.in_ok-farthest.ensures in
     let found = rw c.access_by_far_sides.ensures at c.in_ok-found.ensures.answer in
-    let back = rw c.opposite-2.ensures at c.in-Some.ensures.answer in
-    joins_far c.args.direction (g.C.CountedLeaves.text c.args.source.now) (seq (operand_forms c.args.operands.now)) c.args.k c.in-Some.near c.in_ok-far-in-Some.far
-    (far_reached c.args.direction (g.C.CountedLeaves.text c.args.source.now) c.args.operands.now c.in_ok-after_nearest.after_nearest.now c.in_ok-farthest.before_farthest.now c.in_ok-after_nearest.field-0-0.now c.in_ok-farthest.farthest.now c.in_ok-after_nearest.ensures far_is c.args.k c.in_ok-found.found c.in-Some.near found back c.in_ok-far-in-Some.far c.in_ok-far-in-Some.ensures.answer (sym c.reaches.ensures ∙ c.if-reaches.true) (join c.args.direction c.in-Some.near c.in_ok-far-in-Some.far) refl)
+    let back = rw c.opposite-2.ensures at c.in-Some-walk.ensures.answer in
+    joins_far c.args.direction (g.C.CountedLeaves.text c.args.source.now) (seq (operand_forms c.args.operands.now)) c.args.k c.in-Some-walk.near c.in_ok-far-in-Some-walk.far
+    (far_reached c.args.direction (g.C.CountedLeaves.text c.args.source.now) c.args.operands.now c.in_ok-after_nearest.after_nearest.now c.in_ok-farthest.before_farthest.now c.in_ok-after_nearest.field-0-0.now c.in_ok-farthest.farthest.now c.in_ok-after_nearest.ensures far_is c.args.k c.in_ok-found.found c.in-Some-walk.near found back c.in_ok-far-in-Some-walk.far c.in_ok-far-in-Some-walk.ensures.answer (sym c.reaches.ensures ∙ c.if-reaches.true) (join c.args.direction c.in-Some-walk.near c.in_ok-far-in-Some-walk.far) refl)
 
 pub chains::followed_by_far_sides-returns-then-reaches-clause-answer : goal.chains::followed_by_far_sides-returns-then-reaches-clause-answer
 chains::followed_by_far_sides-returns-then-reaches-clause-answer g t c =
     let far_is = rw c.opposite.ensures at c.in_ok-farthest.ensures in
     let found = rw c.access_by_far_sides.ensures at c.in_ok-found.ensures.answer in
-    let back = rw c.opposite-2.ensures at c.in-Some.ensures.answer in
-    far_reached c.args.direction (g.C.CountedLeaves.text c.args.source.now) c.args.operands.now c.in_ok-after_nearest.after_nearest.now c.in_ok-farthest.before_farthest.now c.in_ok-after_nearest.field-0-0.now c.in_ok-farthest.farthest.now c.in_ok-after_nearest.ensures far_is c.args.k c.in_ok-found.found c.in-Some.near found back c.in_ok-far-in-Some.far c.in_ok-far-in-Some.ensures.answer (sym c.reaches.ensures ∙ c.if-reaches.true) c.join.result c.join.ensures
+    let back = rw c.opposite-2.ensures at c.in-Some-walk.ensures.answer in
+    far_reached c.args.direction (g.C.CountedLeaves.text c.args.source.now) c.args.operands.now c.in_ok-after_nearest.after_nearest.now c.in_ok-farthest.before_farthest.now c.in_ok-after_nearest.field-0-0.now c.in_ok-farthest.farthest.now c.in_ok-after_nearest.ensures far_is c.args.k c.in_ok-found.found c.in-Some-walk.near found back c.in_ok-far-in-Some-walk.far c.in_ok-far-in-Some-walk.ensures.answer (sym c.reaches.ensures ∙ c.if-reaches.true) c.join.result c.join.ensures
 
 pub chains::followed_by_far_sides-returns-then-reaches-clause-cost : goal.chains::followed_by_far_sides-returns-then-reaches-clause-cost
 chains::followed_by_far_sides-returns-then-reaches-clause-cost g t c =
     let far_costs = costs_beside c.opposite.result (g.C.CountedLeaves.text c.args.source.now) (g.C.CountedLeaves.most c.args.source.now) c.args.operands.now c.in_ok-farthest.farthest.now c.in_ok-farthest.before_farthest.now c.in_ok-farthest.ensures in
     let near_costs = costs_beside c.args.direction (g.C.CountedLeaves.text c.args.source.now) (g.C.CountedLeaves.most c.args.source.now) c.args.operands.now c.in_ok-after_nearest.field-0-0.now c.in_ok-after_nearest.after_nearest.now c.in_ok-after_nearest.ensures in
-    omega (arith, c.access.ensures.cost, c.walk.ensures.cost, c.walk-in-Some.ensures.cost)
+    let none = c.element_up_to.ensures.none (ap is_some c.in_default.is) in
+    omega (arith, none, c.access.ensures.cost, c.walk.ensures.cost, c.walk-in-Some-walk.ensures.cost)
 
 pub chains::followed_by_far_sides-returns-else-reaches-clause-answer : goal.chains::followed_by_far_sides-returns-else-reaches-clause-answer
 chains::followed_by_far_sides-returns-else-reaches-clause-answer g t c =
     let far_is = rw c.opposite.ensures at c.in_ok-farthest.ensures in
     let found = rw c.access_by_far_sides.ensures at c.in_ok-found.ensures.answer in
-    let back = rw c.opposite-2.ensures at c.in-Some.ensures.answer in
-    far_short c.args.direction (g.C.CountedLeaves.text c.args.source.now) c.args.operands.now c.in_ok-after_nearest.after_nearest.now c.in_ok-farthest.before_farthest.now c.in_ok-after_nearest.field-0-0.now c.in_ok-farthest.farthest.now c.in_ok-after_nearest.ensures far_is c.args.k c.in_ok-found.found c.in-Some.near found back c.in_ok-far-in-Some.far c.in_ok-far-in-Some.ensures.answer (sym c.reaches.ensures ∙ c.if-reaches.false) c.next_past-else-reaches.result c.next_past-else-reaches.ensures.answer
+    let back = rw c.opposite-2.ensures at c.in-Some-walk.ensures.answer in
+    far_short c.args.direction (g.C.CountedLeaves.text c.args.source.now) c.args.operands.now c.in_ok-after_nearest.after_nearest.now c.in_ok-farthest.before_farthest.now c.in_ok-after_nearest.field-0-0.now c.in_ok-farthest.farthest.now c.in_ok-after_nearest.ensures far_is c.args.k c.in_ok-found.found c.in-Some-walk.near found back c.in_ok-far-in-Some-walk.far c.in_ok-far-in-Some-walk.ensures.answer (sym c.reaches.ensures ∙ c.if-reaches.false) c.next_past-else-reaches.result c.next_past-else-reaches.ensures.answer
 
 pub chains::followed_by_far_sides-returns-else-reaches-clause-cost : goal.chains::followed_by_far_sides-returns-else-reaches-clause-cost
 chains::followed_by_far_sides-returns-else-reaches-clause-cost g t c =
     let far_costs = costs_beside c.opposite.result (g.C.CountedLeaves.text c.args.source.now) (g.C.CountedLeaves.most c.args.source.now) c.args.operands.now c.in_ok-farthest.farthest.now c.in_ok-farthest.before_farthest.now c.in_ok-farthest.ensures in
     let near_costs = costs_beside c.args.direction (g.C.CountedLeaves.text c.args.source.now) (g.C.CountedLeaves.most c.args.source.now) c.args.operands.now c.in_ok-after_nearest.field-0-0.now c.in_ok-after_nearest.after_nearest.now c.in_ok-after_nearest.ensures in
-    omega (arith, c.access.ensures.cost, c.walk.ensures.cost, c.walk-in-Some.ensures.cost, c.next_past-else-reaches.ensures.cost)
+    let none = c.element_up_to.ensures.none (ap is_some c.in_default.is) in
+    omega (arith, none, c.access.ensures.cost, c.walk.ensures.cost, c.walk-in-Some-walk.ensures.cost, c.next_past-else-reaches.ensures.cost)
 
 -- an answer that is known
 pub known::known_access-returns-in-Some-clause-answer : goal.known::known_access-returns-in-Some-clause-answer
