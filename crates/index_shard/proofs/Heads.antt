@@ -1,5 +1,5 @@
 -- The first bytes of two terms as numbers, against the order of the terms.
-use Rattle.std.proofs.Common.{◌≡◌, ℕ, zero, suc, ◌+◌, ◌-◌, ◌*◌, ◌^◌, ◌<◌, ◌≤◌, List, [], ◌∷◌, drop, get_or, nat_cmp, inl, inr, refl, sym, ap, ◌∙◌, subst, arith}
+use Rattle.std.proofs.Common.{◌≡◌, ℕ, zero, suc, ◌+◌, ◌-◌, ◌*◌, ◌^◌, ◌<◌, ◌≤◌, List, [], ◌∷◌, length, drop, get_or, nat_cmp, inl, inr, refl, sym, ap, ◌∙◌, subst, arith}
 use Rattle.std.specs.declared.cmp.Ordering.TheVariants.{Less, Equal, Greater}
 use Rattle.std.specs.Ordering.{ordering_reverse, ordering_then}
 use Rattle.std.specs.Cmp.{nat_cmp_is}
@@ -44,6 +44,37 @@ heads_tell (suc n) h (x ∷ xs) (y ∷ ys) first second lt =
             let same : x ≡ y = omega (arith, past, level) in
             ap (λ o. ordering_then o (slice_cmp nat_cmp xs ys)) (sym (nat_cmp_is x y Equal same))
             ∙ heads_tell n (h * 256 + x) xs ys (later x xs first) (later y ys second) (subst (λ z. leading n (h * 256 + x) xs < leading n (h * 256 + z) ys) (sym same) lt)
+      ]
+    ]
+
+-- one more on both sides changes no order
+next_cmp : (a b : ℕ) → nat_cmp (suc a) (suc b) ≡ nat_cmp a b
+next_cmp a b =
+    elim (cases_lt a b) [
+      | inl before ↦ sym (nat_cmp_is (suc a) (suc b) Less (omega (arith, before))) ∙ nat_cmp_is a b Less before
+      | inr past ↦ elim (cases_lt b a) [
+        | inl behind ↦ sym (nat_cmp_is (suc a) (suc b) Greater (omega (arith, behind))) ∙ nat_cmp_is a b Greater behind
+        | inr level ↦ sym (nat_cmp_is (suc a) (suc b) Equal (omega (arith, past, level))) ∙ nat_cmp_is a b Equal (omega (arith, past, level))
+      ]
+    ]
+
+-- where the numbers are equal and tell all bytes of one, the shorter one comes first
+pub shorter_first : (n h : ℕ) (a b : List ℕ) → AreBytes a → AreBytes b → length a ≤ n → leading n h a ≡ leading n h b → nat_cmp (length a) (length b) ≡ slice_cmp nat_cmp a b
+shorter_first n h [] [] first second few same = refl
+shorter_first n h [] (y ∷ ys) first second few same = sym (nat_cmp_is 0 (suc (length ys)) Less (omega arith))
+shorter_first zero h (x ∷ xs) b first second few same = absurd (omega (arith, few))
+shorter_first (suc n) h (x ∷ xs) [] first second few same = sym (nat_cmp_is (suc (length xs)) 0 Greater (omega arith))
+shorter_first (suc n) h (x ∷ xs) (y ∷ ys) first second few same =
+    elim (cases_lt x y) [
+      | inl before ↦ let lt = lower n (h * 256 + x) (h * 256 + y) xs ys (later x xs first) (omega (arith, before)) in absurd (omega (arith, lt, same))
+      | inr past ↦ elim (cases_lt y x) [
+        | inl behind ↦ let lt = lower n (h * 256 + y) (h * 256 + x) ys xs (later y ys second) (omega (arith, behind)) in absurd (omega (arith, lt, same))
+        | inr level ↦
+            let is : x ≡ y = omega (arith, past, level) in
+            let rest = subst (λ z. leading n (h * 256 + x) xs ≡ leading n (h * 256 + z) ys) (sym is) same in
+            next_cmp (length xs) (length ys)
+            ∙ shorter_first n (h * 256 + x) xs ys (later x xs first) (later y ys second) (omega (arith, few)) rest
+            ∙ ap (λ o. ordering_then o (slice_cmp nat_cmp xs ys)) (nat_cmp_is x y Equal is)
       ]
     ]
 

@@ -31,6 +31,7 @@ pub(crate) enum Kept {
 
 impl Entry {
     /// The entry's term.
+    #[inline]
     pub(crate) fn term<'a>(&self, bytes: &'a [u8]) -> &'a [u8]
         ensures { result.now ≡ part_of bytes.now self.now.start self.now.size }
     {
@@ -38,6 +39,7 @@ impl Entry {
     }
 
     /// The first eight bytes of the term as a number.
+    #[inline]
     pub(crate) fn head_in(&self, bytes: &[u8]) -> u64
         ensures value { result ≡ self.now.head }
         ensures bytes { AreBytes (part_of bytes.now self.now.start self.now.size) }
@@ -60,6 +62,7 @@ impl Entry {
 }
 
 /// The postings that are kept at a place of the packed differences or of the lists.
+#[inline]
 pub(crate) fn lent<'a>(packed: &'a [u8], long: &'a [PostingList], list: Kept) -> Postings<'a>
     requires { IsListIn packed.now long.now list }
     ensures { result ≡ list_in packed.now long.now list }
@@ -77,6 +80,7 @@ pub(crate) fn lent<'a>(packed: &'a [u8], long: &'a [PostingList], list: Kept) ->
 }
 
 /// So many bytes from a place on, as far as there are any.
+#[inline]
 fn part(bytes: &[u8], start: usize, size: usize) -> &[u8]
     ensures { result.now ≡ part_of bytes.now start size }
 {

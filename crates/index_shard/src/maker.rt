@@ -74,6 +74,7 @@ impl ShardMaker {
 
     /// The same with the postings of several lists, each behind those before, and the first bytes of the term as a number, as `head_of` gives
     /// it. None of the lists is unpacked.
+    #[inline]
     pub fn push_parts(
         &mut self,
         head: u64,

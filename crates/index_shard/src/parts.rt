@@ -16,6 +16,7 @@ pub(crate) struct Ends {
 }
 
 /// The ends of the lists.
+#[inline]
 pub(crate) fn ends_of(lists: &[Postings<'_>]) -> Ends
     requires { ArePostings (concat lists.now) }
     ensures { AreEndsOf result (concat lists.now) }
@@ -35,6 +36,7 @@ pub(crate) fn ends_of(lists: &[Postings<'_>]) -> Ends
 }
 
 /// The ends of some addresses and of those behind them.
+#[inline]
 fn ends_behind(ends: Ends, list: &Postings<'_>) -> Ends
     requires { (front : List ℕ) × AreEndsOf ends front × ArePostings (front ++ list.now) }
     ensures { (front : List ℕ) → AreEndsOf ends front → ArePostings (front ++ list.now) → AreEndsOf result (front ++ list.now) }
@@ -56,6 +58,7 @@ fn ends_behind(ends: Ends, list: &Postings<'_>) -> Ends
 }
 
 /// Puts the packed differences of up to 64 addresses behind those of others, and gives where they stand.
+#[inline]
 pub(crate) fn put_short(
     packed: &mut Vec<u8>,
     ends: Ends,
@@ -92,6 +95,7 @@ pub(crate) fn one_list(alloc: Global, lists: &[Postings<'_>]) -> Result<PostingL
 }
 
 /// Puts an entry behind the others, and its term behind the bytes of theirs.
+#[inline]
 pub(crate) fn put_entry(
     bytes: &mut Vec<u8>,
     entries: &mut Vec<Entry>,

@@ -87,6 +87,7 @@ impl Shard {
     }
 
     /// The postings of the term at a place.
+    #[inline]
     pub fn postings(&self, place: usize) -> Postings<'_>
         requires { place < length self.now.table }
         ensures value { result ≡ addresses_at self.now.table place }
@@ -96,6 +97,7 @@ impl Shard {
     }
 
     /// The number of terms.
+    #[inline]
     pub fn term_count(&self) -> usize
         ensures value { result ≡ length self.now.table }
         ensures shard { IsShard self.now }
@@ -112,6 +114,7 @@ impl Shard {
     }
 
     /// The term at place `i`, counted from 0 in rising byte order.
+    #[inline]
     pub fn term(&self, i: usize) -> &[u8]
         requires { i < length self.now.table }
         ensures value { slice_get (map (λ (entry : TermEntry). entry.term) self.now.table) i ≡ Some result.now }
@@ -122,6 +125,7 @@ impl Shard {
 
     /// The first eight bytes of the term at place `i` as a number, with a 0 for each that is not there. Terms are in the order of their
     /// numbers as far as these differ.
+    #[inline]
     pub fn head(&self, i: usize) -> u64
         requires { i < length self.now.table }
         ensures value { option_map (leading 8 0) (slice_get (map (λ (entry : TermEntry). entry.term) self.now.table) i) ≡ Some result }

@@ -67,6 +67,7 @@ impl TermTable {
     }
 
     /// The same with the postings of several lists, each behind those before, and the first bytes of the term as a number. None is unpacked.
+    #[inline]
     pub(crate) fn push_parts(
         &mut self,
         head: u64,
@@ -138,6 +139,7 @@ impl TermTable {
     }
 
     /// The number of terms.
+    #[inline]
     pub(crate) fn len(&self) -> usize
         ensures { result ≡ length self.now }
     {
@@ -145,6 +147,7 @@ impl TermTable {
     }
 
     /// The term at a place.
+    #[inline]
     pub(crate) fn term(&self, place: usize) -> &[u8]
         requires { place < length self.now }
         ensures { slice_get (map (λ (entry : TermEntry). entry.term) self.now) place ≡ Some result.now }
@@ -154,6 +157,7 @@ impl TermTable {
     }
 
     /// The first eight bytes of the term at a place, as a number.
+    #[inline]
     pub(crate) fn head(&self, place: usize) -> u64
         requires { place < length self.now }
         ensures value { option_map (leading 8 0) (slice_get (map (λ (entry : TermEntry). entry.term) self.now) place) ≡ Some result }
@@ -164,6 +168,7 @@ impl TermTable {
     }
 
     /// The postings at a place.
+    #[inline]
     pub(crate) fn postings_at(&self, place: usize) -> Postings<'_>
         requires { place < length self.now }
         ensures at { result ≡ addresses_at self.now place }
