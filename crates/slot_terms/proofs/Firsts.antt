@@ -7,15 +7,13 @@ use Rattle.std.specs.List.{AllByRecursion, concat, list_any}
 use Rattle.std.proofs.lemmas.Bool.{or_cases}
 use Rattle.std.proofs.lemmas.List.{append-nil, length-append}
 use Rattle.std.proofs.lemmas.List.Folds.{concat-append}
-use Rattle.std.proofs.lemmas.Map.Lookups.{exact_bytes}
 use Rattle.index_shard.specs.Kept.{AreBytes, leading}
-use Rattle.index_shard.specs.Tables.{TermEntry}
+use Rattle.index_shard.specs.Tables.{TermEntry, addresses_at}
 use Rattle.index_shard.proofs.Heads.{heads_first}
-use Rattle.live_version.proofs.TermLemmas.{greater_first}
-use Rattle.slot_terms.specs.Parts.{IsLed, IsNext, IsNoLater, IsPart, IsWhole, PartContent, alive, behind, head_postings, head_term, is_headed, past}
-use Rattle.slot_terms.specs.Firsts.{IsFirst}
-use Rattle.slot_terms.specs.declared.part.First.{First}
-use Rattle.slot_terms.proofs.Heads.{part_content}
+use Rattle.slot_terms.specs.Parts.{IsNext, IsPart, IsWhole, PartContent, alive, behind, head_postings, is_headed, past}
+use Rattle.slot_terms.specs.Firsts.{IsFirst, IsFirstOf}
+use Rattle.slot_terms.specs.declared.first.First.{First}
+use Rattle.slot_terms.proofs.Heads.{head_at, part_content}
 use Rattle.slot_terms.proofs.Passing.{heads_postings}
 use Rattle.slot_terms.proofs.Rising.{all_alive}
 
@@ -28,12 +26,6 @@ left_next (e ∷ es) zero (suc zero) after = refl
 left_next (e ∷ es) zero (suc (suc next)) after = absurd (omega arith)
 left_next (e ∷ es) (suc n) (suc next) after = left_next es n next (omega arith)
 
--- before the end something is left
-pub left_some : (es : List TermEntry) (n : ℕ) → n < length es → 0 < length (drop n es)
-left_some [] n lt = absurd (omega (arith, lt))
-left_some (e ∷ es) zero lt = omega arith
-left_some (e ∷ es) (suc n) lt = left_some es n (omega (arith, lt))
-
 -- then it alone goes
 pub past_headed : (part : PartContent) (term : List ℕ) → is_headed part.left term ≡ true → record part { left = drop 1 part.left } ≡ past term part
 past_headed part term is = ap (part_content part.mask) (sym (gone part.left is))
@@ -42,51 +34,34 @@ past_headed part term is = ap (part_content part.mask) (sym (gone part.left is))
     gone [] h = absurd cc
     gone (e ∷ es) h = rw h refl
 
--- what the index tells of the term at a place
-pub led_at : (es : List TermEntry) (n head : ℕ) → option_map (leading 8 0) (slice_get (map (λ e. e.term) es) n) ≡ Some head → IfSome (slice_get (map (λ e. e.term) es) n) AreBytes → IsLed (drop n es) head
-led_at [] n head value bytes = absurd cc
-led_at (e ∷ es) zero head value bytes = let same : leading 8 0 e.term ≡ head = cc in (sym same, bytes)
-led_at (e ∷ es) (suc n) head value bytes = led_at es n head value bytes
+-- the first of what is left from a place on has the addresses at the place
+pub addresses_from : (es : List TermEntry) (n : ℕ) → addresses_at (drop n es) 0 ≡ addresses_at es n
+addresses_from [] zero = refl
+addresses_from [] (suc n) = refl
+addresses_from (e ∷ es) zero = refl
+addresses_from (e ∷ es) (suc n) = addresses_from es n
 
--- the first term with its number
-pub first_of : (left : List TermEntry) (head : ℕ) (first : First) → IsLed left head → Some first.term.now ≡ head_term left → first.head ≡ head → IsFirst first
-first_of [] head first led is same = absurd cc
-first_of (e ∷ es) head first led is same =
-    let t : first.term.now ≡ e.term = cc in
-    record { head = same ∙ led.0 ∙ ap (leading 8 0) (sym t); bytes = subst AreBytes (sym t) led.1 }
+-- what the index tells of the term at a place
+pub first_at : (es : List TermEntry) (n : ℕ) (first : First) → option_map (leading 8 0) (slice_get (map (λ e. e.term) es) n) ≡ Some first.head → IfSome (slice_get (map (λ e. e.term) es) n) AreBytes →
+    slice_get (map (λ e. e.term) es) n ≡ Some first.term.now → IsFirstOf (drop n es) (Some first)
+first_at es n first value bytes is =
+    let head : leading 8 0 first.term.now ≡ first.head = cc in
+    record { term = head_at es n first.term.now is; told = record { head = sym head; bytes = subst (λ o. IfSome o AreBytes) is bytes } }
 
 -- where the numbers differ they tell the order
-pub order_told : (left : List TermEntry) (own head : ℕ) (term : List ℕ) (o : Ordering) → IsLed left own → head ≡ leading 8 0 term → AreBytes term → o ≡ nat_cmp own head → (o ≡ Equal → ⊥) →
-    IfSome (head_term left) (λ t. o ≡ slice_cmp nat_cmp t term)
-order_told [] own head term o led is bytes told differs = tt
-order_told (e ∷ es) own head term o led is bytes told differs =
-    let x = slice_cmp nat_cmp e.term term in
+pub order_told : (own other : First) (o : Ordering) → IsFirst own → IsFirst other → o ≡ nat_cmp own.head other.head → (o ≡ Equal → ⊥) → o ≡ slice_cmp nat_cmp own.term.now other.term.now
+order_told own other o mine yours told differs =
+    let x = slice_cmp nat_cmp own.term.now other.term.now in
     alone o x differs
     ∙ ap (λ p. ordering_then p x) told
-    ∙ ap (λ h. ordering_then (nat_cmp h head) x) led.0
-    ∙ ap (λ h. ordering_then (nat_cmp (leading 8 0 e.term) h) x) is
-    ∙ heads_first 8 e.term term led.1 bytes
+    ∙ ap (λ h. ordering_then (nat_cmp h other.head) x) mine.head
+    ∙ ap (λ h. ordering_then (nat_cmp (leading 8 0 own.term.now) h) x) yours.head
+    ∙ heads_first 8 own.term.now other.term.now mine.bytes yours.bytes
   where
     alone : (o x : Ordering) → (o ≡ Equal → ⊥) → o ≡ ordering_then o x
     alone Less x differs = refl
     alone Equal x differs = absurd (differs refl)
     alone Greater x differs = refl
-
--- an order to the first term is one to the first of the entries
-pub order_is : (left : List TermEntry) (term other : List ℕ) (o : Ordering) → Some term ≡ head_term left → o ≡ slice_cmp nat_cmp term other → IfSome (head_term left) (λ t. o ≡ slice_cmp nat_cmp t other)
-order_is left term other o first is = subst (λ h. IfSome h (λ t. o ≡ slice_cmp nat_cmp t other)) first is
-
--- a first term that is less comes no later
-pub head_earlier : (left : List TermEntry) (other : List ℕ) → 0 < length left → IfSome (head_term left) (λ term. Less ≡ slice_cmp nat_cmp term other) → IsNoLater (head_term left) (Some other)
-head_earlier [] other some told = absurd (omega (arith, some))
-head_earlier (e ∷ es) other some told = inr (sym told)
-
--- and one that is not comes no earlier
-pub head_later : (left : List TermEntry) (other : List ℕ) (o : Ordering) → IfSome (head_term left) (λ term. o ≡ slice_cmp nat_cmp term other) → (o ≡ Less → ⊥) → IsNoLater (Some other) (head_term left)
-head_later [] other o told differs = tt
-head_later (e ∷ es) other Less told differs = absurd (differs refl)
-head_later (e ∷ es) other Equal told differs = inl (sym (exact_bytes e.term other (sym told)))
-head_later (e ∷ es) other Greater told differs = greater_first e.term other (sym told)
 
 -- one list more of several that are lent
 pub concat_push : (lists : List (List ℕ)) (list : List ℕ) → concat (lists ++ list ∷ []) ≡ concat lists ++ list

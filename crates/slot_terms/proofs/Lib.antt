@@ -1,6 +1,6 @@
 pub mod Firsts
 pub mod Heads
-pub mod LeastHeads
+pub mod Leasts
 pub mod LivePostings
 pub mod Loops
 pub mod Passing

@@ -3,7 +3,6 @@ use Rattle.std.specs.Prelude.{◌≡◌, ℕ, ◌+◌, Bool, true, false, List, 
 use Rattle.std.specs.List.{AllByRecursion, list_any}
 use Rattle.gcl_model.specs.Slots.{SlotRange}
 use Rattle.index_shard.specs.Tables.{TermEntry, IsTable, postings_of}
-use Rattle.index_shard.specs.Kept.{AreBytes, leading}
 use Rattle.live_version.specs.Contents.{SlotContent}
 use Rattle.live_version.specs.LookUps.{is_alive}
 pub use Rattle.live_version.specs.Terms.{IsNoLater}
@@ -38,11 +37,6 @@ IsPart part = (range : SlotRange) × IsTable range part.left
 abbrev pub head_term : List TermEntry → Option (List ℕ)
 head_term [] = None
 head_term (entry ∷ entries) = Some entry.term
-
--- the number is that of the first eight bytes of the first entry's term: of "be" it is 98 * 256 + 101, and six zeros behind
-abbrev pub IsLed : List TermEntry → ℕ → Type 0
-IsLed [] head = Unit {0}
-IsLed (entry ∷ entries) head = (head ≡ leading 8 0 entry.term) × AreBytes entry.term
 
 -- no address of the slot is dead
 abbrev pub IsWhole : PartContent → Type 0

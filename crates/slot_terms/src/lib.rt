@@ -9,6 +9,8 @@
 //! the files' boundaries, with 9 alone, and then `not`, `or` and `to` without a posting.
 #![tactic(auto)]
 
+mod first;
+mod least;
 mod part;
 mod terms;
 

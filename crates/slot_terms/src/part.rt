@@ -1,52 +1,42 @@
-ghost use Rattle.std.specs.Prelude.{◌≡◌, ◌<◌, ◌≤◌, ◌++◌, ◌⊎◌, ℕ, [], length, drop, nat_lt, IsTrue, IfSome, OnOk, option_map};
+ghost use Rattle.std.specs.Prelude.{◌≡◌, ◌<◌, ◌≤◌, ◌++◌, ℕ, [], length, drop, nat_lt, IsTrue, OnOk};
 ghost use Rattle.std.specs.List.{concat};
-ghost use Rattle.std.specs.Ordering.{nat_cmp};
-ghost use Rattle.std.specs.Cmp.Lexicographic.{slice_cmp};
 ghost use Rattle.gcl_model.specs.Limits.{address_end};
 ghost use Rattle.gcl_model.specs.Slots.{AreRangesWithin};
-ghost use Rattle.index_shard.specs.Kept.{AreBytes, leading};
-ghost use Rattle.index_shard.specs.Tables.{IsShard};
+ghost use Rattle.index_shard.specs.Tables.{IsShard, addresses_at};
 ghost use Rattle.delete_mask.specs.Masks.{is_dead};
 ghost use Rattle.posting_code.specs.Postings.{ArePostings};
-ghost use Rattle.slot_terms.specs.Firsts.{IsFirst};
-ghost use Rattle.slot_terms.specs.Parts.{IsLed, IsNoLater, alive, head_term, head_postings, is_headed, past};
+ghost use Rattle.slot_terms.specs.Firsts.{IsFirst, IsFirstOf};
+ghost use Rattle.slot_terms.specs.Parts.{alive, head_postings, is_headed, past};
 
+use crate::first::First;
 use address_space::Range;
 use delete_mask::Mask;
 use index_shard::{Room, Shard};
 use posting_code::{PostingMaker, Postings};
 use std::alloc::AllocError;
-use std::cmp::Ordering;
 use std::marker::Model;
 
 /// The index and the dead ranges of a slot, and the place of the first term that is still to come.
-// The first bytes of that term stand here as a number: most comparisons end with it, and touch no other memory.
+// That term stands here too: to compare it, no row is looked into.
 #[derive(Drop)]
 pub(crate) struct Part<'a> {
     shard: &'a Shard,
     mask: &'a Mask,
     next: usize,
-    // 0 where no term is to come
-    head: u64,
-}
-
-/// A term, and its first bytes as a number.
-#[derive(Clone, Copy)]
-pub(crate) struct First<'a> {
-    pub(crate) head: u64,
-    pub(crate) term: &'a [u8],
+    first: Option<First<'a>>,
 }
 
 impl<'a> Model for Part<'a> {
     ghost use Rattle.std.specs.Prelude.{◌≤◌, length, drop};
     ghost use Rattle.index_shard.specs.Tables.{IsShard};
-    ghost use Rattle.slot_terms.specs.Parts.{IsLed, PartContent};
+    ghost use Rattle.slot_terms.specs.Firsts.{IsFirstOf};
+    ghost use Rattle.slot_terms.specs.Parts.{PartContent};
 
     ghost Value = { PartContent };
 
     ghost view = { λ p. record { mask = p.mask.now; left = drop p.next p.shard.now.table } };
 
-    ghost invariant = { λ p. (p.next ≤ length p.shard.now.table) × IsLed (drop p.next p.shard.now.table) p.head × IsShard p.shard.now };
+    ghost invariant = { λ p. (p.next ≤ length p.shard.now.table) × IsFirstOf (drop p.next p.shard.now.table) p.first × IsShard p.shard.now };
 }
 
 impl<'a> Part<'a> {
@@ -58,7 +48,7 @@ impl<'a> Part<'a> {
             shard,
             mask,
             next: 0,
-            head: head_from(shard, 0),
+            first: first_from(shard, 0),
         }
     }
 
@@ -75,99 +65,75 @@ impl<'a> Part<'a> {
     }
 
     /// The first term that is still to come.
-    fn first(&self) -> Option<First<'a>>
-        ensures term { option_map (λ first. first.term.now) result ≡ head_term self.now.left }
-        ensures head { IfSome result IsFirst }
+    #[inline]
+    pub(crate) fn first(&self) -> Option<First<'a>>
+        ensures { IsFirstOf self.now.left result }
     {
-        if self.next == self.shard.term_count() {
-            return None;
-        }
-        Some(First {
-            head: self.head,
-            term: self.shard.term(self.next),
-        })
-    }
-
-    /// The earlier one of a term and the first of this part.
-    pub(crate) fn earlier(&self, least: Option<First<'a>>) -> Option<First<'a>>
-        requires { IfSome least IsFirst }
-        ensures first { IsNoLater (option_map (λ first. first.term.now) result) (option_map (λ first. first.term.now) least.entry) }
-        ensures second { IsNoLater (option_map (λ first. first.term.now) result) (head_term self.now.left) }
-        ensures among { (option_map (λ first. first.term.now) result ≡ option_map (λ first. first.term.now) least.entry) ⊎
-            (option_map (λ first. first.term.now) result ≡ head_term self.now.left) }
-        ensures head { IfSome result IsFirst }
-    {
-        if self.next == self.shard.term_count() {
-            return least;
-        }
-        match least {
-            Some(first) => match self.order_to(first.head, first.term) {
-                Ordering::Less => self.first(),
-                _ => least,
-            },
-            None => self.first(),
-        }
-    }
-
-    /// The order of its first term to another one, of which the first bytes are given as a number.
-    fn order_to(&self, head: u64, term: &[u8]) -> Ordering
-        requires some { 0 < length self.now.left }
-        requires head { head ≡ leading 8 0 term.now }
-        requires bytes { AreBytes term.now }
-        ensures { IfSome (head_term self.now.left) (λ own. result ≡ slice_cmp nat_cmp own term.now) }
-    {
-        match self.head.cmp(&head) {
-            Ordering::Less => Ordering::Less,
-            Ordering::Equal => self.shard.term(self.next).cmp(term),
-            Ordering::Greater => Ordering::Greater,
-        }
+        self.first
     }
 
     /// Goes past the term, where it is the first, and puts its postings behind the lists.
     pub(crate) fn take_list(
         &mut self,
-        head: u64,
-        term: &[u8],
+        first: &First<'_>,
         lists: &mut Vec<Postings<'a>>,
     ) -> Result<(), AllocError>
-        requires { head ≡ leading 8 0 term.now }
-        ensures lists { OnOk result (concat lists.new.items ≡ concat lists.old.items ++ head_postings self.old.left term.now) }
-        ensures past { OnOk result (self.new ≡ past term.now self.old) }
+        requires { IsFirst first.now }
+        ensures lists { OnOk result (concat lists.new.items ≡ concat lists.old.items ++ head_postings self.old.left first.now.term.now) }
+        ensures past { OnOk result (self.new ≡ past first.now.term.now self.old) }
     {
-        if self.has_first(head, term) {
-            lists.push(self.shard.postings(self.next))?;
-            self.step();
+        if self.has_first(first) {
+            self.take_first(lists)?;
         }
         Ok(())
     }
 
-    /// Whether the term is the first that is still to come.
-    fn has_first(&self, head: u64, term: &[u8]) -> bool
-        requires { head ≡ leading 8 0 term.now }
-        ensures { result ≡ is_headed self.now.left term.now }
+    /// Goes past the first term, and puts its postings behind the lists.
+    #[inline]
+    pub(crate) fn take_first(&mut self, lists: &mut Vec<Postings<'a>>) -> Result<(), AllocError>
+        requires { 0 < length self.old.left }
+        ensures lists { OnOk result (concat lists.new.items ≡ concat lists.old.items ++ addresses_at self.old.left 0) }
+        ensures past { OnOk result (self.new ≡ record self.old { left = drop 1 self.old.left }) }
     {
-        if self.head != head {
-            return false;
+        lists.push(self.shard.postings(self.next))?;
+        self.step();
+        Ok(())
+    }
+
+    /// Whether the term is the first that is still to come.
+    #[inline]
+    fn has_first(&self, first: &First<'_>) -> bool
+        requires { IsFirst first.now }
+        ensures { result ≡ is_headed self.now.left first.now.term.now }
+    {
+        match self.first {
+            Some(own) => own.is(first),
+            None => false,
         }
-        self.next < self.shard.term_count() && self.shard.term(self.next) == term
     }
 
     /// Goes past the first term, if one is to come.
+    #[inline]
     fn step(&mut self)
         ensures { self.new ≡ record self.old { left = drop 1 self.old.left } }
     {
         if self.next < self.shard.term_count() {
             self.next += 1;
-            self.head = head_from(self.shard, self.next);
+            self.first = first_from(self.shard, self.next);
         }
     }
 
     /// Goes past the term, where it is the first, and puts its live postings behind the addresses.
-    pub(crate) fn take(&mut self, term: &[u8], addresses: &mut Vec<u64>) -> Result<(), AllocError>
-        ensures addresses { OnOk result (addresses.new.items ≡ addresses.old.items ++ alive self.old.mask (head_postings self.old.left term.now)) }
-        ensures past { OnOk result (self.new ≡ past term.now self.old) }
+    pub(crate) fn take(
+        &mut self,
+        first: &First<'_>,
+        addresses: &mut Vec<u64>,
+    ) -> Result<(), AllocError>
+        requires { IsFirst first.now }
+        ensures addresses { OnOk result (addresses.new.items ≡ addresses.old.items ++ alive self.old.mask (head_postings self.old.left first.now.term.now)) }
+        ensures past { OnOk result (self.new ≡ past first.now.term.now self.old) }
     {
-        if self.next < self.shard.term_count() && self.shard.term(self.next) == term {
+        if self.has_first(first) {
             put_live(&self.shard.postings(self.next), self.mask, addresses)?;
             self.step();
         }
@@ -177,14 +143,15 @@ impl<'a> Part<'a> {
     /// The same, with the live postings put behind those of a list.
     pub(crate) fn take_packed(
         &mut self,
-        term: &[u8],
+        first: &First<'_>,
         postings: &mut PostingMaker,
     ) -> Result<(), AllocError>
-        requires { ArePostings (postings.old ++ alive self.old.mask (head_postings self.old.left term.now)) }
-        ensures postings { OnOk result (postings.new ≡ postings.old ++ alive self.old.mask (head_postings self.old.left term.now)) }
-        ensures past { OnOk result (self.new ≡ past term.now self.old) }
+        requires first { IsFirst first.now }
+        requires rising { ArePostings (postings.old ++ alive self.old.mask (head_postings self.old.left first.now.term.now)) }
+        ensures postings { OnOk result (postings.new ≡ postings.old ++ alive self.old.mask (head_postings self.old.left first.now.term.now)) }
+        ensures past { OnOk result (self.new ≡ past first.now.term.now self.old) }
     {
-        if self.next < self.shard.term_count() && self.shard.term(self.next) == term {
+        if self.has_first(first) {
             append_live(&self.shard.postings(self.next), self.mask, postings)?;
             self.step();
         }
@@ -192,16 +159,20 @@ impl<'a> Part<'a> {
     }
 }
 
-/// The first bytes of the term at a place, as a number, and 0 where there is none.
-fn head_from(shard: &Shard, place: usize) -> u64
+/// The term at a place, and None at the end.
+#[inline]
+fn first_from(shard: &Shard, place: usize) -> Option<First<'_>>
     requires { place ≤ length shard.now.table }
-    ensures value { IsLed (drop place shard.now.table) result }
+    ensures first { IsFirstOf (drop place shard.now.table) result }
     ensures shard { IsShard shard.now }
 {
     if place == shard.term_count() {
-        return 0;
+        return None;
     }
-    shard.head(place)
+    Some(First {
+        head: shard.head(place),
+        term: shard.term(place),
+    })
 }
 
 /// Puts the live ones of the postings behind the others. None of them is unpacked.

@@ -1,11 +1,14 @@
-ghost use Rattle.std.specs.Prelude.{◌≡◌, List, ℕ, [], ◌++◌, true, map, flat_map, option_map, IfOk, OnOk, IfSome, IsNone, IsTrue};
-ghost use Rattle.std.specs.List.{AllByRecursion, concat, list_any};
+ghost use Rattle.std.specs.Prelude.{◌≡◌, List, ℕ, [], ◌++◌, true, map, flat_map, IfOk, OnOk, IfSome, IsNone, IsTrue};
+ghost use Rattle.std.specs.List.{AllByRecursion, concat};
 ghost use Rattle.index_shard.specs.Kept.{leading};
 ghost use Rattle.posting_code.specs.Postings.{ArePostings};
 ghost use Rattle.slot_terms.specs.Firsts.{IsFirst};
-ghost use Rattle.slot_terms.specs.Parts.{IsNext, IsNoLater, IsPart, IsWhole, alive, head_term, head_postings, is_headed, part_of, past, postings_left};
+ghost use Rattle.slot_terms.specs.Leasts.{IsLeastAt, IsLeastOf};
+ghost use Rattle.slot_terms.specs.Parts.{IsNext, IsPart, IsWhole, alive, head_postings, part_of, past, postings_left};
 
-use crate::part::{First, Part};
+use crate::first::First;
+use crate::least::{Least, least_of};
+use crate::part::Part;
 use index_shard::Room;
 use live_version::Slot;
 use posting_code::{PostingList, PostingMaker, Postings};
@@ -54,9 +57,9 @@ impl<'a> SlotTerms<'a> {
         ensures parts { IfOk result (λ found. AllByRecursion IsPart self.new) }
         ensures none { IfOk result (λ found. IsNone found → (term : List ℕ) → postings_left self.old term ≡ []) }
     {
-        if let Some(first) = self.least() {
-            self.take(first.term, addresses)?;
-            return Ok(Some(first.term));
+        if let Some(least) = self.least() {
+            self.take(&least.first, addresses)?;
+            return Ok(Some(least.first.term));
         }
         Ok(None)
     }
@@ -96,9 +99,9 @@ impl<'a> SlotTerms<'a> {
         ensures whole { IfOk result (λ found. AllByRecursion IsWhole self.new) }
         ensures none { IfOk result (λ found. IsNone found → (term : List ℕ) → postings_left self.old term ≡ []) }
     {
-        if let Some(first) = self.least() {
-            self.take_lists(first.head, first.term, lists)?;
-            return Ok(Some((first.head, first.term)));
+        if let Some(least) = self.least() {
+            self.take_lists(&least, lists)?;
+            return Ok(Some((least.first.head, least.first.term)));
         }
         Ok(None)
     }
@@ -113,52 +116,56 @@ impl<'a> SlotTerms<'a> {
         ensures parts { IfOk result (λ found. AllByRecursion IsPart self.new) }
         ensures none { IfOk result (λ found. IsNone found → (term : List ℕ) → postings_left self.old term ≡ []) }
     {
-        if let Some(first) = self.least() {
-            let postings = self.take_packed(first.term)?;
-            return Ok(Some((first.term, postings)));
+        if let Some(least) = self.least() {
+            let postings = self.take_packed(&least.first)?;
+            return Ok(Some((least.first.term, postings)));
         }
         Ok(None)
     }
 
-    fn least(&self) -> Option<First<'a>>
-        ensures least { AllByRecursion (λ part. IsNoLater (option_map (λ first. first.term.now) result) (head_term part.left)) self.now }
-        ensures member { IfSome result (λ first. list_any (λ part. is_headed part.left first.term.now) self.now ≡ true) }
-        ensures head { IfSome result IsFirst }
+    fn least(&self) -> Option<Least<'a>>
+        ensures { IsLeastOf self.now result }
     {
-        least_head(self.parts.as_slice())
+        least_of(self.parts.as_slice())
     }
 
-    fn take(&mut self, term: &[u8], addresses: &mut Vec<u64>) -> Result<(), AllocError>
-        ensures addresses { OnOk result (addresses.new.items ≡ flat_map (λ part. alive part.mask (head_postings part.left term.now)) self.old) }
-        ensures past { OnOk result (self.new ≡ map (past term.now) self.old) }
+    fn take(&mut self, first: &First<'_>, addresses: &mut Vec<u64>) -> Result<(), AllocError>
+        requires { IsFirst first.now }
+        ensures addresses { OnOk result (addresses.new.items ≡ flat_map (λ part. alive part.mask (head_postings part.left first.now.term.now)) self.old) }
+        ensures past { OnOk result (self.new ≡ map (past first.now.term.now) self.old) }
     {
         addresses.clear();
-        take_term(self.parts.as_mut_slice(), term, addresses)?;
+        take_term(self.parts.as_mut_slice(), first, addresses)?;
         Ok(())
     }
 
     fn take_lists(
         &mut self,
-        head: u64,
-        term: &[u8],
+        least: &Least<'_>,
         lists: &mut Vec<Postings<'a>>,
     ) -> Result<(), AllocError>
-        requires { head ≡ leading 8 0 term.now }
-        ensures lists { OnOk result (concat lists.new.items ≡ flat_map (λ part. head_postings part.left term.now) self.old) }
-        ensures past { OnOk result (self.new ≡ map (past term.now) self.old) }
+        requires { IsLeastAt self.old least.now }
+        ensures lists { OnOk result (concat lists.new.items ≡ flat_map (λ part. head_postings part.left least.now.first.term.now) self.old) }
+        ensures past { OnOk result (self.new ≡ map (past least.now.first.term.now) self.old) }
     {
         lists.clear();
-        take_term_lists(self.parts.as_mut_slice(), head, term, lists)?;
+        // most terms are those of one part
+        if least.alone {
+            take_alone(self.parts.as_mut_slice(), least, lists)?;
+            return Ok(());
+        }
+        take_term_lists(self.parts.as_mut_slice(), &least.first, lists)?;
         Ok(())
     }
 
-    fn take_packed(&mut self, term: &[u8]) -> Result<PostingList, AllocError>
-        requires { ArePostings (flat_map (λ part. alive part.mask (head_postings part.left term.now)) self.old) }
-        ensures postings { IfOk result (λ postings. postings ≡ flat_map (λ part. alive part.mask (head_postings part.left term.now)) self.old) }
-        ensures past { OnOk result (self.new ≡ map (past term.now) self.old) }
+    fn take_packed(&mut self, first: &First<'_>) -> Result<PostingList, AllocError>
+        requires first { IsFirst first.now }
+        requires rising { ArePostings (flat_map (λ part. alive part.mask (head_postings part.left first.now.term.now)) self.old) }
+        ensures postings { IfOk result (λ postings. postings ≡ flat_map (λ part. alive part.mask (head_postings part.left first.now.term.now)) self.old) }
+        ensures past { OnOk result (self.new ≡ map (past first.now.term.now) self.old) }
     {
         self.postings.clear();
-        take_term_packed(self.parts.as_mut_slice(), term, &mut self.postings)?;
+        take_term_packed(self.parts.as_mut_slice(), first, &mut self.postings)?;
         self.postings.copy()
     }
 }
@@ -166,15 +173,16 @@ impl<'a> SlotTerms<'a> {
 /// Goes past the term in each part, and puts its live postings behind those of a list.
 fn take_term_packed(
     parts: &mut [Part<'_>],
-    term: &[u8],
+    first: &First<'_>,
     postings: &mut PostingMaker,
 ) -> Result<(), AllocError>
-    requires { ArePostings (postings.old ++ flat_map (λ part. alive part.mask (head_postings part.left term.now)) parts.old) }
-    ensures postings { OnOk result (postings.new ≡ postings.old ++ flat_map (λ part. alive part.mask (head_postings part.left term.now)) parts.old) }
-    ensures past { OnOk result (parts.new ≡ map (past term.now) parts.old) }
+    requires first { IsFirst first.now }
+    requires rising { ArePostings (postings.old ++ flat_map (λ part. alive part.mask (head_postings part.left first.now.term.now)) parts.old) }
+    ensures postings { OnOk result (postings.new ≡ postings.old ++ flat_map (λ part. alive part.mask (head_postings part.left first.now.term.now)) parts.old) }
+    ensures past { OnOk result (parts.new ≡ map (past first.now.term.now) parts.old) }
 {
     for part in parts.iter_mut() {
-        part.take_packed(term, postings)?;
+        part.take_packed(first, postings)?;
     }
     Ok(())
 }
@@ -182,15 +190,16 @@ fn take_term_packed(
 /// Goes past the term in each part, and puts its live postings behind the addresses.
 fn take_term(
     parts: &mut [Part<'_>],
-    term: &[u8],
+    first: &First<'_>,
     addresses: &mut Vec<u64>,
 ) -> Result<(), AllocError>
+    requires { IsFirst first.now }
     ensures addresses { OnOk result (addresses.new.items ≡ addresses.old.items ++
-        flat_map (λ part. alive part.mask (head_postings part.left term.now)) parts.old) }
-    ensures past { OnOk result (parts.new ≡ map (past term.now) parts.old) }
+        flat_map (λ part. alive part.mask (head_postings part.left first.now.term.now)) parts.old) }
+    ensures past { OnOk result (parts.new ≡ map (past first.now.term.now) parts.old) }
 {
     for part in parts.iter_mut() {
-        part.take(term, addresses)?;
+        part.take(first, addresses)?;
     }
     Ok(())
 }
@@ -198,29 +207,31 @@ fn take_term(
 /// Goes past the term in each part, and puts its postings behind the lists.
 fn take_term_lists<'a>(
     parts: &mut [Part<'a>],
-    head: u64,
-    term: &[u8],
+    first: &First<'_>,
     lists: &mut Vec<Postings<'a>>,
 ) -> Result<(), AllocError>
-    requires { head ≡ leading 8 0 term.now }
-    ensures lists { OnOk result (concat lists.new.items ≡ concat lists.old.items ++ flat_map (λ part. head_postings part.left term.now) parts.old) }
-    ensures past { OnOk result (parts.new ≡ map (past term.now) parts.old) }
+    requires { IsFirst first.now }
+    ensures lists { OnOk result (concat lists.new.items ≡ concat lists.old.items ++ flat_map (λ part. head_postings part.left first.now.term.now) parts.old) }
+    ensures past { OnOk result (parts.new ≡ map (past first.now.term.now) parts.old) }
 {
     for part in parts.iter_mut() {
-        part.take_list(head, term, lists)?;
+        part.take_list(first, lists)?;
     }
     Ok(())
 }
 
-/// The least term that is still to come.
-fn least_head<'a>(parts: &[Part<'a>]) -> Option<First<'a>>
-    ensures least { AllByRecursion (λ part. IsNoLater (option_map (λ first. first.term.now) result) (head_term part.left)) parts.now }
-    ensures member { IfSome result (λ first. list_any (λ part. is_headed part.left first.term.now) parts.now ≡ true) }
-    ensures head { IfSome result IsFirst }
+/// The same for a term that one part alone has. The others are not looked at.
+fn take_alone<'a>(
+    parts: &mut [Part<'a>],
+    least: &Least<'_>,
+    lists: &mut Vec<Postings<'a>>,
+) -> Result<(), AllocError>
+    requires least { IsLeastAt parts.old least.now }
+    requires alone { least.now.alone ≡ true }
+    ensures lists { OnOk result (concat lists.new.items ≡ concat lists.old.items ++
+        flat_map (λ part. head_postings part.left least.now.first.term.now) parts.old) }
+    ensures past { OnOk result (parts.new ≡ map (past least.now.first.term.now) parts.old) }
 {
-    let mut least = None;
-    for part in parts {
-        least = part.earlier(least);
-    }
-    least
+    parts[least.place].take_first(lists)?;
+    Ok(())
 }

@@ -10,7 +10,7 @@ loop-part-preserved c =
     let i = c.loop-part.part-index in
     let item = c.part-item.result in
     let out = c.loop-part.addresses.items in
-    let term = c.args.term.now in
+    let term = c.args.first.now.term.now in
     let more =
     past_more parts c.loop-part.parts i term item c.take.new.self (omega arith) c.loop-part.invariant.past c.part-item.is (c.in_ok-take.ensures.past ∙ ap (past term) (sym c.part-item.is)) in
     record {

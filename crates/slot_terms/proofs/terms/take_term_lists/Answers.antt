@@ -11,7 +11,7 @@ loop-part-preserved c =
     let i = c.loop-part.part-index in
     let item = c.part-item.result in
     let out = concat c.loop-part.lists.items in
-    let term = c.args.term.now in
+    let term = c.args.first.now.term.now in
     let more =
     past_more parts c.loop-part.parts i term item c.take_list.new.self (omega arith) c.loop-part.invariant.past c.part-item.is (c.in_ok-take_list.ensures.past ∙ ap (past term) (sym c.part-item.is)) in
     record {

@@ -6,6 +6,6 @@ use Rattle.slot_terms.proofs.terms.take_term_lists.Given as goal
 -- the parts so far are past the term, and the others are as they were
 abbrev pub invariant-loop-part : goal.invariant-loop-part
 invariant-loop-part l = record {
-  lists : concat l.lists.items ≡ concat l.fn.lists.items ++ flat_map (λ part. head_postings part.left l.term) (take l.part-index l.fn.parts);
-  past : l.parts ≡ map (past l.term) (take l.part-index l.fn.parts) ++ drop l.part-index l.fn.parts;
+  lists : concat l.lists.items ≡ concat l.fn.lists.items ++ flat_map (λ part. head_postings part.left l.first.term.now) (take l.part-index l.fn.parts);
+  past : l.parts ≡ map (past l.first.term.now) (take l.part-index l.fn.parts) ++ drop l.part-index l.fn.parts;
 }

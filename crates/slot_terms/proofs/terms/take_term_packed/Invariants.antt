@@ -5,6 +5,6 @@ use Rattle.slot_terms.proofs.terms.take_term_packed.Given as goal
 -- the parts so far are past the term, and the others are as they were
 abbrev pub invariant-loop-part : goal.invariant-loop-part
 invariant-loop-part l = record {
-  postings : l.postings ≡ l.fn.postings ++ flat_map (λ part. alive part.mask (head_postings part.left l.term)) (take l.part-index l.fn.parts);
-  past : l.parts ≡ map (past l.term) (take l.part-index l.fn.parts) ++ drop l.part-index l.fn.parts;
+  postings : l.postings ≡ l.fn.postings ++ flat_map (λ part. alive part.mask (head_postings part.left l.first.term.now)) (take l.part-index l.fn.parts);
+  past : l.parts ≡ map (past l.first.term.now) (take l.part-index l.fn.parts) ++ drop l.part-index l.fn.parts;
 }

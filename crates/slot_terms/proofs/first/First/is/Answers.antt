@@ -1,0 +1,7 @@
+use Rattle.std.proofs.Common.{ap, ◌∙◌}
+use Rattle.std.specs.Ordering.{is_eq}
+use Rattle.std.proofs.lemmas.Map.Text.{is_eq-slice_cmp}
+use Rattle.slot_terms.proofs.first.First.is.Goals as goal
+
+pub returns : goal.returns
+returns c = c.is_eq.ensures ∙ ap is_eq c.order_to.ensures ∙ is_eq-slice_cmp c.args.self.now.term.now c.args.other.now.term.now
