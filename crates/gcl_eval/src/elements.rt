@@ -35,8 +35,9 @@ pub(crate) fn element_from<C: CountedLeaves>(
 {
     match direction {
         Direction::Forward => {
-            let _span = source.span();
             let (first, second) = two_terms(operands)?;
+            // the span tells that the words rise
+            let _span = source.span();
             source.element_from(first.as_slice(), second.as_slice(), k, counter)
         }
         Direction::Backward => None,
@@ -59,8 +60,9 @@ pub(crate) fn element_up_to<C: CountedLeaves>(
 {
     match direction {
         Direction::Forward => {
-            let _span = source.span();
             let (first, second) = two_terms(operands)?;
+            // the span tells that the words rise
+            let _span = source.span();
             source.element_up_to(first.as_slice(), second.as_slice(), k, counter)
         }
         Direction::Backward => None,
