@@ -1,8 +1,8 @@
 -- What the members of one block tell of a whole version, where nothing of their slot is dead.
-use Rattle.std.proofs.Common.{◌≡◌, ℕ, zero, suc, ◌+◌, ◌-◌, ◌<◌, ◌≤◌, Bool, true, leb, List, [], ◌∷◌, length, take, find, get_or, Option, Some, None, slice_get, refl, sym, ap, ◌∙◌, subst, arith}
+use Rattle.std.proofs.Common.{◌≡◌, ℕ, zero, suc, ◌+◌, ◌-◌, ◌<◌, ◌≤◌, Bool, true, leb, List, [], ◌∷◌, length, take, find, reverse, get_or, Option, Some, None, slice_get, refl, sym, ap, ◌∙◌, subst, arith}
 use Rattle.std.specs.List.{AllByRecursion}
 use Rattle.std.specs.Option.{IfSome, option_map}
-use Rattle.std.proofs.lemmas.Bool.{eqb-true}
+use Rattle.std.proofs.lemmas.Bool.{eqb-true, leb-true}
 use Rattle.std.proofs.lemmas.List.{get_or-take, nil_from_length}
 use Rattle.std.proofs.lemmas.Option.{IfSome_then, slice_get-map, slice_get_within, get_or_from_slice_get}
 use Rattle.gcl_model.specs.Access.{find_last, later_or}
@@ -10,7 +10,7 @@ use Rattle.gcl_model.specs.Slots.{AreRangesWithin}
 use Rattle.gcl_model.specs.Texts.{places, next_place, previous_place}
 use Rattle.gcl_model.specs.declared.direction.Direction.{Direction}
 use Rattle.gcl_model.specs.declared.direction.Direction.TheVariants.{Forward, Backward}
-use Rattle.gcl_model.proofs.Lists.{filter_all}
+use Rattle.gcl_model.proofs.Lists.{filter_all, found_passes, find-reverse}
 use Rattle.gcl_model.proofs.WordLists.{previous_place-append, none_next, none_previous}
 use Rattle.posting_code.specs.Packed.{last_of}
 use Rattle.posting_code.specs.Postings.{ArePostings, block_of}
@@ -18,7 +18,7 @@ use Rattle.index_shard.specs.Searched.{nearest}
 use Rattle.index_shard.specs.Tables.{postings_of}
 use Rattle.live_version.specs.Contents.{SlotContent, VersionContent, IsSlot, IsVersion, live_words, live_of, ranges_of}
 use Rattle.live_version.proofs.WordLemmas.{live_words_rise, live_of_rise, next_by_slot, previous_by_slot, next_in_first, next_in_rest}
-use Rattle.term_fingers.specs.Lists.{HasNoDead, IsAt, IsAtHand, TellsNearest, addresses_in, is_whole, list_of, places_of, whole_of}
+use Rattle.term_fingers.specs.Lists.{HasNoDead, IsAt, IsAtHand, LiesOn, TellsNearest, addresses_in, is_whole, list_of, places_of, whole_of}
 use Rattle.term_fingers.proofs.Beside.{at_of_block, list_is, postings_within, slot_is}
 use Rattle.term_fingers.proofs.Nearest.{last_is, tells_nearest}
 
@@ -135,3 +135,12 @@ within_list xs k last direction (Some p) some low is high near = record {
     upto = high;
   };
 }
+
+-- what is nearest on one side lies on it
+nearest_lies : (direction : Direction) (ps : List ℕ) (k p : ℕ) → Some p ≡ nearest direction ps k → LiesOn direction k p
+nearest_lies Forward ps k p is = leb-true k p (found_passes (λ q. leb k q) p ps (sym is))
+nearest_lies Backward ps k p is = leb-true p k (found_passes (λ q. leb q k) p (reverse ps) (find-reverse (λ q. leb q k) ps ∙ sym is))
+
+-- the same of what a finger tells, if anything
+pub told_lies : (direction : Direction) (ps : List ℕ) (k : ℕ) (o : Option ℕ) → IfSome o (λ p. Some p ≡ nearest direction ps k) → IfSome o (LiesOn direction k)
+told_lies direction ps k o near = IfSome_then o near (nearest_lies direction ps k)

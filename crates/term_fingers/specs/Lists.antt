@@ -2,6 +2,7 @@
 use Rattle.std.specs.Prelude.{◌≡◌, ℕ, ◌+◌, ◌-◌, ◌<◌, ◌≤◌, Bool, ◌==◌, nat_lt, if◌then◌else◌, List, [], length, map, Option, None, Some, slice_get, slice_index}
 use Rattle.std.specs.Option.{option_map}
 use Rattle.gcl_model.specs.declared.direction.Direction.{Direction}
+use Rattle.gcl_model.specs.declared.direction.Direction.TheVariants.{Forward, Backward}
 use Rattle.index_shard.specs.Searched.{nearest}
 use Rattle.index_shard.specs.Tables.{ShardContent, addresses_at, place_of}
 use Rattle.live_version.specs.Contents.{SlotContent}
@@ -36,6 +37,11 @@ whole_of slots = map is_whole slots
 -- the slot with a number has no dead range, if there is one
 abbrev pub HasNoDead : List SlotContent → ℕ → Type 0
 HasNoDead slots number = (slot : SlotContent) → slice_get slots number ≡ Some slot → slot.mask ≡ []
+
+-- a place in the index of the slot with a number is where a term was found there, and the slot has no dead range
+pub record IsOfWhole (slots : List SlotContent) (found : List (Option ℕ)) (number place : ℕ) : Type 0 where
+  pub here : slice_get found number ≡ Some (Some place)
+  pub whole : HasNoDead slots number
 
 -- a part of a list tells what is nearest to k on either side: of 2, 5, 9 and 12 the part 5, 9 tells it at 6
 pub record TellsNearest (list part : List ℕ) (k : ℕ) : Type 0 where
@@ -91,3 +97,8 @@ pub record LackPairs (first second : List ℕ) (k r : ℕ) : Type 0 where
 pub record IsAtHand (direction : Direction) (list : List ℕ) (k p : ℕ) : Type 0 where
   pub is : Some p ≡ nearest direction list k
   pub around : LieAround list list k k
+
+-- p lies forward from k, or backward from it, where it may be k itself: 5 lies forward from 3
+abbrev pub LiesOn : Direction → ℕ → ℕ → Type 0
+LiesOn Forward k p = k ≤ p
+LiesOn Backward k p = p ≤ k

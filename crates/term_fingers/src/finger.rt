@@ -93,7 +93,9 @@ impl<J: Naming> Finger<J> {
         probes: &mut Steps<P>,
     ) -> Option<u64>
         requires { IsVersion J.version }
-        ensures { IfSome result (IsAtHand direction (list_of J.version.slots self.old.slot self.old.place) k) }
+        ensures answer { IfSome result (IsAtHand direction (list_of J.version.slots self.old.slot self.old.place) k) }
+        ensures slot { self.new.slot ≡ self.old.slot }
+        ensures place { self.new.place ≡ self.old.place }
     {
         let members = &self.members[..self.count];
         if !reach_around(members, k) {

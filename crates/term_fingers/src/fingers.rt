@@ -3,13 +3,14 @@ ghost use Rattle.gcl_model.specs.Texts.{IsText, places};
 ghost use Rattle.index_shard.specs.Searched.{nearest};
 ghost use Rattle.live_version.specs.Contents.{live_of, version_text};
 
+use crate::elements::{element_from, element_up_to};
 use crate::look_up::{ByFinger, at_hand_unprobed};
 use crate::naming::Naming;
 use crate::term::Term;
 use crate::whole::WholeSlots;
 use crate::words::add_words;
 use arrayvec::ArrayVec;
-use gcl_model::{Direction, Expr, Leaves, Ledger, Pair, Span, Steps};
+use gcl_model::{Direction, Expr, Interval, Leaves, Ledger, Pair, Span, Steps};
 use live_version::Version;
 use std::marker::{Brand, Model};
 use std::sync::ledger::Blank;
@@ -84,6 +85,42 @@ impl<'a, J: Naming> Leaves for Fingers<'a, J> {
             return unknown;
         };
         term.earliest_pair(behind, &self.whole, k)
+    }
+
+    fn element_from<L: Ledger>(
+        &self,
+        first: &[u8],
+        second: &[u8],
+        k: u64,
+        steps: &mut Steps<L>,
+    ) -> Option<Interval> {
+        // any call of the version tells that it is one
+        let _next = self.version.next();
+        let term = self.find(first)?;
+        let behind = self.find(second)?;
+        let element = element_from::<J, Brand>(term, behind, &self.whole, k, Blank::new(1))?;
+        steps.tick();
+        steps.tick();
+        steps.tick();
+        Some(element)
+    }
+
+    fn element_up_to<L: Ledger>(
+        &self,
+        first: &[u8],
+        second: &[u8],
+        k: u64,
+        steps: &mut Steps<L>,
+    ) -> Option<Interval> {
+        // any call of the version tells that it is one
+        let _next = self.version.next();
+        let term = self.find(first)?;
+        let behind = self.find(second)?;
+        let element = element_up_to::<J, Brand>(term, behind, &self.whole, k, Blank::new(1))?;
+        steps.tick();
+        steps.tick();
+        steps.tick();
+        Some(element)
     }
 
     fn span(&self) -> Span {

@@ -9,11 +9,13 @@
 //! the list gives the nearest address of the whole version, and no slot is looked for. Of two terms whose blocks are both unpacked
 //! `earliest_pair` says, without a look-up, up to where the one nowhere comes right after the other, and, if nothing in the blocks' slot
 //! is dead, whether it does there: so a walk over a phrase of two frequent words looks up little more than the ends of their blocks.
+//! Of two such terms an interval from the one to the other, such as a line between its tags, is at hand by three steps in their blocks.
 //! Nothing takes memory: 16 terms have fingers, and whatever is added after them has none.
 //!
 //! Over one file `to be or not to be` from address 0 on, whose first word is at 1, the next `to` from 2 on is at 5.
 #![tactic(auto)]
 
+mod elements;
 mod finger;
 mod fingers;
 mod look_up;

@@ -20,7 +20,7 @@ use std::cell::RefCell;
 pub(crate) struct Term<'a, J: Naming> {
     bytes: &'a [u8],
     places: [Option<usize>; 32],
-    finger: RefCell<Finger<J>>,
+    pub(crate) finger: RefCell<Finger<J>>,
     ghost found: { take (length J.version.slots) places ≡ places_of bytes.now J.version.slots },
 }
 
@@ -204,7 +204,7 @@ impl<'a, J: Naming> Term<'a, J> {
     }
 
     /// Whether the term was found at this place in the index of the slot with this number.
-    fn has_place(&self, number: usize, place: usize) -> bool
+    pub(crate) fn has_place(&self, number: usize, place: usize) -> bool
         ensures { IsTrue result → slice_get self.now.places number ≡ Some (Some place) }
     {
         if number >= 32 {

@@ -7,7 +7,8 @@ ghost use Rattle.index_shard.specs.Tables.{ArePostingsIn, IsShard};
 use super::*;
 use address_space::{FileId, FileRecord, FileRun, Range};
 use gcl_model::{
-    ADDRESS_END, Bytes, Direction, Leaves, Ledger, Pair, Question, Steps, TokenList, counted,
+    ADDRESS_END, Bytes, Direction, Interval, Leaves, Ledger, Pair, Question, Steps, TokenList,
+    counted,
 };
 use index_shard::{Shard, ShardMaker};
 use live_version::{Slot, Version};
@@ -414,5 +415,90 @@ fn a_pair_is_believed_where_nothing_is_dead(rt: HostRuntime) -> Result<(), Fail>
     let slot = of_chance(&rt, rt.alloc())?;
     let version = Version::of_slot(rt.alloc(), 0, 3000, 3, Some(slot))?;
     ask_unpacked::<Brand, _>(&rt, &version, true);
+    Ok(())
+}
+
+/// An interval between two words on one side of `k`, if it is at hand.
+#[derive(Drop)]
+struct Element<'a, V: Leaves> {
+    leaves: &'a V,
+    k: u64,
+    direction: Direction,
+}
+
+impl<V: Leaves> Question for Element<'_, V> {
+    ghost use Rattle.std.specs.Prelude.{⊤, ◌*◌};
+
+    type Answer = Option<Interval>;
+
+    ghost can_ask = { λ _. ⊤ };
+
+    ghost answers = { λ _ _. ⊤ };
+
+    ghost most = { λ asked _. 3 * V.most asked.leaves.now };
+
+    fn ask<L: Ledger>(&self, steps: &mut Steps<L>) -> Option<Interval> {
+        match self.direction {
+            Direction::Forward => self.leaves.element_from(b"of", b"the", self.k, steps),
+            Direction::Backward => self.leaves.element_up_to(b"of", b"the", self.k, steps),
+        }
+    }
+}
+
+/// The same by three look-ups.
+fn looked_up<V: Leaves>(leaves: &V, k: u64, direction: Direction) -> Option<(u64, u64)> {
+    match direction {
+        Direction::Forward => {
+            let at = found(leaves, "of", k, Direction::Forward).0?;
+            let end = found(leaves, "the", at.checked_add(1)?, Direction::Forward).0?;
+            let start = found(leaves, "of", end.checked_sub(1)?, Direction::Backward).0?;
+            Some((start, end))
+        }
+        Direction::Backward => {
+            let at = found(leaves, "the", k, Direction::Forward).0?;
+            let start = found(leaves, "of", at.checked_sub(1)?, Direction::Backward).0?;
+            let end = found(leaves, "the", start.checked_add(1)?, Direction::Forward).0?;
+            if end < k { None } else { Some((start, end)) }
+        }
+    }
+}
+
+/// Of how many addresses the interval was at hand, after look-ups that unpacked the blocks around it.
+fn times_at_hand<J: Naming, R: Abort>(rt: &R, version: &Version, direction: Direction) -> u64
+    requires { version.now ≡ J.version }
+{
+    let mut fingers = Fingers::<J>::new(version);
+    for term in ["of", "the"] {
+        fingers.add(term.as_bytes());
+    }
+    let mut times = 0u64;
+    for k in 0..3000u64 {
+        let want = looked_up(&fingers, k, direction);
+        let (got, count) = counted(&Element {
+            leaves: &fingers,
+            k,
+            direction,
+        });
+        let Some(element) = got else {
+            continue;
+        };
+        times = times.saturating_add(1);
+        let got = (Some((element.start, element.end)), count);
+        assert_eq!(rt; got, (want, 3), "at {k}, {direction:?}");
+    }
+    times
+}
+
+#[test]
+fn between_unpacked_words_is_at_hand_where_nothing_is_dead(rt: HostRuntime) -> Result<(), Fail> {
+    let slot = of_chance(&rt, rt.alloc())?;
+    let version = Version::of_slot(rt.alloc(), 0, 3000, 3, Some(slot))?;
+    let rest = deleted(&rt, &version, 1)?;
+    for direction in [Direction::Forward, Direction::Backward] {
+        let times = times_at_hand::<Brand, _>(&rt, &version, direction);
+        assert!(rt; times > 2000, "{times}, {direction:?}");
+        let times = times_at_hand::<Brand, _>(&rt, &rest, direction);
+        assert_eq!(rt; times, 0, "{direction:?}");
+    }
     Ok(())
 }

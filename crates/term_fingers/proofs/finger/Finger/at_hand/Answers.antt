@@ -10,8 +10,8 @@ nearest_in-found-requires g c =
     let finger = c.args.self.now in
     members_rise g.J.Naming.version finger.slot finger.place finger.block finger.count finger.members c.requires finger.is
 
-pub returns : goal.returns
-returns g c =
+pub returns-clause-answer : goal.returns-clause-answer
+returns-clause-answer g c =
     let v = g.J.Naming.version in
     let finger = c.args.self.now in
     let part = take finger.count finger.members in
