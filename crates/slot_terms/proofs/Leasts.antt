@@ -1,25 +1,21 @@
 -- The least of the first terms of the parts, and where it stands.
-use Rattle.std.proofs.Common.{◌≡◌, ℕ, true, false, List, [], ◌∷◌, ◌++◌, length, Some, None, Option, map, flat_map, set, get_or, drop, bytes_eq, Bool, append_assoc, inl, inr, refl, sym, ap, ◌∙◌, subst}
+use Rattle.std.proofs.Common.{◌≡◌, ℕ, true, false, List, [], ◌∷◌, ◌++◌, length, Some, None, Option, bytes_eq, Bool, append_assoc, inl, inr, refl, sym, ap, ◌∙◌, subst}
 use Rattle.std.specs.declared.cmp.Ordering.TheVariants.{Less, Equal, Greater}
 use Rattle.std.specs.Ordering.{nat_cmp}
 use Rattle.std.specs.Cmp.Lexicographic.{slice_cmp}
 use Rattle.std.specs.List.{AllByRecursion, list_any}
 use Rattle.std.proofs.lemmas.Bool.{or_left, or_right}
 use Rattle.std.proofs.lemmas.Cmp.{nat_list_cmp_total}
-use Rattle.std.proofs.lemmas.Grind.{flat_map-append}
-use Rattle.std.proofs.lemmas.List.{append-nil, get_or_at, set_at, map-append}
 use Rattle.std.proofs.lemmas.Map.Lookups.{exact_bytes}
 use Rattle.std.proofs.lemmas.Slice.Eq.{bytes_eq-Decides}
-use Rattle.index_shard.specs.Tables.{ComesBefore, TermEntry, addresses_at}
+use Rattle.index_shard.specs.Tables.{ComesBefore, TermEntry}
 use Rattle.index_shard.proofs.TableLaws.{all_push, same_term}
 use Rattle.live_version.proofs.TermLemmas.{greater_first, no_later_trans}
 use Rattle.slot_terms.specs.Firsts.{IsFirst, IsFirstOf}
 use Rattle.slot_terms.specs.Leasts.{IsLeastAt, IsLeastOf, NoneHas}
-use Rattle.slot_terms.specs.Parts.{IsNoLater, NoneEarlier, PartContent, head_postings, head_term, is_headed, past}
+use Rattle.slot_terms.specs.Parts.{IsNoLater, NoneEarlier, PartContent, head_term, is_headed}
 use Rattle.slot_terms.specs.declared.first.First.{First}
 use Rattle.slot_terms.specs.declared.least.Least.{Least}
-use Rattle.slot_terms.proofs.Firsts.{past_headed}
-use Rattle.slot_terms.proofs.Heads.{headed_postings, unheaded_behind, unheaded_postings, part_content}
 use Rattle.slot_terms.proofs.Passing.{after_differs}
 
 -- of entries that begin with a term it is the first
@@ -151,46 +147,3 @@ least_member parts least at = subst (λ ps. list_any (λ part. is_headed part.le
 pub none_later : (parts : List PartContent) → AllByRecursion (λ part. part.left ≡ []) parts → AllByRecursion (λ part. IsNoLater None (head_term part.left)) parts
 none_later [] all = tt
 none_later (part ∷ parts) all = (subst (λ left. IsNoLater None (head_term left)) (sym all.0) tt, none_later parts all.1)
-
--- parts that do not have a term first stay as they are, and give none of its postings
-past_others : (term : List ℕ) (parts : List PartContent) → NoneHas term parts → map (past term) parts ≡ parts
-past_others term [] none = refl
-past_others term (part ∷ parts) none =
-    ap (λ p. p ∷ map (past term) parts) (ap (part_content part.mask) (unheaded_behind part.left term none.0)) ∙ ap (λ ps. part ∷ ps) (past_others term parts none.1)
-
-postings_of_others : (term : List ℕ) (parts : List PartContent) → NoneHas term parts → flat_map (λ part. head_postings part.left term) parts ≡ []
-postings_of_others term [] none = refl
-postings_of_others term (part ∷ parts) none = ap (λ l. l ++ flat_map (λ p. head_postings p.left term) parts) (unheaded_postings part.left term none.0) ∙ postings_of_others term parts none.1
-
--- the part at the place is the one that has it
-here_is : (parts : List PartContent) (least : Least) (d : PartContent) → (at : IsLeastAt parts least) → get_or parts least.place d ≡ at.part
-here_is parts least d at = ap (λ l. get_or l least.place d) at.parts_are ∙ get_or_at at.before at.part at.behind d least.place (sym at.place_is)
-
--- where it is alone its postings are all of the term
-pub alone_postings : (parts : List PartContent) (least : Least) (d : PartContent) → IsLeastAt parts least → least.alone ≡ true →
-    addresses_at (get_or parts least.place d).left 0 ≡ flat_map (λ part. head_postings part.left least.first.term.now) parts
-alone_postings parts least d at alone =
-    let term = least.first.term.now in
-    let f : PartContent → List ℕ = λ part. head_postings part.left term in
-    ap (λ (p : PartContent). addresses_at p.left 0) (here_is parts least d at)
-    ∙ sym (headed_postings at.part.left 0 term at.has)
-    ∙ sym (append-nil (f at.part))
-    ∙ ap (λ l. f at.part ++ l) (sym (postings_of_others term at.behind (at.none_behind alone)))
-    ∙ ap (λ l. l ++ flat_map f (at.part ∷ at.behind)) (sym (postings_of_others term at.before at.none_before))
-    ∙ sym (flat_map-append f at.before (at.part ∷ at.behind))
-    ∙ ap (flat_map f) (sym at.parts_are)
-
--- and to go past its first entry is to go past the term in all
-pub alone_past : (parts : List PartContent) (least : Least) (d : PartContent) → IsLeastAt parts least → least.alone ≡ true →
-    set parts least.place (part_content (get_or parts least.place d).mask (drop 1 (get_or parts least.place d).left)) ≡ map (past least.first.term.now) parts
-alone_past parts least d at alone =
-    let term = least.first.term.now in
-    let goes : PartContent → PartContent = λ p. part_content p.mask (drop 1 p.left) in
-    ap (λ p. set parts least.place (goes p)) (here_is parts least d at)
-    ∙ ap (λ p. set parts least.place p) (past_headed at.part term at.has)
-    ∙ ap (λ l. set l least.place (past term at.part)) at.parts_are
-    ∙ set_at at.before at.part at.behind (past term at.part) least.place (sym at.place_is)
-    ∙ ap (λ l. l ++ past term at.part ∷ at.behind) (sym (past_others term at.before at.none_before))
-    ∙ ap (λ l. map (past term) at.before ++ past term at.part ∷ l) (sym (past_others term at.behind (at.none_behind alone)))
-    ∙ sym (map-append (past term) at.before (at.part ∷ at.behind))
-    ∙ ap (map (past term)) (sym at.parts_are)

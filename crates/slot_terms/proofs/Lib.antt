@@ -5,4 +5,5 @@ pub mod LivePostings
 pub mod Loops
 pub mod Passing
 pub mod Rising
+pub mod Taken
 pub mod Between

@@ -149,12 +149,7 @@ impl<'a> SlotTerms<'a> {
         ensures past { OnOk result (self.new ≡ map (past least.now.first.term.now) self.old) }
     {
         lists.clear();
-        // most terms are those of one part
-        if least.alone {
-            take_alone(self.parts.as_mut_slice(), least, lists)?;
-            return Ok(());
-        }
-        take_term_lists(self.parts.as_mut_slice(), &least.first, lists)?;
+        take_term_lists(self.parts.as_mut_slice(), least, lists)?;
         Ok(())
     }
 
@@ -204,34 +199,24 @@ fn take_term(
     Ok(())
 }
 
-/// Goes past the term in each part, and puts its postings behind the lists.
+/// Goes past the least term in each part that has it, and puts its postings behind the lists.
 fn take_term_lists<'a>(
-    parts: &mut [Part<'a>],
-    first: &First<'_>,
-    lists: &mut Vec<Postings<'a>>,
-) -> Result<(), AllocError>
-    requires { IsFirst first.now }
-    ensures lists { OnOk result (concat lists.new.items ≡ concat lists.old.items ++ flat_map (λ part. head_postings part.left first.now.term.now) parts.old) }
-    ensures past { OnOk result (parts.new ≡ map (past first.now.term.now) parts.old) }
-{
-    for part in parts.iter_mut() {
-        part.take_list(first, lists)?;
-    }
-    Ok(())
-}
-
-/// The same for a term that one part alone has. The others are not looked at.
-fn take_alone<'a>(
     parts: &mut [Part<'a>],
     least: &Least<'_>,
     lists: &mut Vec<Postings<'a>>,
 ) -> Result<(), AllocError>
-    requires least { IsLeastAt parts.old least.now }
-    requires alone { least.now.alone ≡ true }
+    requires { IsLeastAt parts.old least.now }
     ensures lists { OnOk result (concat lists.new.items ≡ concat lists.old.items ++
         flat_map (λ part. head_postings part.left least.now.first.term.now) parts.old) }
     ensures past { OnOk result (parts.new ≡ map (past least.now.first.term.now) parts.old) }
 {
     parts[least.place].take_first(lists)?;
+    // most terms are those of one part
+    if least.alone {
+        return Ok(());
+    }
+    for place in least.place + 1..parts.len() {
+        parts[place].take_list(&least.first, lists)?;
+    }
     Ok(())
 }

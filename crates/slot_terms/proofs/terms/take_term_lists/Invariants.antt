@@ -1,11 +1,7 @@
-use Rattle.std.proofs.Common.{◌≡◌, ◌++◌, map, flat_map, take, drop}
 use Rattle.std.specs.List.{concat}
-use Rattle.slot_terms.specs.Parts.{head_postings, past}
+use Rattle.slot_terms.proofs.Taken.{HasTaken}
 use Rattle.slot_terms.proofs.terms.take_term_lists.Given as goal
 
 -- the parts so far are past the term, and the others are as they were
-abbrev pub invariant-loop-part : goal.invariant-loop-part
-invariant-loop-part l = record {
-  lists : concat l.lists.items ≡ concat l.fn.lists.items ++ flat_map (λ part. head_postings part.left l.first.term.now) (take l.part-index l.fn.parts);
-  past : l.parts ≡ map (past l.first.term.now) (take l.part-index l.fn.parts) ++ drop l.part-index l.fn.parts;
-}
+abbrev pub invariant-loop-place : goal.invariant-loop-place
+invariant-loop-place l = HasTaken l.least.first.term.now l.fn.parts l.parts (concat l.fn.lists.items) (concat l.lists.items) l.place
