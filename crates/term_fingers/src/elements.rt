@@ -13,8 +13,8 @@ use gcl_model::{Direction, Interval, Ledger, NoLedger, Steps};
 use std::sync::ledger;
 use std::sync::ledger::Blank;
 
-/// The interval from the next `first` from `k` on, or the last one before its end, to the next `second`, as far as their fingers tell. The
-/// probes are kept nowhere.
+/// The interval up to the next `second` behind the next `first` from `k` on, and from the last `first` before that, as far as their fingers
+/// tell. The probes are kept nowhere.
 #[inline(always)]
 pub(crate) fn element_from<'a, J: Naming, B: ledger::Ledger>(
     first: &Term<'a, J>,
@@ -44,8 +44,8 @@ pub(crate) fn element_from<'a, J: Naming, B: ledger::Ledger>(
     element_from_by(first, second, &mut finger, &mut behind, k, &mut probes)
 }
 
-/// The interval from the last `first` before the next `second` from `k` on to the next `second` behind that, as far as their fingers tell.
-/// The probes are kept nowhere.
+/// The interval from the last `first` before the next `second` from `k` on, and up to the next `second` behind that, where it ends at `k` or
+/// later, as far as their fingers tell. The probes are kept nowhere.
 #[inline(always)]
 pub(crate) fn element_up_to<'a, J: Naming, B: ledger::Ledger>(
     first: &Term<'a, J>,
@@ -94,7 +94,7 @@ fn tell_of_one<'a, J: Naming>(
         && second.has_place(slot, behind.place())
 }
 
-/// The first of these intervals by a finger of each term.
+/// The interval of `element_from`, by a finger of each term.
 #[inline(always)]
 fn element_from_by<'a, J: Naming, P: Ledger>(
     first: &Term<'a, J>,
@@ -117,7 +117,7 @@ fn element_from_by<'a, J: Naming, P: Ledger>(
     Some(Interval::new(start, end))
 }
 
-/// The second of these intervals by a finger of each term.
+/// The interval of `element_up_to`, by a finger of each term.
 #[inline(always)]
 fn element_up_to_by<'a, J: Naming, P: Ledger>(
     first: &Term<'a, J>,
