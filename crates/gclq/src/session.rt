@@ -5,9 +5,10 @@ ghost use Rattle.gcl_model.specs.Limits.{most_line, most_script};
 ghost use Rattle.command_words.specs.Grammar.{options_of};
 ghost use Rattle.query_run.specs.Words.{first_of};
 ghost use Rattle.script_lang.specs.Lines.{lines};
-ghost use Rattle.query_run.specs.States.{greatest_limits};
-ghost use Rattle.query_run.specs.Answers.{names_of, names_kept_of, output};
-ghost use Rattle.query_run.specs.Runs.{WhereTold, WhereMadeBy, GetsPart, HasStopped, IsAnswered, IsSummed, HandsOverMore, TakesWithin, made_summary, within};
+ghost use Rattle.script_answers.specs.States.{greatest_limits};
+ghost use Rattle.script_answers.specs.Answers.{names_of, names_kept_of, output};
+ghost use Rattle.query_run.specs.Runs.{WhereTold, WhereMadeBy, HasStopped, IsAnswered, IsSummed, HandsOverMore, TakesWithin, made_summary, within};
+ghost use Rattle.script_answers.specs.Stopped.{GetsPart};
 ghost use Rattle.gclq.specs.Exits.{IsEnd, IsAllAnswered, IsSureOfFiles};
 
 use crate::fault_name::FaultName;

@@ -1,15 +1,5 @@
 -- Lemmas, and worked examples.
-pub mod BatchLemmas
-pub mod BatchSteps
-pub mod ImageLemmas
-pub mod Replies
-pub mod SaveReplies
-pub mod Scripts
-pub mod LineSteps
-pub mod PageLists
-pub mod PageSteps
-pub mod PutLemmas
 pub mod StreamLemmas
 pub mod Told
-pub mod WindowLemmas
+pub mod WholeScripts
 mod Worked

@@ -14,19 +14,22 @@ use Rattle.script_lang.specs.Lines.{Line, lines, ended, before_any, text_of_line
 use Rattle.script_lang.specs.Feeds.{Feed, has_newline}
 use Rattle.script_lang.proofs.FeedLemmas.{is_newline}
 use Rattle.script_lang.proofs.EndedLemmas.{lines_of_ended, done_is_ended, ended_begins}
-use Rattle.query_run.specs.States.{State, opening, IsFresh}
-use Rattle.query_run.specs.Answers.{answers, AreRead, output_by}
-use Rattle.query_run.specs.Progress.{FeedsPiece, IsFed, HasCome, IsSure}
-use Rattle.query_run.specs.Runs.{GetsPart, HandsOver, TakesWithin, WhereTold, within}
+use Rattle.script_answers.specs.States.{State, opening, IsFresh}
+use Rattle.script_answers.specs.Answers.{answers, AreRead, output_by}
+use Rattle.query_run.specs.Streams.{FeedsPiece, IsFed, IsSure}
+use Rattle.script_answers.specs.Progress.{HasCome}
+use Rattle.script_answers.specs.Stopped.{GetsPart}
+use Rattle.query_run.specs.Runs.{HandsOver, TakesWithin, WhereTold, within}
 use Rattle.query_run.specs.Faults.{of_read, of_run}
-use Rattle.query_run.specs.declared.limits.Limits.{Limits}
+use Rattle.script_answers.specs.declared.limits.Limits.{Limits}
 use Rattle.query_run.specs.declared.read.ReadFault.{ReadFault}
 use Rattle.query_run.specs.declared.read.ReadFault.TheVariants.{Failed as ReadFailed, NoMemory as ReadNoMemory, TooLong as ReadTooLong}
-use Rattle.query_run.specs.declared.run_fault.RunFault.{RunFault}
-use Rattle.query_run.specs.declared.run_fault.RunFault.TheVariants.{Write, Files, NoMemory}
+use Rattle.script_answers.specs.declared.run_fault.RunFault.{RunFault}
+use Rattle.script_answers.specs.declared.run_fault.RunFault.TheVariants.{Write, Files, NoMemory}
 use Rattle.query_run.specs.declared.stream_fault.StreamFault.{StreamFault}
 use Rattle.query_run.specs.declared.stream_fault.StreamFault.TheVariants.{TooLong as StreamTooLong}
-use Rattle.query_run.proofs.Scripts.{all_read, fresh_come, more_within, part_of_more, take_more}
+use Rattle.query_run.proofs.WholeScripts.{all_read, fresh_come}
+use Rattle.script_answers.proofs.Scripts.{more_within, part_of_more, take_more}
 
 -- What the source handed over.
 

@@ -5,17 +5,19 @@ use Rattle.outside.specs.Contents.{Contents}
 use Rattle.collection.specs.Engines.{EngineContent}
 use Rattle.live_version.specs.Contents.{VersionContent}
 use Rattle.script_lang.specs.Lines.{lines, text_of_lines}
-use Rattle.query_run.specs.Images.{Images}
-use Rattle.query_run.specs.States.{State, opening, IsFresh}
-use Rattle.query_run.specs.Answers.{answers, output_by, AreRead}
-use Rattle.query_run.specs.Runs.{WhereTold, WhereMade, WhereMadeBy, GetsPart, HasAnswered, HasStopped, IsAnsweredBy, IsStopped, made_opening, made_summary}
+use Rattle.script_answers.specs.Images.{Images}
+use Rattle.script_answers.specs.States.{State, opening, IsFresh}
+use Rattle.script_answers.specs.Answers.{answers, output_by, AreRead}
+use Rattle.query_run.specs.Runs.{WhereTold, WhereMade, WhereMadeBy, HasAnswered, HasStopped, IsAnsweredBy, made_opening, made_summary}
+use Rattle.script_answers.specs.Stopped.{GetsPart, IsStopped}
 use Rattle.query_run.specs.Statuses.{IsFinished, IsMadeEnd}
 use Rattle.query_run.specs.declared.status.Status.{Status}
 use Rattle.query_run.specs.declared.status.Status.TheVariants.{Done, DoneWithRefusals, Usage, ReadFault, WriteFault, FileFault, NoMemory, ScriptTooLong}
-use Rattle.query_run.specs.declared.limits.Limits.{Limits}
+use Rattle.script_answers.specs.declared.limits.Limits.{Limits}
 use Rattle.command_words.specs.declared.options.Made.{Made}
 use Rattle.command_words.specs.declared.options.Options.{Options}
-use Rattle.query_run.proofs.Scripts.{fresh_keeps, part_of_all, all_read}
+use Rattle.query_run.proofs.WholeScripts.{fresh_keeps, all_read}
+use Rattle.script_answers.proofs.Scripts.{part_of_all}
 use Rattle.std.proofs.KnownBytes.{Appends-nil}
 
 -- at a script, contents and readings that are known

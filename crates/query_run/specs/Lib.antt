@@ -1,11 +1,5 @@
-pub mod Answers
-pub mod Batches
 pub mod Faults
-pub mod Images
-pub mod Pages
-pub mod Progress
 pub mod Runs
-pub mod States
 pub mod Statuses
-pub mod Windows
+pub mod Streams
 pub mod Words

@@ -1,15 +1,14 @@
 -- What a run says of its source, its files and its sink.
-use Rattle.std.specs.Prelude.{◌≡◌, Bool, false, ℕ, ◌+◌, ◌≤◌, List, ◌++◌, length, take, drop, Contains, Option, Some, IfSome, ◌⊎◌}
+use Rattle.std.specs.Prelude.{◌≡◌, Bool, false, ℕ, ◌+◌, ◌≤◌, List, length, take, drop, Option, Some, IfSome}
 use Rattle.std.specs.Io.KnownBytes.{Appends, Consumes, IsAtEnd}
 use Rattle.outside.specs.Contents.{Contents}
 use Rattle.script_lang.specs.Lines.{Line, lines, ended, text_of_lines}
-use Rattle.live_version.specs.Contents.{VersionContent}
-use Rattle.live_version.specs.StandsFor.{StandsFor}
 use Rattle.collection.specs.Engines.{EngineContent}
-use Rattle.query_run.specs.States.{State, opening, greatest_limits, Keeps}
-use Rattle.query_run.specs.Images.{Images}
-use Rattle.query_run.specs.Answers.{answers, state_after, AllAnswered, AreRead, output_by, output, has_refusal_by, names_kept_of}
-use Rattle.query_run.specs.declared.limits.Limits.{Limits}
+use Rattle.script_answers.specs.States.{State, opening, greatest_limits, Keeps}
+use Rattle.script_answers.specs.Images.{Images}
+use Rattle.script_answers.specs.Answers.{answers, state_after, AllAnswered, AreRead, output_by, output, has_refusal_by, names_kept_of}
+use Rattle.script_answers.specs.Stopped.{GetsPart, HoldsBut}
+use Rattle.script_answers.specs.declared.limits.Limits.{Limits}
 use Rattle.gcl_model.specs.Limits.{most_line}
 use Rattle.made_corpus.specs.MadeFiles.{made_files}
 use Rattle.made_corpus.specs.MadeLines.{made_text}
@@ -22,19 +21,6 @@ use Rattle.command_words.specs.declared.options.Options.{Options}
 abbrev pub WhereTold : Limits → Option ℕ → Option (List ℕ) → Option Contents → (State → List ℕ → Type 0) → Type 0
 WhereTold limits first left held P = IfSome first (λ address. IfSome left (λ script. IfSome held (λ contents.
     (images : Images) → AreRead limits (opening address contents images) (lines limits.line script) → P (opening address contents images) script)))
-
--- the files hold this under every name but some
-pub record HoldsBut (names : List (List ℕ)) (files : Contents) (held : Option Contents) : Type 0 where
-  pub contents : Contents
-  pub is : held ≡ Some contents
-  pub same : (name : List ℕ) → (contents name ≡ files name) ⊎ Contains names name
-
--- the sink got the beginning of a text, or all of it
-pub record GetsPart (old new : Option (List ℕ)) (text : List ℕ) : Type 0 where
-  pub part : List ℕ
-  pub rest : List ℕ
-  pub whole : text ≡ part ++ rest
-  pub written : Appends old new part
 
 -- every line of the script has an answer, all answers were written, and the files hold what the lines leave; the answers have a refusal
 -- line or none
@@ -58,16 +44,6 @@ IsAnswered = IsAnsweredBy greatest_limits
 pub record IsLeftBy (limits : Limits) (start : State) (script : List ℕ) (engine : EngineContent) (completed : ℕ) : Type 0 where
   pub keeps : Keeps engine false (state_after limits start (lines limits.line script))
   pub each : completed ≡ length (lines limits.line script)
-
--- The first so many lines are completed: the version stands for the collection after them, the sink got the beginning of the answers to
--- them and the line after them, and the files hold what they leave, but for the name that the line after them saves, and where each keep
--- succeeded exactly that
-pub record IsStopped (limits : Limits) (start : State) (script : List Line) (completed : ℕ) (version : VersionContent) (kept : Type 0) (held : Option Contents) (old new : Option (List ℕ)) : Type 0 where
-  pub within : completed ≤ length script
-  pub stands : StandsFor version (state_after limits start (take completed script)).collection
-  pub part : GetsPart old new (text_of_lines (answers limits start (take (completed + 1) script)))
-  pub files : HoldsBut (names_kept_of (take 1 (drop completed script))) (state_after limits start (take completed script)).files held
-  pub exact : kept → held ≡ Some (state_after limits start (take completed script)).files
 
 -- Some lines are completed: the sink got the beginning of the answers to them and the line after them, and the files hold what they leave,
 -- but for the name that the line after them saves, and where each keep succeeded exactly that

@@ -1,7 +1,7 @@
 //! The top calls: `serve` answers the lines of a script on an engine, and `run` opens an engine, serves, and ends it.
 //!
 //! Contracts see the words, the files, the source and the sink that are lent to `run`. Where it is known what these
-//! hold, the bytes written are the output of the script, which `specs/Answers.antt` defines: the answers to its lines,
+//! hold, the bytes written are the output of the script, which `script_answers: specs/Answers.antt` defines: the answers to its lines,
 //! each in the state that the lines before it leave, and to a query the concordance list of its expression over the
 //! words of the surviving files, or its first members, or their number. A file that a line saves holds the one image of the
 //! collection from then on. Wherever a run ends, the engine's version stands for the collection after the lines that are
@@ -11,34 +11,15 @@
 //! `= 2`.
 #![tactic(auto)]
 
-mod answering;
-mod answers;
-mod batches;
-mod changes;
-mod course;
-mod limits;
-mod listing;
 mod made_run;
-mod merging;
-mod over;
-mod pages;
-mod queries;
 mod read;
-mod refusals;
-mod run_fault;
-mod saving;
-mod script_line;
 mod script_run;
-mod serving;
-mod setting;
 mod status;
 mod stream;
 mod stream_fault;
 mod top;
-mod window;
-mod write;
 
-pub use limits::{BATCH_MOST, IMAGE_MOST, Limits, SCRIPT_MOST};
+pub use script_answers::{BATCH_MOST, IMAGE_MOST, Limits, SCRIPT_MOST};
 pub use status::Status;
 pub use stream::serve;
 pub use top::run;

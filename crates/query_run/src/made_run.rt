@@ -5,15 +5,15 @@ ghost use Rattle.made_corpus.specs.Summary.{summary};
 ghost use Rattle.outside.specs.Causes.{Rose};
 ghost use Rattle.gcl_model.specs.Limits.{address_end, most_made, most_readers};
 ghost use Rattle.query_run.specs.Statuses.{IsAllAnswered, IsMadeEnd};
-ghost use Rattle.query_run.specs.Runs.{WhereMade, GetsPart, IsSummed, AreTold, made_summary};
+ghost use Rattle.query_run.specs.Runs.{WhereMade, IsSummed, AreTold, made_summary};
+ghost use Rattle.script_answers.specs.Stopped.{GetsPart};
 
-use crate::run_fault::RunFault;
 use crate::script_run::run_script;
 use crate::status::Status;
-use crate::write::write_all;
 use command_words::Made;
 use made_corpus::{MadeFiles, SummarySink, made_script};
 use outside::{Gate, Sink, SureSource};
+use script_answers::{RunFault, write_all};
 use std::alloc::Global;
 use std::sync::Wait;
 use std::thread::Threads;

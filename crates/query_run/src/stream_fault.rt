@@ -3,7 +3,7 @@ ghost use Rattle.query_run.specs.Faults.{of_read, of_run};
 ghost use Rattle.query_run.specs.declared.stream_fault.StreamFault.TheVariants.{NoMemory};
 
 use crate::read::ReadFault;
-use crate::run_fault::RunFault;
+use script_answers::RunFault;
 use std::alloc::AllocError;
 
 /// What ends a run over a source before the script's end.

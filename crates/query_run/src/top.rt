@@ -5,9 +5,10 @@ ghost use Rattle.script_lang.specs.Lines.{lines};
 ghost use Rattle.command_words.specs.Grammar.{options_of};
 ghost use Rattle.query_run.specs.Words.{first_of};
 ghost use Rattle.query_run.specs.Statuses.{IsSureOfFiles, IsFinished, IsCutOff, IsAllAnswered};
-ghost use Rattle.query_run.specs.States.{greatest_limits};
-ghost use Rattle.query_run.specs.Answers.{output, names_kept_of, names_of};
-ghost use Rattle.query_run.specs.Runs.{TakesWithin, WhereTold, WhereMadeBy, GetsPart, HasStopped, IsAnswered, IsSummed, HandsOverMore, made_summary, within};
+ghost use Rattle.script_answers.specs.States.{greatest_limits};
+ghost use Rattle.script_answers.specs.Answers.{output, names_kept_of, names_of};
+ghost use Rattle.query_run.specs.Runs.{TakesWithin, WhereTold, WhereMadeBy, HasStopped, IsAnswered, IsSummed, HandsOverMore, made_summary, within};
+ghost use Rattle.script_answers.specs.Stopped.{GetsPart};
 
 use crate::made_run::run_made;
 use crate::script_run::run_script;

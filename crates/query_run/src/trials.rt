@@ -3,7 +3,7 @@
 ghost use Rattle.std.specs.Prelude.{◌≤◌, length, IfOk};
 ghost use Rattle.gcl_model.specs.Limits.{most_readers};
 ghost use Rattle.query_lanes.specs.Readers.{AreOf};
-ghost use Rattle.query_run.specs.States.{IsFresh};
+ghost use Rattle.script_answers.specs.States.{IsFresh};
 
 use crate::{Limits, Status, run, serve};
 use collection::{Engine, Opened};

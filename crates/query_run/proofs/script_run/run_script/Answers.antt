@@ -2,12 +2,13 @@ use Rattle.std.proofs.Common.{◌≡◌, subst, ◌<◌, ◌≤◌, Some, refl, 
 use Rattle.gcl_model.specs.Limits.{address_end, most_script}
 use Rattle.collection.specs.Engines.{EngineContent}
 use Rattle.script_lang.specs.Lines.{lines}
-use Rattle.query_run.specs.States.{greatest_limits}
-use Rattle.query_run.specs.Answers.{output_by}
-use Rattle.query_run.specs.Runs.{GetsPart, HasStopped, TakesWithin, within}
+use Rattle.script_answers.specs.States.{greatest_limits}
+use Rattle.script_answers.specs.Answers.{output_by}
+use Rattle.script_answers.specs.Stopped.{GetsPart}
+use Rattle.query_run.specs.Runs.{HasStopped, TakesWithin, within}
 use Rattle.query_run.proofs.Told.{by_words, none_stopped, some_stopped}
 use Rattle.query_run.proofs.StreamLemmas.{takes_none}
-use Rattle.query_run.specs.declared.limits.Limits.{Limits}
+use Rattle.script_answers.specs.declared.limits.Limits.{Limits}
 use Rattle.query_run.proofs.script_run.run_script.Goals as goal
 
 pub unreachable-requires : goal.unreachable-requires

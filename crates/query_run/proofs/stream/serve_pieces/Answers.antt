@@ -5,12 +5,15 @@ use Rattle.live_version.specs.StandsFor.{StandsFor}
 use Rattle.collection.specs.Engines.{EngineContent}
 use Rattle.script_lang.specs.Lines.{ended, lines}
 use Rattle.script_lang.specs.Feeds.{Feed, has_newline}
-use Rattle.query_run.specs.States.{Keeps}
-use Rattle.query_run.specs.Answers.{names_kept_of, names_kept_of_line, names_of, names_of_line, output_by, state_after}
-use Rattle.query_run.specs.Progress.{HasCome, IsFed, wish}
-use Rattle.query_run.specs.Runs.{GetsPart, IsAnsweredBy, IsLeftBy, IsStopped, within}
-use Rattle.query_run.proofs.SaveReplies.{fresh_savable}
-use Rattle.query_run.proofs.Scripts.{ends, left, stopped_as, stopped_here}
+use Rattle.script_answers.specs.States.{Keeps}
+use Rattle.script_answers.specs.Answers.{names_kept_of, names_kept_of_line, names_of, names_of_line, output_by, state_after}
+use Rattle.script_answers.specs.Progress.{HasCome, wish}
+use Rattle.query_run.specs.Streams.{IsFed}
+use Rattle.script_answers.specs.Stopped.{GetsPart, IsStopped}
+use Rattle.query_run.specs.Runs.{IsAnsweredBy, IsLeftBy, within}
+use Rattle.script_answers.proofs.SaveReplies.{fresh_savable}
+use Rattle.query_run.proofs.WholeScripts.{ends, left}
+use Rattle.script_answers.proofs.Scripts.{stopped_as, stopped_here}
 use Rattle.query_run.proofs.StreamLemmas.{all_done, at_script, come_last, come_next, ended_few, fed_none, fed_piece, fed_served, hands_all, hands_none, hands_over, hands_piece, none_among, part_of_within, read_long, run_write, takes_handed, takes_more, told_fresh}
 use Rattle.query_run.proofs.Told.{stopped_before}
 use Rattle.query_run.proofs.stream.serve_pieces.Goals as goal

@@ -4,8 +4,9 @@ use Rattle.image_file.specs.Images.{CanBeSaved}
 use Rattle.script_lang.specs.Lines.{lines}
 use Rattle.script_lang.specs.Feeds.{has_newline}
 use Rattle.query_lanes.specs.Readers.{AreOf}
-use Rattle.query_run.specs.Answers.{names_kept_of, names_of}
-use Rattle.query_run.specs.Progress.{ComesOn, IsFed, wish}
+use Rattle.script_answers.specs.Answers.{names_kept_of, names_of}
+use Rattle.script_answers.specs.Progress.{ComesOn, wish}
+use Rattle.query_run.specs.Streams.{IsFed}
 use Rattle.query_run.specs.Runs.{HandsOver}
 use Rattle.query_run.proofs.stream.serve_pieces.Given as goal
 

@@ -2,11 +2,11 @@ use Rattle.std.proofs.Common.{◌≡◌, []}
 use Rattle.gcl_model.specs.Limits.{most_line, most_script}
 use Rattle.script_lang.specs.Lines.{lines}
 use Rattle.command_words.specs.Grammar.{options_of}
-use Rattle.query_run.specs.States.{greatest_limits}
+use Rattle.script_answers.specs.States.{greatest_limits}
 use Rattle.outside.specs.Causes.{Rose}
 use Rattle.query_run.specs.declared.status.Status.TheVariants.{NoMemory}
 use Rattle.query_run.specs.Words.{first_of}
-use Rattle.query_run.specs.Answers.{output, names_of, names_kept_of}
+use Rattle.script_answers.specs.Answers.{output, names_of, names_kept_of}
 use Rattle.query_run.proofs.Told.{nothing_of, nothing_of_made, none_stopped, kept_at, made_at, made_finishes}
 use Rattle.query_run.proofs.StreamLemmas.{takes_none}
 use Rattle.query_run.proofs.top.run.Goals as goal

@@ -1,0 +1,137 @@
+-- Batches: the queries of lines, their answers, and what becomes of the engine.
+use Rattle.std.proofs.Common.{◌≡◌, ℕ, suc, ◌+◌, ◌≤◌, Bool, true, false, List, [], ◌∷◌, ◌++◌, length, map, Option, Some, None, IsSome, refl, sym, ap, ◌∙◌, subst, arith, append_assoc, append-nil}
+use Rattle.std.specs.Prelude.{◌||◌, flat_map, if◌then◌else◌}
+use Rattle.std.specs.List.{list_any}
+use Rattle.std.proofs.lemmas.List.Folds.{list_any-append}
+use Rattle.std.proofs.lemmas.Grind.{flat_map-append}
+use Rattle.gcl_model.specs.Extents.{Extent}
+use Rattle.gcl_model.specs.Texts.{Text}
+use Rattle.gcl_model.specs.Forms.{Form}
+use Rattle.gcl_model.specs.Meaning.{concordance}
+use Rattle.gcl_model.specs.Collections.{text_of}
+use Rattle.live_version.specs.Contents.{version_text}
+use Rattle.live_version.proofs.PartLaws.{has_text}
+use Rattle.collection.specs.Engines.{EngineContent}
+use Rattle.gcl_parser.specs.declared.fault.QueryFault.{QueryFault}
+use Rattle.gcl_parser.specs.Grammar.{IsQueryWithin}
+use Rattle.gcl_parser.specs.Refusal.{refused}
+use Rattle.gcl_parser.specs.QueryForm.{query_form}
+use Rattle.gcl_parser.proofs.QueryForms.{query_forms_are_of_queries}
+use Rattle.script_lang.specs.Lines.{Line, text_of_lines}
+use Rattle.script_lang.specs.Commands.{command_of}
+use Rattle.script_lang.specs.Answers.{interval_line, is_refusal, total_line}
+use Rattle.script_lang.specs.declared.commands.Command.{Command}
+use Rattle.script_lang.specs.declared.commands.Command.TheVariants.{Blank, Add, Del, Find, Count, Top, Files, Merge, Shards, Save, Load, Wrong}
+use Rattle.script_lang.specs.declared.refusals.Refusal.TheVariants.{LongLine, Query}
+use Rattle.query_lanes.specs.declared.asks.Ask.{Ask}
+use Rattle.query_lanes.specs.declared.asks.Asked.{Asked}
+use Rattle.query_lanes.specs.Merges.{IsMergedWhere}
+use Rattle.script_answers.specs.States.{State, Keeps}
+use Rattle.script_answers.specs.Answers.{Reply, asked_lines, list_lines, query_lines, lines_by, unchanged, refusal_lines, reply, answer, answers, after_reply, state_after, with_later, AllAnswered, AreRead, names_asked, names_kept, names_of, names_of_line, names_kept_of, names_kept_of_line}
+use Rattle.script_answers.specs.Batches.{ask_lines, asks_query, IsAskOf, IsAskedBy, AsksLine, AreAsked, Begins, BeginWithNone}
+use Rattle.script_answers.specs.Progress.{Says, wish}
+use Rattle.script_answers.specs.declared.limits.Limits.{Limits}
+use Rattle.script_answers.proofs.Replies.{list_plain, one_more}
+
+-- the lines of a query that is not refused are those of the one form that it stands for
+pub lines_of_form : (asked : Asked) (query : List ℕ) (form : Form) (text : Text) → refused query ≡ None → IsQueryWithin query form
+    → asked_lines asked (concordance text form) ≡ query_lines asked text query
+lines_of_form asked query form text none within =
+    let found : query_form query ≡ Some form = (query_forms_are_of_queries query form).1 within in
+    sym (ap (λ fault. lines_by asked text fault (query_form query)) none ∙ ap (lines_by asked text None) found)
+
+-- and of one that is refused its fault
+pub lines_of_fault : (asked : Asked) (query : List ℕ) (wrong : QueryFault) (text : Text) → refused query ≡ Some wrong → refusal_lines (Query wrong) ≡ query_lines asked text query
+lines_of_fault asked query wrong text is = sym (ap (λ fault. lines_by asked text fault (query_form query)) is)
+
+pub no_fault : (fault : Option QueryFault) → ((wrong : QueryFault) → fault ≡ Some wrong → ⊥) → fault ≡ None
+no_fault None none = refl
+no_fault (Some wrong) none = absurd (none wrong refl)
+
+asked_more : (asks : List Ask) (batch : List Line) (ask : Ask) (line : Line) → AreAsked asks batch → AsksLine ask line → AreAsked (asks ++ ask ∷ []) (batch ++ line ∷ [])
+asked_more [] [] ask line are is = (is, tt)
+asked_more [] (other ∷ batch) ask line are is = absurd are
+asked_more (other ∷ asks) [] ask line are is = absurd are
+asked_more (other ∷ asks) (first ∷ batch) ask line are is = (are.0, asked_more asks batch ask line are.1 is)
+
+-- a line more
+pub begins_more : (asks : List Ask) (all left rest : List Line) (ask : Ask) (line : Line) → Begins asks all left → left ≡ line ∷ rest → AsksLine ask line → Begins (asks ++ ask ∷ []) all rest
+begins_more asks all left rest ask line begins next is = record {
+  batch = begins.batch ++ line ∷ [];
+  whole = begins.whole ∙ ap (λ l. begins.batch ++ l) next ∙ sym (append_assoc begins.batch (line ∷ []) rest);
+  are = asked_more asks begins.batch ask line begins.are is;
+}
+
+-- beside a batch the engine keeps the state, with the merge made where it was wanted
+pub merged_keeps : (wanted : Bool) (old new : EngineContent) (state : State) → IsMergedWhere wanted old new → Keeps old wanted state → Keeps new false state
+merged_keeps true old new state merged keeps = record {
+  stands = merged.1.change.stands state.collection keeps.stands;
+  slots = keeps.slots ∙ sym (merged.1.change.ranges state.collection keeps.stands);
+}
+merged_keeps false old new state merged keeps = subst (λ (e : EngineContent). Keeps e false state) (sym merged) keeps
+
+-- of a command that asks a query
+asked_reply : (limits : Limits) (state : State) (ask : Ask) (command : Command) → IsAskedBy ask command
+    → reply limits state command ≡ Some (unchanged state (ask_lines (text_of state.collection) ask))
+asked_reply limits state ask (Find query) asks = ap (λ l. Some (unchanged state l)) (sym (asks.lines_are (text_of state.collection)))
+asked_reply limits state ask (Count query) asks = ap (λ l. Some (unchanged state l)) (sym (asks.lines_are (text_of state.collection)))
+asked_reply limits state ask (Top most query) asks = ap (λ l. Some (unchanged state l)) (sym (asks.lines_are (text_of state.collection)))
+asked_reply limits state ask Blank asks = absurd asks
+asked_reply limits state ask (Add name) asks = absurd asks
+asked_reply limits state ask (Del id) asks = absurd asks
+asked_reply limits state ask Files asks = absurd asks
+asked_reply limits state ask Merge asks = absurd asks
+asked_reply limits state ask Shards asks = absurd asks
+asked_reply limits state ask (Save name) asks = absurd asks
+asked_reply limits state ask (Load name) asks = absurd asks
+asked_reply limits state ask Wrong asks = absurd asks
+
+-- the answer to a line that asks a query is that to the query, and changes nothing
+pub batch_answers : (limits : Limits) (state : State) (ask : Ask) (line : Line) → AsksLine ask line
+    → answer limits state line ≡ Some (unchanged state (ask_lines (text_of state.collection) ask))
+batch_answers limits state ask line asks =
+    ap (λ (long : Bool). if long then Some (unchanged state (refusal_lines LongLine)) else reply limits state (command_of line.bytes)) asks.short
+    ∙ asked_reply limits state ask (command_of line.bytes) asks.asks
+
+-- a batch changes nothing
+pub batch_state : (limits : Limits) (state : State) (asks : List Ask) (batch : List Line) → AreAsked asks batch → state_after limits state batch ≡ state
+batch_state limits state [] [] are = refl
+batch_state limits state [] (line ∷ batch) are = absurd are
+batch_state limits state (ask ∷ asks) [] are = absurd are
+batch_state limits state (ask ∷ asks) (line ∷ batch) are =
+    ap (λ (o : Option Reply). state_after limits (after_reply state o) batch) (batch_answers limits state ask line are.0) ∙ batch_state limits state asks batch are.1
+
+-- its answers are those to its queries, one behind the other
+pub batch_lines : (limits : Limits) (state : State) (asks : List Ask) (batch : List Line) → AreAsked asks batch
+    → answers limits state batch ≡ flat_map (ask_lines (text_of state.collection)) asks
+batch_lines limits state [] [] are = refl
+batch_lines limits state [] (line ∷ batch) are = absurd are
+batch_lines limits state (ask ∷ asks) [] are = absurd are
+batch_lines limits state (ask ∷ asks) (line ∷ batch) are =
+    ap (λ (o : Option Reply). with_later o (answers limits (after_reply state o) batch)) (batch_answers limits state ask line are.0)
+    ∙ ap (λ l. ask_lines (text_of state.collection) ask ++ l) (batch_lines limits state asks batch are.1)
+
+-- each of its lines is answered
+pub batch_answered : (limits : Limits) (state : State) (asks : List Ask) (batch : List Line) → AreAsked asks batch → AllAnswered limits state batch
+batch_answered limits state [] [] are = tt
+batch_answered limits state [] (line ∷ batch) are = absurd are
+batch_answered limits state (ask ∷ asks) [] are = absurd are
+batch_answered limits state (ask ∷ asks) (line ∷ batch) are =
+    let is = batch_answers limits state ask line are.0 in
+    (subst IsSome (sym is) refl, subst (λ (o : Option Reply). AllAnswered limits (after_reply state o) batch) (sym is) (batch_answered limits state asks batch are.1))
+
+-- it has a query for each line
+pub batch_length : (asks : List Ask) (batch : List Line) → AreAsked asks batch → length batch ≡ length asks
+batch_length [] [] are = refl
+batch_length [] (line ∷ batch) are = absurd are
+batch_length (ask ∷ asks) [] are = absurd are
+batch_length (ask ∷ asks) (line ∷ batch) are = ap suc (batch_length asks batch are.1)
+
+-- what the lines behind it open is read rightly
+pub batch_read : (limits : Limits) (state : State) (asks : List Ask) (batch rest : List Line) → AreAsked asks batch → AreRead limits state (batch ++ rest) → AreRead limits state rest
+batch_read limits state [] [] rest are read = read
+batch_read limits state [] (line ∷ batch) rest are read = absurd are
+batch_read limits state (ask ∷ asks) [] rest are read = absurd are
+batch_read limits state (ask ∷ asks) (line ∷ batch) rest are read =
+    batch_read limits state asks batch rest are.1
+    (subst (λ (o : Option Reply). AreRead limits (after_reply state o) (batch ++ rest)) (batch_answers limits state ask line are.0) read.1)

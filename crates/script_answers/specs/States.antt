@@ -1,0 +1,56 @@
+-- The state of a script, and how an engine keeps it.
+use Rattle.std.specs.Prelude.{◌≡◌, ℕ, ◌≤◌, Bool, List, [], if◌then◌else◌}
+use Rattle.outside.specs.Contents.{Contents}
+use Rattle.gcl_model.specs.Limits.{most_line, most_file, most_script, most_image, most_batch}
+use Rattle.gcl_model.specs.Collections.{File, Collection, empty_from}
+use Rattle.gcl_model.specs.Slots.{SlotRange, slots_after_merge}
+use Rattle.live_version.specs.Contents.{ranges_of}
+use Rattle.live_version.specs.Changes.{empty_version}
+use Rattle.live_version.specs.StandsFor.{StandsFor}
+use Rattle.collection.specs.Engines.{EngineContent}
+use Rattle.script_answers.specs.Images.{Images}
+use Rattle.script_answers.specs.declared.limits.Limits.{Limits}
+
+-- What the lines so far leave: the collection, the address ranges of the slots of its index, and what the files hold by name. What each
+-- content is an image of stays the same throughout
+pub record State : Type 0 where
+  pub collection : Collection
+  pub slots : List SlotRange
+  pub files : Contents
+  pub images : Images
+
+-- before the first line: no file was added, and there is no slot
+abbrev pub opening : ℕ → Contents → Images → State
+opening first contents images = record { collection = empty_from first; slots = []; files = contents; images = images }
+
+-- the limits of a run
+abbrev pub greatest_limits : Limits
+greatest_limits = record { line = most_line; file = most_file; script = most_script; image = most_image; batch = most_batch }
+
+-- each limit is at least 1, and none is above that of a run
+pub record AreLimits (limits : Limits) : Type 0 where
+  pub some_line : 1 ≤ limits.line
+  pub some_file : 1 ≤ limits.file
+  pub some_script : 1 ≤ limits.script
+  pub some_image : 1 ≤ limits.image
+  pub some_batch : 1 ≤ limits.batch
+  pub line : limits.line ≤ most_line
+  pub file : limits.file ≤ most_file
+  pub script : limits.script ≤ most_script
+  pub image : limits.image ≤ most_image
+  pub batch : limits.batch ≤ most_batch
+
+-- the ranges once a merge that is wanted was made
+abbrev pub slots_soon : Bool → List SlotRange → List File → List SlotRange
+slots_soon wanted ranges files = if wanted then slots_after_merge ranges files else ranges
+
+-- The engine's version stands for the collection of the state, and its slots have the ranges of the state, or will have them once a
+-- wanted merge is made
+pub record Keeps (engine : EngineContent) (wanted : Bool) (state : State) : Type 0 where
+  pub stands : StandsFor engine.version state.collection
+  pub slots : state.slots ≡ slots_soon wanted (ranges_of engine.version.slots) state.collection.files
+
+-- as an engine is opened: nothing was added yet, and no line is completed
+pub record IsFresh (engine : EngineContent) (lines : ℕ) : Type 0 where
+  pub version : engine.version ≡ empty_version engine.version.first
+  pub none : lines ≡ 0

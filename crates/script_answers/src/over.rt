@@ -1,0 +1,201 @@
+//! Lines that are done while the queries before them are put off.
+ghost use Rattle.std.specs.Prelude.{◌≡◌, ◌+◌, ◌-◌, ◌≤◌, ◌<◌, [], false, ℕ, length, IfOk, IfSome, IsTrue, OnOk, OnErr};
+ghost use Rattle.gcl_model.specs.Limits.{far, merge_end, most_script};
+ghost use Rattle.image_file.specs.Images.{CanBeSaved};
+ghost use Rattle.script_lang.specs.Commands.{command_of};
+ghost use Rattle.script_lang.specs.Lines.{line_of_cut, IsCut};
+ghost use Rattle.script_answers.specs.States.{State, AreLimits};
+ghost use Rattle.script_answers.specs.Answers.{IsRead, names_kept, names_kept_of_line, names_of, names_of_line};
+ghost use Rattle.script_answers.specs.Batches.{BeginsAt, asks_query, is_query};
+ghost use Rattle.script_answers.specs.Progress.{ComesNext, GoesBetween, HasCauses, IsAt, line_at_hand, lines_from, stand, wish};
+ghost use Rattle.script_answers.specs.Windows.{DoesAhead, GoesOver, HaltsAhead, IsPaired, StopsOver};
+
+use crate::answers::answer_line;
+use crate::batches::{Batch, take_batch};
+use crate::course::Course;
+use crate::limits::Limits;
+use crate::run_fault::RunFault;
+use crate::script_line::ScriptLine;
+use crate::setting::Setting;
+use crate::window::{Window, last_width};
+use collection::Opened;
+use outside::{Files, Gate};
+use query_lanes::Ask;
+use script_lang::{Command, LineCut, command, line_at};
+use std::alloc::{AllocError, Global};
+use std::sync::Wait;
+
+/// Whether a line may be done before the queries in front of it are answered. A file that is saved or opened is never ahead of the answers.
+fn is_gone_over(alloc: Global, line: &[u8]) -> Result<bool, AllocError>
+    ensures { IfOk result (λ over. IsTrue over → (is_query (command_of line.now) ≡ false) × (names_kept (command_of line.now) ≡ [])) }
+{
+    match command(alloc, line)? {
+        Command::Blank
+        | Command::Add(_)
+        | Command::Del(_)
+        | Command::Files
+        | Command::Merge
+        | Command::Shards
+        | Command::Wrong => Ok(true),
+        Command::Find(_)
+        | Command::Count(_)
+        | Command::Top(_, _)
+        | Command::Save(_)
+        | Command::Load(_) => Ok(false),
+    }
+}
+
+/// The line at a place behind some queries, where it may be done before these are answered.
+pub(crate) fn line_over(
+    alloc: Global,
+    script: &[u8],
+    at: usize,
+    limits: &Limits,
+) -> Result<Option<LineCut>, AllocError>
+    requires { at ≤ length script.now }
+    ensures places { IfOk result (λ some. IfSome some (IsCut script.now at)) }
+    ensures line { IfOk result (λ some. IfSome some (λ cut. ComesNext limits.now.line script.now at cut)) }
+    ensures unasked { IfOk result (λ some. IfSome some (λ cut. asks_query (line_of_cut script.now cut) ≡ false)) }
+    ensures unsaved { IfOk result (λ some. IfSome some (λ cut. names_kept_of_line (line_of_cut script.now cut) ≡ [])) }
+{
+    let Some(cut) = line_at(script, at, limits.line as usize) else {
+        return Ok(None);
+    };
+    if cut.long || is_gone_over(alloc, &script[cut.from..cut.to])? {
+        return Ok(Some(cut));
+    }
+    Ok(None)
+}
+
+/// Puts queries off, does the line behind them, and keeps its answer. The queries are completed once they are put off, the line as any other.
+fn go_over<R: Wait, F: Files, G: Gate>(
+    setting: &Setting<R, G>,
+    out: &mut Vec<u8>,
+    files: &mut F,
+    opened: &mut Opened,
+    wanted: &mut bool,
+    window: &mut Window,
+    asks: Vec<Ask>,
+    line: &ScriptLine<'_>,
+) -> Result<bool, RunFault>
+    requires paired { IsPaired window.old }
+    requires unasked { asks_query (line_at_hand line.now) ≡ false }
+    requires unsaved { names_kept_of_line (line_at_hand line.now) ≡ [] }
+    requires limits { AreLimits setting.now.limits }
+    requires savable { CanBeSaved opened.old.engine.version }
+    requires number { opened.old.engine.version.number + wish wanted.old < merge_end }
+    requires room { opened.old.lines + length asks.items < far }
+    ensures step { IfOk result (λ refusal. (state : State) → IsAt (F.held files.old) opened.old.engine wanted.old state → IsRead state (line_at_hand line.now) →
+        GoesOver setting.now.limits state asks.items (line_at_hand line.now) opened.new.engine wanted.new refusal window.old window.new) }
+    ensures stop { (state : State) → IsAt (F.held files.old) opened.old.engine wanted.old state → IsRead state (line_at_hand line.now) →
+        StopsOver setting.now.limits state asks.items (line_at_hand line.now) opened.old.lines opened.new.lines opened.new.engine }
+    ensures completed { OnOk result (opened.new.lines ≡ opened.old.lines + length asks.items + 1) }
+    ensures paired { OnOk result (IsPaired window.new) }
+    ensures readers { opened.new.readers ≡ opened.old.readers }
+    ensures publisher { opened.new.engine.publisher ≡ opened.old.engine.publisher }
+    ensures number { OnOk result (opened.new.engine.version.number + wish wanted.new ≤ opened.old.engine.version.number + wish wanted.old + 1) }
+    ensures savable { OnOk result (CanBeSaved opened.new.engine.version) }
+    ensures quiet { names_of_line (line_at_hand line.now) ≡ [] → files.new ≡ files.old }
+    ensures unsaved { F.held files.new ≡ F.held files.old }
+    ensures causes { (n : ℕ) → HasCauses n n (F.faults files.old) (F.faults files.new) result }
+    ensures files_calm { OnOk result (F.faults files.new ≡ F.faults files.old) }
+    ensures unkept { F.unkept files.new ≡ F.unkept files.old }
+{
+    let count = asks.len() as u64;
+    let refused = window.put_all(setting.alloc, &opened.engine, asks)?;
+    opened.lines += count;
+    let number = opened.engine.version().number();
+    let refused_here = answer_line(
+        setting,
+        out,
+        files,
+        &mut opened.engine,
+        &mut opened.lines,
+        wanted,
+        line,
+    )?;
+    let version = opened.engine.version();
+    let made = if version.number() == number {
+        0
+    } else {
+        last_width(version)
+    };
+    window.say(out.as_slice(), made)?;
+    Ok(refused | refused_here)
+}
+
+/// Does the line behind a batch, whose queries are put off, and takes the batch behind it.
+pub(crate) fn go_on<R: Wait, F: Files, G: Gate>(
+    setting: &Setting<R, G>,
+    files: &mut F,
+    opened: &mut Opened,
+    course: &mut Course,
+    script: &[u8],
+    window: &mut Window,
+    batch: Batch,
+    cut: LineCut,
+) -> Result<Batch, RunFault>
+    requires paired { IsPaired window.old }
+    requires begins { BeginsAt setting.now.limits.line script.now course.old.at batch }
+    requires counted { course.old.at + length batch.asks.items ≤ batch.after }
+    requires cut { IsCut script.now batch.after cut }
+    requires line { ComesNext setting.now.limits.line script.now batch.after cut }
+    requires unasked { asks_query (line_of_cut script.now cut) ≡ false }
+    requires unsaved { names_kept_of_line (line_of_cut script.now cut) ≡ [] }
+    requires room { opened.old.lines + (length script.now - course.old.at) ≤ most_script }
+    requires asked { course.old.asked ≤ opened.old.lines }
+    requires limits { AreLimits setting.now.limits }
+    requires savable { CanBeSaved opened.old.engine.version }
+    requires numbers { opened.old.engine.version.number + wish course.old.wanted ≤ opened.old.lines }
+    ensures goes { OnOk result (GoesBetween setting.now.limits.line script.now course.old.at course.new.at opened.old.lines opened.new.lines) }
+    ensures does { OnOk result (DoesAhead setting.now.limits (lines_from setting.now.limits.line script.now course.old.at)
+        (stand opened.old.lines (F.held files.old) opened.old.engine course.old.wanted course.old.refused)
+        (stand opened.new.lines (F.held files.new) opened.new.engine course.new.wanted course.new.refused) window.old window.new) }
+    ensures halts { OnErr result (HaltsAhead setting.now.limits (lines_from setting.now.limits.line script.now course.old.at)
+        (stand opened.old.lines (F.held files.old) opened.old.engine course.old.wanted course.old.refused)
+        (stand opened.new.lines (F.held files.new) opened.new.engine course.new.wanted course.new.refused) window.old) }
+    ensures begins { IfOk result (BeginsAt setting.now.limits.line script.now course.new.at) }
+    ensures next { IfOk result (λ next. course.new.at + length next.asks.items ≤ next.after) }
+    ensures within { IfOk result (λ next. next.after ≤ length script.now) }
+    ensures further { OnOk result (course.old.at < course.new.at) }
+    ensures counted { OnOk result ((opened.new.lines + course.old.at ≤ opened.old.lines + course.new.at) × (course.new.asked ≤ opened.new.lines)) }
+    ensures numbers { OnOk result (opened.new.engine.version.number + wish course.new.wanted ≤ opened.new.lines) }
+    ensures savable { OnOk result (CanBeSaved opened.new.engine.version) }
+    ensures paired { OnOk result (IsPaired window.new) }
+    ensures readers { opened.new.readers.items ≡ opened.old.readers.items }
+    ensures works { course.new.works.items ≡ course.old.works.items }
+    ensures publisher { opened.new.engine.publisher ≡ opened.old.engine.publisher }
+    ensures quiet { names_of (lines_from setting.now.limits.line script.now course.old.at) ≡ [] → files.new ≡ files.old }
+    ensures unsaved { F.held files.new ≡ F.held files.old }
+    ensures causes { (n : ℕ) → HasCauses n n (F.faults files.old) (F.faults files.new) result }
+    ensures files_calm { OnOk result (F.faults files.new ≡ F.faults files.old) }
+    ensures unkept { F.unkept files.new ≡ F.unkept files.old }
+{
+    let count = batch.asks.len() as u64;
+    let line = ScriptLine {
+        long: cut.long,
+        bytes: &script[cut.from..cut.to],
+    };
+    let refused = go_over(
+        setting,
+        &mut course.out,
+        files,
+        opened,
+        &mut course.wanted,
+        window,
+        batch.asks,
+        &line,
+    )?;
+    course.asked += count;
+    course.refused |= refused;
+    course.at = cut.after;
+    let next = take_batch(
+        setting.alloc,
+        script,
+        course.at,
+        setting.limits.line as usize,
+        (setting.limits.batch as usize).saturating_sub(window.asks.len()),
+        course.asked + 1,
+    )?;
+    Ok(next)
+}
