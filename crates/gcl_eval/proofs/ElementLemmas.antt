@@ -6,7 +6,9 @@ use Rattle.std.proofs.lemmas.Bool.{leb-true, le-leb}
 use Rattle.gcl_model.specs.Extents.{Extent}
 use Rattle.gcl_model.specs.Texts.{Text, IsText, next_place, previous_place}
 use Rattle.gcl_model.specs.Elements.{IsElementFrom, IsElementUpTo}
-use Rattle.gcl_model.specs.Forms.{Forms, term, seq, no_forms, more_forms}
+use Rattle.gcl_model.specs.declared.expr.Expr.{Expr}
+use Rattle.gcl_model.specs.FormOf.{form_of}
+use Rattle.gcl_model.specs.Forms.{Form, Forms, term, seq, no_forms, more_forms}
 use Rattle.gcl_model.specs.Meaning.{concordance}
 use Rattle.gcl_model.specs.Access.{last_end}
 use Rattle.gcl_model.specs.Directions.{near_access, far_access}
@@ -15,8 +17,11 @@ use Rattle.gcl_model.specs.declared.direction.Direction.TheVariants.{Forward, Ba
 use Rattle.gcl_model.proofs.Covers.{find_gives}
 use Rattle.gcl_model.proofs.Places.{point}
 use Rattle.gcl_order.specs.Walks.{address_before, walk_forward, walk_backward}
-use Rattle.gcl_eval.specs.Directions.{join, reaches, walk, next_past, on_again}
-use Rattle.gcl_eval.specs.declared.direction.Access.TheVariants.{FirstStart, FirstEnd, LastEnd}
+use Rattle.gcl_eval.specs.declared.direction.Access.{Access}
+use Rattle.gcl_eval.specs.Directions.{access_of, join, reaches, walk, next_past, on_again}
+use Rattle.gcl_model.specs.Limits.{address_end}
+use Rattle.gcl_eval.specs.declared.direction.Access.TheVariants.{FirstStart, FirstEnd, LastEnd, LastStart}
+use Rattle.gcl_eval.proofs.Found.{access_within}
 use Rattle.gcl_eval.proofs.ChainRules.{near_access-seq, far_access-seq}
 use Rattle.gcl_eval.proofs.TermAccess.{term_found}
 
@@ -83,3 +88,23 @@ module _ (direction : Direction) (text : Text) (sound : IsText text) (forms : Fo
       element_up_to-is text first second sound k element (subst (λ x. IsElementUpTo text.words x second k element) a_is (subst (λ y. IsElementUpTo text.words a y k element) b_is is))
       ∙ ap (λ d. far_access d (concordance text (seq (more_forms (term first) (more_forms (term second) no_forms)))) k) (sym forward)
       ∙ ap (λ fs. far_access direction (concordance text (seq fs)) k) (sym two)
+
+-- what is at hand ends within the addresses
+pub near_ends_within : (direction : Direction) (text : Text) (form : Form) (k : ℕ) (o : Option Extent) → IsText text →
+    IfSome o (λ a. Some a ≡ near_access direction (concordance text form) k) → IfSome o (λ a. a.end < address_end)
+near_ends_within direction text form k None sound is = tt
+near_ends_within Forward text form k (Some a) sound is = access_within FirstStart text form k (Some a) sound is
+near_ends_within Backward text form k (Some a) sound is = access_within LastEnd text form k (Some a) sound is
+
+pub far_ends_within : (direction : Direction) (text : Text) (form : Form) (k : ℕ) (o : Option Extent) → IsText text →
+    IfSome o (λ a. Some a ≡ far_access direction (concordance text form) k) → IfSome o (λ a. a.end < address_end)
+far_ends_within direction text form k None sound is = tt
+far_ends_within Forward text form k (Some a) sound is = access_within FirstEnd text form k (Some a) sound is
+far_ends_within Backward text form k (Some a) sound is = access_within LastStart text form k (Some a) sound is
+
+-- the answer for a form is that for an expression of the form
+pub as_access : (e : Expr) (form : Form) → form_of e ≡ form → (wanted access : Access) → wanted ≡ access → (text : Text) (k : ℕ) (o : Option Extent) →
+    IfSome o (λ a. Some a ≡ access_of access (concordance text form) k) → IfSome o (λ a. Some a ≡ access_of wanted (concordance text (form_of e)) k)
+as_access e form is wanted access same text k None found = tt
+as_access e form is wanted access same text k (Some a) found =
+    found ∙ ap (λ f. access_of access (concordance text f) k) (sym is) ∙ ap (λ w. access_of w (concordance text (form_of e)) k) (sym same)

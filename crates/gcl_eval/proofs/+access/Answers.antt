@@ -269,8 +269,8 @@ chains::walk-loop-operand-preserved g t c =
     }
 
 -- a containment: in, one turn more, and out
-pub containments::containment_access-access-requires : goal.containments::containment_access-access-requires
-containments::containment_access-access-requires g t c =
+pub containments::containment_access-operand_access-requires : goal.containments::containment_access-operand_access-requires
+containments::containment_access-operand_access-requires g t c =
     let parts = both_operands c.operands-containment.result.0 (form_of c.args.expr.now) (form_of c.operands-containment.result.1.now) (form_of c.operands-containment.result.2.now) c.operands-containment.ensures.form c.requires.well_formed in
     search rules
 
@@ -281,7 +281,7 @@ containments::containment_access-returns-in_err-member-clause-answer g t c =
 
 pub containments::containment_access-returns-in_err-member-clause-cost : goal.containments::containment_access-returns-in_err-member-clause-cost
 containments::containment_access-returns-in_err-member-clause-cost g t c =
-    let r = none_within c.operands-containment.result.0 (g.C.CountedLeaves.text c.args.source.now) (form_of c.args.expr.now) (form_of c.operands-containment.result.1.now) (form_of c.operands-containment.result.2.now) c.operands-containment.ensures.form (g.C.CountedLeaves.most c.args.source.now) (g.C.CountedLeaves.count c.args.counter.now) (g.C.CountedLeaves.count c.access.new.counter) c.access.ensures.cost in
+    let r = none_within c.operands-containment.result.0 (g.C.CountedLeaves.text c.args.source.now) (form_of c.args.expr.now) (form_of c.operands-containment.result.1.now) (form_of c.operands-containment.result.2.now) c.operands-containment.ensures.form (g.C.CountedLeaves.most c.args.source.now) (g.C.CountedLeaves.count c.args.counter.now) (g.C.CountedLeaves.count c.operand_access.new.counter) c.operand_access.ensures.cost in
     search rules
 
 pub containments::containment_access-loop-next-init : goal.containments::containment_access-loop-next-init
@@ -290,8 +290,8 @@ containments::containment_access-loop-next-init g t c =
       reached = node_enters c.operands-containment.result.0 (g.C.CountedLeaves.text c.args.source.now) (form_of c.args.expr.now) (form_of c.operands-containment.result.1.now) (form_of c.operands-containment.result.2.now) c.operands-containment.ensures.form c.args.wanted c.direction-direction.result c.direction-direction.ensures c.args.k c.in_ok-member.member c.in_ok-member.ensures.answer;
       within = c.in_ok-member.ensures.within;
       known = asked_second c.direction-direction.result c.args.wanted c.direction-direction.ensures c.operands-containment.result.0 (g.C.CountedLeaves.text c.args.source.now) (form_of c.args.expr.now) (form_of c.operands-containment.result.1.now) (form_of c.operands-containment.result.2.now) c.operands-containment.ensures.form c.args.known.now c.requires.known;
-      counted = c.access.ensures.counted;
-      cost = starts_within c.operands-containment.result.0 (g.C.CountedLeaves.text c.args.source.now) (form_of c.args.expr.now) (form_of c.operands-containment.result.1.now) (form_of c.operands-containment.result.2.now) c.operands-containment.ensures.form (g.C.CountedLeaves.most c.args.source.now) (g.C.CountedLeaves.count c.args.counter.now) c.direction-direction.result c.in_ok-member.member (g.C.CountedLeaves.count c.access.new.counter) c.access.ensures.cost;
+      counted = c.operand_access.ensures.counted;
+      cost = starts_within c.operands-containment.result.0 (g.C.CountedLeaves.text c.args.source.now) (form_of c.args.expr.now) (form_of c.operands-containment.result.1.now) (form_of c.operands-containment.result.2.now) c.operands-containment.ensures.form (g.C.CountedLeaves.most c.args.source.now) (g.C.CountedLeaves.count c.args.counter.now) c.direction-direction.result c.in_ok-member.member (g.C.CountedLeaves.count c.operand_access.new.counter) c.operand_access.ensures.cost;
     }
 
 pub containments::containment_access-known_access-answer-requires : goal.containments::containment_access-known_access-answer-requires
@@ -323,8 +323,8 @@ pub containments::containment_access-returns-in-Finish-clause-cost : goal.contai
 containments::containment_access-returns-in-Finish-clause-cost g t c =
     stops_within c.operands-containment.result.0 (g.C.CountedLeaves.text c.args.source.now) (form_of c.args.expr.now) (form_of c.operands-containment.result.1.now) (form_of c.operands-containment.result.2.now) c.operands-containment.ensures.form (g.C.CountedLeaves.most c.args.source.now) (g.C.CountedLeaves.count c.args.counter.now) c.direction-direction.result c.loop-next.member (g.C.CountedLeaves.count c.loop-next.counter) c.loop-next.invariant.cost (g.C.CountedLeaves.count c.known_access-answer.new.counter) c.known_access-answer.ensures.cost
 
-pub containments::containment_access-access-requires-in-GoTo : goal.containments::containment_access-access-requires-in-GoTo
-containments::containment_access-access-requires-in-GoTo g t c =
+pub containments::containment_access-operand_access-requires-in-GoTo : goal.containments::containment_access-operand_access-requires-in-GoTo
+containments::containment_access-operand_access-requires-in-GoTo g t c =
     let parts = both_operands c.operands-containment.result.0 (form_of c.args.expr.now) (form_of c.operands-containment.result.1.now) (form_of c.operands-containment.result.2.now) c.operands-containment.ensures.form c.requires.well_formed in
     let spans = access_spans c.question-asked.result.0 (g.C.CountedLeaves.text c.args.source.now) (form_of c.operands-containment.result.2.now) c.question-asked.result.1 c.known_access-answer.result c.known_access-answer.ensures.within c.known_access-answer.ensures.answer in
     let below = goes_below c.direction-direction.result c.operands-containment.result.0 c.loop-next.member c.known_access-answer.result c.in-GoTo.next spans c.in-GoTo.ensures in
@@ -338,7 +338,7 @@ containments::containment_access-returns-in_err-member-in-GoTo-clause-answer g t
 
 pub containments::containment_access-returns-in_err-member-in-GoTo-clause-cost : goal.containments::containment_access-returns-in_err-member-in-GoTo-clause-cost
 containments::containment_access-returns-in_err-member-in-GoTo-clause-cost g t c =
-    let r = ends_within c.operands-containment.result.0 (g.C.CountedLeaves.text c.args.source.now) (form_of c.args.expr.now) (form_of c.operands-containment.result.1.now) (form_of c.operands-containment.result.2.now) c.operands-containment.ensures.form (g.C.CountedLeaves.most c.args.source.now) (g.C.CountedLeaves.count c.args.counter.now) c.direction-direction.result c.loop-next.member (g.C.CountedLeaves.count c.loop-next.counter) c.loop-next.invariant.cost (g.C.CountedLeaves.count c.known_access-answer.new.counter) (g.C.CountedLeaves.count c.access-in-GoTo.new.counter) c.known_access-answer.ensures.cost c.access-in-GoTo.ensures.cost in
+    let r = ends_within c.operands-containment.result.0 (g.C.CountedLeaves.text c.args.source.now) (form_of c.args.expr.now) (form_of c.operands-containment.result.1.now) (form_of c.operands-containment.result.2.now) c.operands-containment.ensures.form (g.C.CountedLeaves.most c.args.source.now) (g.C.CountedLeaves.count c.args.counter.now) c.direction-direction.result c.loop-next.member (g.C.CountedLeaves.count c.loop-next.counter) c.loop-next.invariant.cost (g.C.CountedLeaves.count c.known_access-answer.new.counter) (g.C.CountedLeaves.count c.operand_access-in-GoTo.new.counter) c.known_access-answer.ensures.cost c.operand_access-in-GoTo.ensures.cost in
     search rules
 
 pub containments::containment_access-loop-next-smaller : goal.containments::containment_access-loop-next-smaller
@@ -353,8 +353,8 @@ containments::containment_access-loop-next-preserved g t c =
       reached = node_goes_on c.operands-containment.result.0 (g.C.CountedLeaves.text c.args.source.now) (form_of c.args.expr.now) (form_of c.operands-containment.result.1.now) (form_of c.operands-containment.result.2.now) c.operands-containment.ensures.form c.direction-direction.result (access_of c.args.wanted (concordance (g.C.CountedLeaves.text c.args.source.now) (form_of c.args.expr.now)) c.args.k) c.loop-next.member c.loop-next.invariant.reached c.question-asked.result.0 c.question-asked.result.1 c.question-asked.ensures.asks c.known_access-answer.result c.known_access-answer.ensures.answer c.in-GoTo.next c.in-GoTo.ensures c.in_ok-member-in-GoTo.member from;
       within = c.in_ok-member-in-GoTo.ensures.within;
       known = subst (λ asked. IsKnown asked (concordance (g.C.CountedLeaves.text c.args.source.now) (form_of c.operands-containment.result.2.now)) c.known_access-answer.new.known) c.question-asked.ensures.access c.known_access-answer.ensures.known;
-      counted = omega (arith, c.loop-next.invariant.counted, c.known_access-answer.ensures.counted, c.access-in-GoTo.ensures.counted);
-      cost = goes_within c.operands-containment.result.0 (g.C.CountedLeaves.text c.args.source.now) (form_of c.args.expr.now) (form_of c.operands-containment.result.1.now) (form_of c.operands-containment.result.2.now) c.operands-containment.ensures.form (g.C.CountedLeaves.most c.args.source.now) (g.C.CountedLeaves.count c.args.counter.now) c.direction-direction.result c.loop-next.member (g.C.CountedLeaves.count c.loop-next.counter) c.loop-next.invariant.cost c.in_ok-member-in-GoTo.member (node_more_turns c.operands-containment.result.0 (g.C.CountedLeaves.text c.args.source.now) (form_of c.args.expr.now) (form_of c.operands-containment.result.1.now) (form_of c.operands-containment.result.2.now) c.operands-containment.ensures.form c.direction-direction.result (access_of c.args.wanted (concordance (g.C.CountedLeaves.text c.args.source.now) (form_of c.args.expr.now)) c.args.k) c.loop-next.member c.loop-next.invariant.reached c.question-asked.result.0 c.question-asked.result.1 c.question-asked.ensures.asks c.known_access-answer.result c.known_access-answer.ensures.answer c.in-GoTo.next c.in-GoTo.ensures c.in_ok-member-in-GoTo.member from) (g.C.CountedLeaves.count c.known_access-answer.new.counter) (g.C.CountedLeaves.count c.access-in-GoTo.new.counter) c.known_access-answer.ensures.cost c.access-in-GoTo.ensures.cost;
+      counted = omega (arith, c.loop-next.invariant.counted, c.known_access-answer.ensures.counted, c.operand_access-in-GoTo.ensures.counted);
+      cost = goes_within c.operands-containment.result.0 (g.C.CountedLeaves.text c.args.source.now) (form_of c.args.expr.now) (form_of c.operands-containment.result.1.now) (form_of c.operands-containment.result.2.now) c.operands-containment.ensures.form (g.C.CountedLeaves.most c.args.source.now) (g.C.CountedLeaves.count c.args.counter.now) c.direction-direction.result c.loop-next.member (g.C.CountedLeaves.count c.loop-next.counter) c.loop-next.invariant.cost c.in_ok-member-in-GoTo.member (node_more_turns c.operands-containment.result.0 (g.C.CountedLeaves.text c.args.source.now) (form_of c.args.expr.now) (form_of c.operands-containment.result.1.now) (form_of c.operands-containment.result.2.now) c.operands-containment.ensures.form c.direction-direction.result (access_of c.args.wanted (concordance (g.C.CountedLeaves.text c.args.source.now) (form_of c.args.expr.now)) c.args.k) c.loop-next.member c.loop-next.invariant.reached c.question-asked.result.0 c.question-asked.result.1 c.question-asked.ensures.asks c.known_access-answer.result c.known_access-answer.ensures.answer c.in-GoTo.next c.in-GoTo.ensures c.in_ok-member-in-GoTo.member from) (g.C.CountedLeaves.count c.known_access-answer.new.counter) (g.C.CountedLeaves.count c.operand_access-in-GoTo.new.counter) c.known_access-answer.ensures.cost c.operand_access-in-GoTo.ensures.cost;
     }
 
 -- what is known of the second operand

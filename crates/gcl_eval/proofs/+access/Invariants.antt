@@ -85,6 +85,9 @@ decreases-containments::containment_access-loop-next g l =
 abbrev pub decreases-access::access : goal.decreases-access::access
 decreases-access::access g l = 8 * size-Expr l.expr.now + 5
 
+abbrev pub decreases-containments::operand_access : goal.decreases-containments::operand_access
+decreases-containments::operand_access g l = 8 * size-Expr l.expr.now + 6
+
 abbrev pub decreases-known::known_access : goal.decreases-known::known_access
 decreases-known::known_access g l = 8 * size-Expr l.expr.now + 6
 
