@@ -23,7 +23,7 @@ P
 cd "$work"
 # one run for each size: the text is added, and each query asked 20 times through the pipes, so that its seconds are its own
 python3 - "$program" "$counter" <<'P'
-import subprocess, sys
+import subprocess, sys, time
 from asking import ask, kept
 program, counter = sys.argv[1:]
 queries = ['"the" ^ "rare"', '("<l>".."</l>") > "of the"', '"the"', '("the" ^ "rare") < [5]']
@@ -49,6 +49,11 @@ for size in (5, 50):
         else:
             less, fewer = took[query]
             print(f"    {'':<28} time grew {number / less:.1f} times, look-ups {look_ups / fewer:.1f} times: ratio {number / less / (look_ups / fewer):.2f} (target 1.5)")
+    # what a reader of the text itself takes: each element is a line
+    for words in (["-c", "-w", "of the"], ["-o", "-w", "the"]):
+        begin = time.time()
+        subprocess.run(["grep", *words, f"t{size}"], stdout=subprocess.DEVNULL)
+        print(f"    grep {' '.join(words):<23} {(time.time() - begin) * 1e3:.0f} ms")
     print(f"    memory after the queries to that before: {kept(run) / before:.2f} (target 1.05)")
     run.stdin.close()
     run.wait()
