@@ -17,7 +17,7 @@ use Rattle.index_shard.proofs.TableLaws.{all_at, at_its_place}
 use Rattle.live_version.specs.Contents.{SlotContent, VersionContent, IsSlot, IsVersion, live_of}
 use Rattle.live_version.proofs.PartWords.{held_in_slot}
 use Rattle.live_version.proofs.WordLemmas.{postings_rise}
-use Rattle.term_fingers.specs.Lists.{AreApart, ArePassed, IsAt, LackPairs, one_below, shard_at, addresses_in, list_of, places_of}
+use Rattle.term_fingers.specs.Lists.{ArePassed, IsAt, LackPairs, one_below, shard_at, addresses_in, list_of, places_of}
 use Rattle.term_fingers.proofs.Nearest.{below-lt, below-ge, climbs}
 use Rattle.term_fingers.proofs.Places.{place_known}
 
@@ -200,72 +200,6 @@ module _ (first second : List ℕ) (k : ℕ) (rise : ArePostings first) (rise_be
   twos_by i j u w a b near near_last far far_last passed eu ew =
       subst (λ n. IsStep i j (2 * n) (2 * w)) (sym eu)
       (subst (λ n. IsStep i j (2 * one_below (get_or first (i + 1) 0 + 1) (get_or second (j + 1) 0)) (2 * n)) (sym ew) (twos_on i j a b near near_last far far_last passed))
-
-  -- of four and four, of which none stand side by side, the first list's are passed where the other's last one lies farther behind
-  passed_four_first : (i j : ℕ) → i + 3 < length first → AreApart first second i j 4 → get_or first (i + 3) 0 + 1 < get_or second (j + 3) 0 → ArePassed first second k i j → ArePassed first second k (i + 4) j
-  passed_four_first i j a apart less passed = λ x y xl yl ge same.
-      let p = passed x y xl yl ge same in
-      let from : i ≤ x = p.0 in
-      elim (cases_lt (i + 3) x) [
-        | inl lt ↦ (omega (arith, lt), p.1)
-        | inr upto ↦
-            let up : get_or first x 0 ≤ get_or first (i + 3) 0 = climbs 0 (2 ^ 56) first x (i + 3) rise upto a in
-            elim (cases_lt (j + 3) y) [
-              | inl more ↦
-                  let rest : get_or second (j + 3) 0 ≤ get_or second y 0 = climbs 0 (2 ^ 56) second (j + 3) y rise_behind (omega (arith, more)) yl in
-                  absurd (omega (arith, same, rest, less, up))
-              | inr le ↦ absurd (apart x y from (omega (arith, upto)) p.1 (omega (arith, le)) same)
-            ]
-      ]
-
-  -- where it does not lie so far, those of the second list are
-  passed_four_second : (i j : ℕ) → j + 3 < length second → AreApart first second i j 4 → get_or second (j + 3) 0 < get_or first (i + 3) 0 + 1 → ArePassed first second k i j → ArePassed first second k i (j + 4)
-  passed_four_second i j b apart less passed = λ x y xl yl ge same.
-      let p = passed x y xl yl ge same in
-      let behind : j ≤ y = p.1 in
-      elim (cases_lt (j + 3) y) [
-        | inl lt ↦ (p.0, omega (arith, lt))
-        | inr upto ↦
-            let low : get_or second y 0 ≤ get_or second (j + 3) 0 = climbs 0 (2 ^ 56) second y (j + 3) rise_behind upto b in
-            elim (cases_lt (i + 3) x) [
-              | inl more ↦
-                  let rest : get_or first (i + 3) 0 ≤ get_or first x 0 = climbs 0 (2 ^ 56) first (i + 3) x rise (omega (arith, more)) xl in
-                  absurd (omega (arith, same, rest, less, low))
-              | inr le ↦ absurd (apart x y p.0 (omega (arith, le)) behind (omega (arith, upto)) same)
-            ]
-      ]
-
-  -- so of four and four those of one list are passed
-  fours_on : (i j : ℕ) → i + 3 < length first → j + 3 < length second → AreApart first second i j 4 → ArePassed first second k i j →
-      IsStep i j (4 * one_below (get_or first (i + 3) 0 + 1) (get_or second (j + 3) 0)) (4 * one_below (get_or second (j + 3) 0) (get_or first (i + 3) 0 + 1))
-  fours_on i j a b apart passed =
-      let wanted = get_or first (i + 3) 0 + 1 in
-      let met = get_or second (j + 3) 0 in
-      elim (cases_lt wanted met) [
-        | inl lt ↦
-            let u : 4 * one_below wanted met ≡ 4 = ap (λ n. 4 * n) (below-lt wanted met lt) in
-            let w : 4 * one_below met wanted ≡ 0 = ap (λ n. 4 * n) (below-ge met wanted (omega (arith, lt))) in
-            subst (λ n. IsStep i j n (4 * one_below met wanted)) (sym u)
-            (subst (λ n. IsStep i j 4 n) (sym w)
-            (let still : j ≡ j + 0 = omega arith in
-            record { passed = subst (ArePassed first second k (i + 4)) still (passed_four_first i j a apart lt passed); within = omega (arith, a); within_behind = omega (arith, b); nearer = omega (arith, a, b) }))
-        | inr le ↦
-            let last : wanted ≡ met → ⊥ = apart (i + 3) (j + 3) (omega arith) (omega arith) (omega arith) (omega arith) in
-            let less : met < wanted = omega (arith, le, last) in
-            let u : 4 * one_below wanted met ≡ 0 = ap (λ n. 4 * n) (below-ge wanted met le) in
-            let w : 4 * one_below met wanted ≡ 4 = ap (λ n. 4 * n) (below-lt met wanted less) in
-            subst (λ n. IsStep i j n (4 * one_below met wanted)) (sym u)
-            (subst (λ n. IsStep i j 0 n) (sym w)
-            (let still : i ≡ i + 0 = omega arith in
-            record { passed = subst (λ n. ArePassed first second k n (j + 4)) still (passed_four_second i j b apart less passed); within = omega (arith, a); within_behind = omega (arith, b); nearer = omega (arith, a, b) }))
-      ]
-
-  -- the same by how far each goes on
-  pub fours_by : (i j u w : ℕ) → i + 3 < length first → j + 3 < length second → AreApart first second i j 4 → ArePassed first second k i j →
-      u ≡ one_below (get_or first (i + 3) 0 + 1) (get_or second (j + 3) 0) → w ≡ one_below (get_or second (j + 3) 0) (get_or first (i + 3) 0 + 1) → IsStep i j (4 * u) (4 * w)
-  fours_by i j u w a b apart passed eu ew =
-      subst (λ n. IsStep i j (4 * n) (4 * w)) (sym eu)
-      (subst (λ n. IsStep i j (4 * one_below (get_or first (i + 3) 0 + 1) (get_or second (j + 3) 0)) (4 * n)) (sym ew) (fours_on i j a b apart passed))
 
   -- so before an address below which all members stand before the place that was reached, there is no pair
   pub none_passed : (i j r : ℕ) → ArePassed first second k i j → ((x : ℕ) → x < length first → get_or first x 0 < r → x < i) → (p : ℕ) → k ≤ p → p < r → IsAt first p → IsAt second (p + 1) → ⊥

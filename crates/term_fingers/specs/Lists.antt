@@ -79,10 +79,6 @@ pub record IsAt (members : List ℕ) (p : ℕ) : Type 0 where
 abbrev pub ArePassed : (first second : List ℕ) (k i j : ℕ) → Type 0
 ArePassed first second k i j = (x y : ℕ) → x < length first → y < length second → k ≤ slice_index first x → slice_index first x + 1 ≡ slice_index second y → (i ≤ x) × (j ≤ y)
 
--- none of n members of the first list, from place i on, has one of n of the second, from j on, right behind it: so it is of 2 and 5 beside 4 and 10
-abbrev pub AreApart : (first second : List ℕ) (i j n : ℕ) → Type 0
-AreApart first second i j n = (x y : ℕ) → i ≤ x → x < i + n → j ≤ y → y < j + n → slice_index first x + 1 ≡ slice_index second y → ⊥
-
 -- a member of the first list lies at k or before, and one of the second at r or behind
 pub record LieAround (first second : List ℕ) (k r : ℕ) : Type 0 where
   pub low : ℕ

@@ -1,6 +1,6 @@
 ghost use Rattle.std.specs.Prelude.{◌≡◌, ℕ, ◌+◌, ◌-◌, ◌<◌, ◌≤◌, IsTrue, slice_index, length};
 ghost use Rattle.posting_code.specs.Postings.{ArePostings};
-ghost use Rattle.term_fingers.specs.Lists.{AreApart, ArePassed, IsAt};
+ghost use Rattle.term_fingers.specs.Lists.{ArePassed, IsAt};
 
 use crate::members::one_below;
 use gcl_model::Pair;
@@ -25,7 +25,6 @@ pub(crate) fn earliest_pair_in(
 {
     let at = place_from(first, hints.0, k);
     let behind = place_from(second, hints.1, k + 1);
-    let (at, behind) = by_fours(first, second, at, behind, k);
     let (at, behind) = by_twos(first, second, at, behind, k);
     let (at, behind) = side_by_side(first, second, at, behind, k);
     if at < first.len() && behind < second.len() {
@@ -59,58 +58,9 @@ fn place_from(members: &[u64], hint: usize, k: u64) -> usize
     at
 }
 
-/// Goes through both lists side by side from these places on, four members of the one or the other at a time, as long as of four and four
-/// none stands right behind the other.
-// Each turn waits for the last one's, so fewer turns take less time, though each of them compares more.
-fn by_fours(
-    first: &[u64],
-    second: &[u64],
-    from: usize,
-    from_behind: usize,
-    k: u64,
-) -> (usize, usize)
-    requires first { ArePostings first.now }
-    requires second { ArePostings second.now }
-    requires within { from ≤ length first.now }
-    requires within_behind { from_behind ≤ length second.now }
-    requires passed { ArePassed first.now second.now k from from_behind }
-    ensures within { result.0 ≤ length first.now }
-    ensures within_behind { result.1 ≤ length second.now }
-    ensures passed { ArePassed first.now second.now k result.0 result.1 }
-{
-    let mut at = from;
-    let mut behind = from_behind;
-    while at + 3 < first.len()
-        && behind + 3 < second.len()
-        && apart_by_fours(first, second, at, behind)
-    {
-        let wanted = first[at + 3] + 1;
-        let met = second[behind + 3];
-        at += 4 * one_below(wanted, met);
-        behind += 4 * one_below(met, wanted);
-    }
-    (at, behind)
-}
-
-/// Whether of four members of the second list, from its place on, none stands right behind one of four of the first.
-// Where two meet is chance, so the four are joined by `&`, which needs no branch between them.
-#[inline(always)]
-fn apart_by_fours(first: &[u64], second: &[u64], at: usize, behind: usize) -> bool
-    requires rising { ArePostings first.now }
-    requires within { at + 3 < length first.now }
-    requires within_behind { behind + 3 < length second.now }
-    ensures { IsTrue result → AreApart first.now second.now at behind 4 }
-{
-    let near = apart(first, second, at, behind);
-    let near_last = apart(first, second, at, behind + 2);
-    let far = apart(first, second, at + 2, behind);
-    let far_last = apart(first, second, at + 2, behind + 2);
-    near & near_last & far & far_last
-}
-
 /// Goes through both lists side by side from these places on, two members of the one or the other at a time, as long as of two and two none
 /// stands right behind the other.
-// For what is left where four and four are not apart, or one list has fewer than four.
+// Each turn waits for the last one's, so fewer turns take less time, though each of them compares more.
 fn by_twos(first: &[u64], second: &[u64], from: usize, from_behind: usize, k: u64) -> (usize, usize)
     requires first { ArePostings first.now }
     requires second { ArePostings second.now }

@@ -10,8 +10,8 @@ overflow_add-k c =
     let below : get_or first (length first - 1) 0 < 2 ^ 56 = (rise_index 0 (2 ^ 56) first (length first - 1) c.requires.first (omega (arith, c.requires.within))).1 in
     omega (arith, below, c.requires.reach)
 
-pub by_fours-at-requires-clause-passed : goal.by_fours-at-requires-clause-passed
-by_fours-at-requires-clause-passed c =
+pub by_twos-at-requires-clause-passed : goal.by_twos-at-requires-clause-passed
+by_twos-at-requires-clause-passed c =
     passed_start c.args.first.now c.args.second.now c.args.k c.requires.first c.requires.second c.place_from-at.result c.place_from-behind.result
     c.place_from-at.ensures.within c.place_from-behind.ensures.within c.place_from-at.ensures.before c.place_from-behind.ensures.before
 
