@@ -12,7 +12,7 @@ start_is_sound first le = record {
   files = (omega arith, omega arith, (λ e. omega arith, omega arith));
 }
 
--- a new file stands right behind the last hole, with no id left out
+-- a new file stands right after the last hole, with no id left out
 added_files : (c : Collection) (name : List ℕ) (tokens : List (List ℕ)) (at id : ℕ) (files : List File) → is_name name ≡ true → AllByRecursion IsToken tokens
     → AreFilesFrom c at id files → AreFilesFrom (with_file c name tokens) at id (files ++ record { id = c.next_id; name = name; base = c.next; tokens = tokens } ∷ [])
 added_files c name tokens at id [] named are_tokens h =

@@ -27,7 +27,7 @@ abbrev IsBefore : SlotRange → List SlotRange → Type 0
 IsBefore range [] = Unit {0}
 IsBefore range (next ∷ ranges) = 4 * slot_width next < slot_width range
 
--- the range behind a list that is told from the back
+-- the range after a list that is told from the back
 abbrev IsBehind : SlotRange → List SlotRange → Type 0
 IsBehind range [] = Unit {0}
 IsBehind range (before ∷ earlier) = 4 * slot_width range < slot_width before
@@ -155,7 +155,7 @@ opening_makes_tiers c sound = by_files c.files sound.files
     by_files [] h = no_tiers c.first c.next
     by_files (file ∷ files) h = spanned_tier c.first c.next (file_range file) (map file_range files) (files_apart c c.first 0 (file ∷ files) h) (omega arith)
 
--- so many tiers behind the first make it so wide
+-- so many tiers after the first make it so wide
 first_width : (range : SlotRange) (ranges : List SlotRange) → AllByRecursion (λ r. 2 ≤ slot_width r) (range ∷ ranges) → AreTiered (range ∷ ranges) → 2 * 4 ^ length ranges ≤ slot_width range
 first_width range [] wide tiered = wide.0
 first_width range (next ∷ ranges) wide tiered =

@@ -15,7 +15,7 @@ use Rattle.address_space.proofs.CollectionLemmas.{up_to}
 length-with_boundaries : (tokens : List (List ℕ)) → length (with_boundaries tokens) ≡ width_of tokens
 length-with_boundaries tokens = omega (arith, length-append tokens (file_end ∷ []))
 
--- tokens at consecutive addresses, and rising words behind them
+-- tokens at consecutive addresses, and rising words after them
 words_rise : (next low p : ℕ) (tokens : List (List ℕ)) (words : List Word) → low ≤ p → p + length tokens ≤ next → AreRisingBelow next (p + length tokens) words → AreRisingBelow next low (words_from p tokens ++ words)
 words_rise next low p [] words le within h = rising_earlier next low (p + 0) words (omega arith) h
 words_rise next low p (token ∷ tokens) words le within h =

@@ -20,7 +20,7 @@ pub record IsPlaced (file : FileEntry) : Type 0 where
   pub bounded : 2 ≤ file.len
   pub in_range : file.base + file.len ≤ address_end
 
--- the second file has a later id and lies behind the first: of (id 0, 0 to 7) and (id 2, 10 to 11) it does
+-- the second file has a later id and lies after the first: of (id 0, 0 to 7) and (id 2, 10 to 11) it does
 pub record Precedes (first second : FileEntry) : Type 0 where
   pub ids : first.id < second.id
   pub addresses : first.base + first.len ≤ second.base

@@ -58,7 +58,7 @@ impl FileRun {
         self.files.as_slice()
     }
 
-    /// Puts a file behind the others.
+    /// Puts a file after the others.
     pub fn push(&mut self, file: FileRecord) -> Result<(), AllocError>
         requires { IfSome (last_file self.old) (λ last. Precedes last file) }
         ensures ok { OnOk result (self.new ≡ self.old ++ file ∷ []) }
@@ -68,12 +68,13 @@ impl FileRun {
         self.push_shared(file)
     }
 
-    /// Puts a file behind the others. Whoever has the record shares it.
+    /// Puts a file after the others. Whoever has the record shares it.
     pub fn push_shared(&mut self, file: SharedRecord) -> Result<(), AllocError>
         requires { IfSome (last_file self.old) (λ last. Precedes last file) }
         ensures ok { OnOk result (self.new ≡ self.old ++ file ∷ []) }
         ensures err { OnErr result (self.new ≡ self.old) }
     {
+        // any call of a record tells where it lies
         let _ = file.record();
         self.files.push(file)?;
         Ok(())

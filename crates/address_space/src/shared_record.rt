@@ -27,6 +27,7 @@ impl SharedRecord {
     pub fn new(alloc: Global, file: FileRecord) -> Result<Self, AllocError>
         ensures { IfOk result (λ shared. shared ≡ file) }
     {
+        // any call of a record tells where it lies
         let _ = file.range();
         let record = Arc::new(alloc, file)?;
         Ok(SharedRecord { record })

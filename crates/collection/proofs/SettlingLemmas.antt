@@ -83,7 +83,7 @@ settles-joined v grown joined' w at count slot h counted many place whole alive 
       edition = ap (λ u. u.edition) after;
     }
 
--- a file in a slot of its own behind the others
+-- a file in a slot of its own after the others
 pub grows : (v grown : VersionContent) (file : FileEntry) (shard : ShardContent) → grown ≡ version_with_file v file shard → AreSettledAlone (ranges_of v.slots) (range_of file) (ranges_of grown.slots) → Grows v grown
 grows v grown file shard is alone = record {
   slot = slot_of_file file shard;

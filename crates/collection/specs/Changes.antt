@@ -9,7 +9,7 @@ use Rattle.manifest_publish.specs.Accounts.{ReceiptContent}
 use Rattle.collection.specs.Engines.{EngineContent, IsPublication}
 use Rattle.collection.specs.declared.engine.Added.{Added}
 
--- the second slots are some of the first ones, from the front and unchanged, and one slot behind them of which nothing is dead
+-- the second slots are some of the first ones, from the front and unchanged, and one slot after them of which nothing is dead
 pub record EndsInOneSlot (before after : List SlotContent) : Type 0 where
   pub slot : SlotContent
   pub alive : slot.mask ≡ []

@@ -1,9 +1,10 @@
-//! The engine that a program embeds: files are added and deleted, slots merged and images opened, each in one publication.
+//! The engine that a program embeds: files are added and deleted, slots merged and images opened, each in one
+//! publication.
 //!
 //! Contracts see an `Engine` as its publisher, all versions that it published, and the last of these, `version`. Each
-//! call is a relation between the engine before and after it (`specs/Changes.antt`): of the collection which the version
-//! stands for, of the ranges of its slots, and of what stays of slots. So for any list of calls the collection is the
-//! one that its adds, deletions and openings give, whatever merges came between.
+//! call is a relation between the engine before and after it (`specs/Changes.antt`): of the collection which the
+//! version stands for, of the ranges of its slots, and of what stays of slots. So for any list of calls the collection
+//! is the one that its adds, deletions and openings give, whatever merges came between.
 //!
 //! The layers above call it and put what it answers, and read the last version. After `to be or not to be` was added
 //! from address 0 on, and then a file without words, the slots are 0 to 7 and 8 to 9 made one, 0 to 9: an add makes the

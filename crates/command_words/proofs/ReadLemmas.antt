@@ -52,7 +52,7 @@ bad_front all given spelled rest parts bad pairs is =
     let cut = is_cons given (pairs_of rest) pairs (sym parts ∙ is) in
     ap (λ xs. options_in (all ++ xs)) cut.2 ∙ bad cut.0
 
--- what is read behind a pair is read with it
+-- what is read after a pair is read with it
 with_front : (all : List Given) (given : Given) (spelled rest : List Text) (kinds kinds' : Kinds) (rows rows' : List Row)
     → pairs_of spelled ≡ option_map (λ pairs. given ∷ pairs) (pairs_of rest) → kinds ≡ kinds' → rows ≡ rows'
     → Reads (all ++ given ∷ []) rest kinds' rows' → Reads all spelled kinds rows
@@ -155,7 +155,7 @@ module _ (s : Shape) (is : IsProgram s) where
   ReadsValue all name rows words = Reads all ((45 ∷ 45 ∷ name) ∷ words) (faults s (stand (option name) (hold rows (Some (name, [])))) words)
       (last_rows s (stand (option name) (hold rows (Some (name, [])))) words)
 
-  -- what follows a name of an option, before the words behind its value
+  -- what follows a name of an option, before the words after its value
   module _ (all : List Given) (name : Text) (known : is_option_name (45 ∷ 45 ∷ name) ≡ true) (options : are_options all ≡ true) (rows : List Row)
       (ends : rows ≡ map row all) where
     abbrev waits : Walk

@@ -62,11 +62,11 @@ good_pair front given rest options is = (
   true_from_ne_false (is_number given.1) (λ bad. none-some options (sym (bad_value front given rest bad) ∙ is)),
 )
 
--- words behind which the pairs are known to be plain
+-- words after which the pairs are known to be plain
 Below : List (List ℕ) → Type 0
 Below words = (front pairs : List Given) (options : Options) → pairs_of words ≡ Some pairs → options_in (front ++ pairs) ≡ Some options → list_all is_plain words ≡ true
 
--- the pairs behind the first one, with it in front
+-- the pairs after the first one, with it in front
 module _ (given : Given) (words rest : List (List ℕ)) (parts : pairs_of words ≡ option_map (λ pairs. given ∷ pairs) (pairs_of rest)) (below : Below rest)
     (front pairs : List Given) (options : Options) (is : pairs_of words ≡ Some pairs) (writes : options_in (front ++ pairs) ≡ Some options) where
   cut : (left : List Given) × (pairs_of rest ≡ Some left) × (pairs ≡ given ∷ left)

@@ -160,7 +160,7 @@ module _ (s : Shape) (is : IsProgram s) where
             let none_such : flag_word_fault s.rules false (Some (name, value)) word held ≡ kind.UnknownArgument ∷ [] = rw (is.by_no_long name unknown) refl in
             subst HasFault (sym none_such) (fails kind.UnknownArgument [])
 
-  -- the characters behind one hyphen name no option
+  -- the characters after one hyphen name no option
   bundle-read : (k : ℕ) (flags : Text) (held : Held) → HasFault (flags_fault s.rules false k flags 0 held)
       ⊎ ((flags_fault s.rules false k flags 0 held ≡ []) × (bundle_met s.rules k flags 0 plain held ≡ (held, plain)))
   unfolding flags_fault bundle_met

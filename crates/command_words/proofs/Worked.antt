@@ -56,7 +56,7 @@ option_as_value = refl
 shortened : options_of (codes "--fir=7" ∷ []) ≡ None
 shortened = refl
 
--- the last address and the one behind it
+-- the last address and the one after it
 first-end : options_of (codes "--first=72057594037927936" ∷ []) ≡ Some (record { first = 72057594037927936; readers = 4; made = None })
 first-end = refl
 

@@ -21,7 +21,7 @@ is_equals b = b == 61
 abbrev pub is_joined : List ℕ → Bool
 is_joined word = list_any is_equals word
 
--- what stands before the first `=` of the word, and what stands behind it: of `--first=7` these are "--first" and "7"
+-- what stands before the first `=` of the word, and what comes after it: of `--first=7` these are "--first" and "7"
 abbrev pub parted : List ℕ → Given
 parted word = (before_first is_equals word, after_first is_equals word)
 

@@ -18,6 +18,6 @@ abbrev pub program : App
 program = with_rule (with_rule (with_rule (with_rule (without_extras (new_app (codes "gclq"))) (option_rule (codes "first"))) (option_rule (codes "readers")))
     (option_rule (codes "made"))) (option_rule (codes "count"))
 
--- no word is `--`, behind which clap takes no word as an option
+-- no word is `--`, after which clap takes no word as an option
 abbrev pub HasNoEnd : List (List ℕ) → Type 0
 HasNoEnd words = list_all (λ word. not (bytes_eq word (codes "--"))) words ≡ true

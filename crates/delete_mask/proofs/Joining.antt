@@ -78,7 +78,7 @@ AreRangesWithin-with_range low end (dead ∷ mask) range h apart first le last =
     (λ reaches touch. (first, omega arith, h.2, h.3))
     (λ reaches other. (first, le, last, (let behind = IsApart-behind range dead mask le some apart reaches in omega arith, some, h.2, h.3)))
 
--- what a range that ends before another one is to it does not depend on what lies behind both
+-- what a range that ends before another one is to it does not depend on what lies after both
 with_range-past : (range dead : SlotRange) (mask : List SlotRange) → dead.last + 1 < range.first → with_range range (dead ∷ mask) ≡ dead ∷ with_range range mask
 with_range-past range dead mask h = cond-true (ltb (dead.last + 1) range.first) _ _ (lt-ltb (dead.last + 1) range.first h)
 

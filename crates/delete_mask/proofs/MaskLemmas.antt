@@ -65,7 +65,7 @@ IsApart-joined range dead end mask touch h apart p within = by_place (cases_lt d
     by_place (inl behind) = apart p (is_within-inside range p (omega arith) (is_within-bounds (joined dead range) p within).1)
     by_place (inr le) = is_dead-before (dead.last + 1) end mask p h (omega arith)
 
--- of two ranges with no common address, one lies behind the other
+-- of two ranges with no common address, one lies after the other
 pub IsApart-behind : (range dead : SlotRange) (mask : List SlotRange) → range.first ≤ range.last → dead.first ≤ dead.last → IsApart range (dead ∷ mask) → range.first ≤ dead.last → range.last < dead.first
 IsApart-behind range dead mask h k apart le = by_place (cases_lt range.last dead.first) (cases_lt range.first dead.first)
   where

@@ -96,7 +96,7 @@ impl Mask {
         in_order(*self.ranges.allocator(), before, range, after)
     }
 
-    /// The ranges before this one, and those behind it.
+    /// The ranges before this one, and those after it.
     fn split_around(&self, range: Range) -> (&[Range], &[Range])
         requires { IsApart range self.now }
         ensures whole { self.now ≡ result.0.now ++ result.1.now }
@@ -146,7 +146,7 @@ fn joined_before(before: &[Range], range: Range) -> (&[Range], Range)
     (rest, joined)
 }
 
-/// The range with the first one behind it, where they touch, and the ranges behind both.
+/// The range with the first one after it, where they touch, and the ranges after both.
 fn joined_after(range: Range, after: &[Range]) -> (Range, &[Range])
     requires { AreRangesWithin (range.last + 1) address_end after.now }
     ensures { with_range range after.now ≡ result.0 ∷ result.1.now }

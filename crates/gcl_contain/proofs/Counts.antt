@@ -41,7 +41,7 @@ count_more p q h (x ∷ xs) a (inr m) f t =
     omega arith
 
 -- how many turns brought the loop to k: the lesser number of members that lie before it; where the turn goes to the
--- place of b itself, and not behind it, b counts as one before it (slack 1)
+-- place of b itself, and not after it, b counts as one before it (slack 1)
 abbrev pub turns_forward : (Extent → ℕ) → ℕ → List Extent → List Extent → ℕ → ℕ
 turns_forward place slack members others k = min (count_of (λ c. ltb (place c) k) members) (count_of (λ d. ltb (place d) (k + slack)) others)
 

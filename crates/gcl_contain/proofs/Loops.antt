@@ -25,7 +25,7 @@ pub record IsPassed (place : Extent → ℕ) (keeps : Extent → Bool) (members 
   pub later : k ≤ from
   pub passed : (c : Extent) → Has members c → k ≤ place c → place c < from → keeps c ≡ false
 
--- the members up to k that lie behind `upto` are not kept
+-- the members up to k that lie after `upto` are not kept
 pub record IsPassedBack (place : Extent → ℕ) (keeps : Extent → Bool) (members : List Extent) (k upto : ℕ) : Type 0 where
   pub earlier : upto ≤ k
   pub passed : (c : Extent) → Has members c → place c ≤ k → upto < place c → keeps c ≡ false

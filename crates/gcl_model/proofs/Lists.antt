@@ -113,7 +113,7 @@ take_past x xs n = let e : 1 + n ≡ suc n = omega arith in ap (λ m. take m (x 
 pub drop_past : {X : Type 0} (x : X) (xs : List X) (n : ℕ) → drop (1 + n) (x ∷ xs) ≡ drop n xs
 drop_past x xs n = let e : 1 + n ≡ suc n = omega arith in ap (λ m. drop m (x ∷ xs)) e
 
--- the member at a place, and those behind it
+-- the member at a place, and those after it
 pub drop_here : {X : Type 0} (xs : List X) (i : ℕ) (x : X) → i < length xs → x ≡ get_or xs i x → drop i xs ≡ x ∷ drop (i + 1) xs
 drop_here xs i x lt is = drop_more xs i x lt ∙ ap (λ y. y ∷ drop (i + 1) xs) (sym is)
 

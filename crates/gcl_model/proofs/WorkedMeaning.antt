@@ -52,7 +52,7 @@ no_pair_between = refl
 pub a_pair_at_the_last_address : any_pair hamlet.words (codes "to") (codes "be") 2 6 ≡ true
 a_pair_at_the_last_address = refl
 
--- "to" at 5 has "be" right behind it, and "be" no "to"
+-- "to" at 5 has "be" right after it, and "be" no "to"
 pub no_pair_the_other_way : any_pair hamlet.words (codes "be") (codes "to") 0 8 ≡ false
 no_pair_the_other_way = refl
 

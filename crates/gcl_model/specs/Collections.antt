@@ -55,7 +55,7 @@ words_of c = flat_map (λ file. words_from file.base (with_boundaries file.token
 abbrev pub text_of : Collection → Text
 text_of c = record { first = c.first; next = c.next; words = words_of c }
 
--- the token that a file has at address p: none before its base and behind its last address
+-- the token that a file has at address p: none before its base and after its last address
 abbrev pub word_of_file : File → ℕ → Option (List ℕ)
 word_of_file file p = if nat_le file.base p then slice_get (with_boundaries file.tokens) (p - file.base) else None
 

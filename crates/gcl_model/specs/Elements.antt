@@ -3,7 +3,7 @@ use Rattle.std.specs.Prelude.{◌≡◌, ℕ, ◌+◌, ◌-◌, ◌<◌, ◌≤�
 use Rattle.gcl_model.specs.Extents.{Extent}
 use Rattle.gcl_model.specs.Texts.{Word, next_place, previous_place}
 
--- an interval up to the next `second` behind the next `first` from k on, and from the last `first` before that: with `first` at 1, 2 and 7
+-- an interval up to the next `second` after the next `first` from k on, and from the last `first` before that: with `first` at 1, 2 and 7
 -- and `second` at 4 and 9 it is (2, 4) at 1, and (7, 9) at 3
 pub record IsElementFrom (words : List Word) (first second : List ℕ) (k : ℕ) (element : Extent) : Type 0 where
   pub at : ℕ
@@ -11,7 +11,7 @@ pub record IsElementFrom (words : List Word) (first second : List ℕ) (k : ℕ)
   pub on : Some element.end ≡ next_place words second (at + 1)
   pub back : Some element.start ≡ previous_place words first (element.end - 1)
 
--- an interval from the last `first` before the next `second` from k on, and up to the next `second` behind that, where this one stands at k
+-- an interval from the last `first` before the next `second` from k on, and up to the next `second` after that, where this one stands at k
 -- or later: in the same words it is (2, 4) at 3 and (7, 9) at 5; with `first` at 1 and `second` at 3 and 6 there is none at 5
 pub record IsElementUpTo (words : List Word) (first second : List ℕ) (k : ℕ) (element : Extent) : Type 0 where
   pub at : ℕ

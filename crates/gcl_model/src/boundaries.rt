@@ -8,7 +8,7 @@ pub fn file_start() -> &'static [u8]
     b"<file!>"
 }
 
-/// The token behind those of a file.
+/// The token after those of a file.
 pub fn file_end() -> &'static [u8]
     ensures { result.now ≡ model.file_end }
 {

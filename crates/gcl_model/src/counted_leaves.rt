@@ -41,7 +41,7 @@ pub trait CountedLeaves {
         ensures counted { count counter.old ≤ count counter.new }
         ensures cost { count counter.new ≤ count counter.old + most self.now };
 
-    /// An address from `k` on before which `second` nowhere stands right behind `first`, and whether it does there, as far as it is known
+    /// An address from `k` on before which `second` nowhere stands right after `first`, and whether it does there, as far as it is known
     /// without a look-up.
     fn earliest_pair(&self, first: &[u8], second: &[u8], k: u64) -> Pair
         ensures from { k ≤ result.at }

@@ -1,4 +1,4 @@
-/// What is known, without a look-up, of where a word next stands right behind another: before `at` it does not, and where `found`, it does
+/// What is known, without a look-up, of where a word next stands right after another: before `at` it does not, and where `found`, it does
 /// there.
 #[derive(Clone, Copy, Debug, PartialEq, Eq)]
 pub struct Pair {

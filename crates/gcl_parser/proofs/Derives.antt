@@ -34,7 +34,7 @@ pub record ReadsQuery (tokens : List QueryToken) : Type 0 where
 abbrev pub AreRead : (List QueryToken → Type 0) → ℕ → Type 0
 AreRead Read n = (tokens : List QueryToken) (o c : ℕ) → length tokens < n → o ≤ most_brackets → IsFaultless true o c tokens → Read tokens
 
--- behind a part a chain goes on or ends
+-- after a part a chain goes on or ends
 pub data After (j : Joint) : List QueryToken → Type 0 where
   goes : (tail : List QueryToken) → After j (joint j ∷ tail)
   stops : (rest : List QueryToken) → Ends (joined j) rest → After j rest

@@ -72,7 +72,7 @@ query_snoc_form (query part more) operator last = more_snoc_form more (form_of_p
 pub next_bare : (text : List ℕ) (from : ℕ) (l : PlacedToken) → IsNext text from l → bare_from text from ≡ shown text l.token ∷ bare_from text l.end
 next_bare text from l next = ap (λ ps. map token_of ps) next.tokens
 
--- a chain with the joint behind it, which the program has read up to the next place
+-- a chain with the joint after it, which the program has read up to the next place
 pub record Chained (j : Joint) (text : List ℕ) (at next : ℕ) (exprs : List Expr) : Type 0 where
   pub tree : Part (joined j)
   pub spelled : bare_from text at ≡ spelling tree (joint j ∷ bare_from text next)
@@ -81,7 +81,7 @@ pub record Chained (j : Joint) (text : List ℕ) (at next : ℕ) (exprs : List E
   pub later : at < next
   pub within : next ≤ length text
 
--- behind the joint an operand can be read
+-- after the joint an operand can be read
 chain_can : (j : Joint) (text : List ℕ) (at next : ℕ) → CanRead (bare_from text at) → (tree : Part (joined j)) → bare_from text at ≡ spelling tree (joint j ∷ bare_from text next) → CanRead (bare_from text next)
 chain_can j text at next can tree spelled =
     let behind = part_behind tree can.opened can.count (joint j ∷ bare_from text next) can.deep
@@ -242,7 +242,7 @@ bracket_read text at l parsed next is inside =
       within = inside.within;
     }
 
--- behind the query in a bracket the bracket is closed
+-- after the query in a bracket the bracket is closed
 pub data Closed : List QueryToken → Type 0 where
   closes : (tail : List QueryToken) → Closed (close_bracket ∷ tail)
 
@@ -286,7 +286,7 @@ bracket_ends text at inside parsed close can q next expr end =
       within = omega arith;
     }
 
--- behind a whole query nothing is left
+-- after a whole query nothing is left
 nothing_left : (c : ℕ) (rest : List QueryToken) → EndsQuery rest → IsFaultless false 0 c rest → rest ≡ []
 nothing_left c [] ends h = refl
 nothing_left c (operand form ∷ rest) ends h = absurd (let none = h.0 in cc)

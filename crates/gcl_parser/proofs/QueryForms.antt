@@ -17,7 +17,7 @@ forms_append-assoc : (a b c : Forms) → forms_append (forms_append a b) c ≡ f
 forms_append-assoc no_forms b c = refl
 forms_append-assoc (more_forms form forms) b c = ap (λ others. more_forms form others) (forms_append-assoc forms b c)
 
--- what was read behind a tree
+-- what was read after a tree
 abbrev after_part : {l : Level} → Part l → Unfinished → Unfinished
 after_part (simple form) u = with_operand u form
 after_part (bracketed q) u = with_operand u (form_of_query q)
@@ -41,7 +41,7 @@ single_after : (p : Part single) (u : Unfinished) → after_part p u ≡ with_op
 single_after (simple form) u = refl
 single_after (bracketed q) u = refl
 
--- the members of a chain of `..` are put behind those before
+-- the members of a chain of `..` are put after those before
 seqs_after : (p : Part (joined FollowedBy)) (u : Unfinished) → after_part p u ≡ record { left = u.left; ones = u.ones; boths = u.boths; seqs = forms_append u.seqs (members p) }
 seqs_after (only k part) u = single_after part u
 seqs_after (join k part chain) u =
@@ -64,7 +64,7 @@ seq_read p u none = subst (λ v. IsSeqRead u v (form_of_part p)) (sym (seqs_afte
   value = ap (λ forms. chain_of FollowedBy (forms_append forms (members p))) none ∙ sym (form_is_chain FollowedBy p);
 }
 
--- members of a chain of `^` were put behind those before
+-- members of a chain of `^` were put after those before
 record AreBothsRead (u v : Unfinished) (forms : Forms) : Type 0 where
   left : v.left ≡ u.left
   ones : v.ones ≡ u.ones
@@ -95,7 +95,7 @@ both_read p u seqs boths =
     let read = boths_after p u seqs in
     record { left = read.left; ones = read.ones; value = ap (chain_of BothOf) (read.all ∙ ap (λ forms. forms_append forms (members p)) boths) ∙ sym (form_is_chain BothOf p) }
 
--- members of a chain of `+` were put behind those before
+-- members of a chain of `+` were put after those before
 record AreOnesRead (u v : Unfinished) (forms : Forms) : Type 0 where
   left : v.left ≡ u.left
   all : forms_and v.ones (both_of v) ≡ forms_append u.ones forms
@@ -129,7 +129,7 @@ more_read (and_then operator part more) u form is =
 query_read : (q : Query) → whole_of (after_query q (begun None)) ≡ form_of_query q
 query_read (query part more) = more_read more (after_part part (begun None)) (form_of_part part) (one_read part None)
 
--- the tokens of a tree lead from what was read before it to what was read behind it
+-- the tokens of a tree lead from what was read before it to what was read after it
 mutual
   part_leads : {l : Level} (p : Part l) (rest : List QueryToken) (u : Unfinished) (outers : List Unfinished) → form_from (spelling p rest) u outers ≡ form_from rest (after_part p u) outers
   part_leads (simple form) rest u outers = refl

@@ -8,7 +8,7 @@ use Rattle.gcl_parser.specs.Reading.{IsFaultless, Ends, EndsQuery}
 use Rattle.gcl_parser.specs.Grammar.{Level, single, joined, below, Part, simple, bracketed, only, join, Query, query, Containments, no_more, and_then, spelling, query_spelling, more_spelling, nesting, query_nesting, more_nesting, operands, query_operands, more_operands}
 use Rattle.gcl_parser.proofs.Faults.{few_operands, operand_passes, few_brackets, bracket_passes, close_passes}
 
--- behind the tokens of a tree: it was within the limits, and what follows has no fault
+-- after the tokens of a tree: it was within the limits, and what follows has no fault
 pub record Behind (o c nest count : ℕ) (rest : List QueryToken) : Type 0 where
   pub deep : o + nest ≤ most_brackets
   pub many : c + count ≤ most_operands
@@ -60,7 +60,7 @@ mutual
       let many : c + operands part + more_operands more ≤ most_operands = then.many in
       record { deep = omega arith; many = omega arith; faultless = with_count false o (c + operands part + more_operands more) (c + (operands part + more_operands more)) rest (omega arith) then.faultless }
 
--- what is behind the tokens of a tree has no fault, if the tokens and it have none
+-- what is after the tokens of a tree has no fault, if the tokens and it have none
 mutual
   pub part_faultless : {l : Level} (p : Part l) (o c : ℕ) (rest : List QueryToken) → o + nesting p ≤ most_brackets → c + operands p ≤ most_operands → IsFaultless false o (c + operands p) rest → IsFaultless true o c (spelling p rest)
   part_faultless (simple form) o c rest deep many h = (operand_passes o c form (omega arith), h)

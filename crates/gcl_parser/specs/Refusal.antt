@@ -28,7 +28,7 @@ is_operator (joint j) = true
 is_operator (containment operator) = true
 is_operator _ = false
 
--- an operand is to come first of all, and behind an operator or an open bracket; the nearest token is first in the list
+-- an operand is to come first of all, and after an operator or an open bracket; the nearest token is first in the list
 abbrev pub wants_operand : List QueryToken → Bool
 wants_operand [] = true
 wants_operand (nearest ∷ before) = is_operator nearest || is_open nearest
@@ -64,7 +64,7 @@ abbrev pub fault_or : ℕ → Option QueryKind → Option QueryFault → Option 
 fault_or at None later = later
 fault_or at (Some kind) later = Some record { at = at; kind = kind }
 
--- the first fault of tokens that stand behind others, in a text that ends at a place
+-- the first fault of tokens that come after others, in a text that ends at a place
 abbrev pub first_fault : List QueryToken → ℕ → List Placed → Option QueryFault
 first_fault before end [] = fault_or end (fault_at_end (wants_operand before) (open_count before)) None
 first_fault before end (p ∷ ps) =

@@ -119,7 +119,7 @@ fn operand(alloc: Global, text: &[u8], at: usize) -> Result<Parsed, AllocError>
     }
 }
 
-/// The query behind an open bracket, up to and with the bracket that closes it.
+/// The query after an open bracket, up to and with the bracket that closes it.
 #[cycle(read)]
 fn bracketed(alloc: Global, text: &[u8], at: usize) -> Result<Parsed, AllocError>
     requires within { at ≤ length text.now }
@@ -136,7 +136,7 @@ fn bracketed(alloc: Global, text: &[u8], at: usize) -> Result<Parsed, AllocError
     })
 }
 
-/// The place behind the joint, where it comes next.
+/// The place after the joint, where it comes next.
 fn joined(text: &[u8], from: usize, joint: Joint) -> Option<usize>
     requires { from ≤ length text.now }
     ensures next { IfSome result (λ place. bare_from text.now from ≡ joint_token joint ∷ bare_from text.now place) }
@@ -152,7 +152,7 @@ fn joined(text: &[u8], from: usize, joint: Joint) -> Option<usize>
     }
 }
 
-/// The containment that comes next, and the place behind it.
+/// The containment that comes next, and the place after it.
 fn compared(text: &[u8], from: usize) -> Option<(Containment, usize)>
     requires { from ≤ length text.now }
     ensures next { IfSome result (λ found. bare_from text.now from ≡ containment_token found.0 ∷ bare_from text.now found.1) }

@@ -39,7 +39,7 @@ impl State {
         }
     }
 
-    /// The state behind a token, or what is wrong with the token.
+    /// The state after a token, or what is wrong with the token.
     pub fn pass(self, token: Token) -> Result<State, QueryKind>
         ensures ok { IfOk result (λ next. (text : List ℕ) → IsPassed self (shown text token) next) }
         ensures err { IfErr result (λ kind. (text : List ℕ) → IsStopped self (shown text token) kind) }

@@ -26,7 +26,7 @@ pub enum Token {
     Broken(QueryKind),
 }
 
-/// A query token with the place where it begins and the place behind it.
+/// A query token with the place where it begins and the place after it.
 #[derive(Clone, Copy, Debug, PartialEq, Eq)]
 pub struct PlacedToken {
     pub at: usize,

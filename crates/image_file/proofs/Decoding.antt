@@ -19,7 +19,7 @@ use Rattle.image_file.specs.Images.{most_term}
 use Rattle.image_file.specs.Written.{CanPack, ArePacked, FitsLong, FitsShort}
 use Rattle.image_file.proofs.TermTables.{entry_is}
 
--- lists of the same length, and what stands behind them
+-- lists of the same length, and what comes after them
 pub split_same : (xs ys r s : List ℕ) → length xs ≡ length ys → xs ++ r ≡ ys ++ s → (xs ≡ ys) × (r ≡ s)
 split_same [] [] r s long is = (refl, is)
 split_same [] (y ∷ ys) r s long is = absurd (omega arith)
@@ -29,7 +29,7 @@ split_same (x ∷ xs) (y ∷ ys) r s long is =
     let rest = split_same xs ys r s (omega arith) cc in
     (ap (λ z. z ∷ xs) here ∙ ap (λ zs. y ∷ zs) rest.0, rest.1)
 
--- a fixed number, and what stands behind it
+-- a fixed number, and what comes after it
 pub little_same : (n x y : ℕ) (r s : List ℕ) → x < 256 ^ n → y < 256 ^ n → little_bytes n x ++ r ≡ little_bytes n y ++ s → (x ≡ y) × (r ≡ s)
 little_same n x y r s lx ly is =
     let same : x ≡ y = sym (little_number-reads_back n x r lx) ∙ ap (little_number n) is ∙ little_number-reads_back n y s ly in
@@ -50,7 +50,7 @@ short_text_same x y r s lx ly is =
     let cut = prefix_free (length x) (length y) (x ++ r) (y ++ s) lx ly whole in
     split_same x y r s cut.0 cut.1
 
--- four parts and what stands behind them
+-- four parts and what comes after them
 pub four : (a b c d r : List ℕ) → a ++ b ++ c ++ d ++ r ≡ a ++ (b ++ (c ++ (d ++ r)))
 four a b c d r = append_assoc (a ++ b ++ c) d r ∙ append_assoc (a ++ b) c (d ++ r) ∙ append_assoc a b (c ++ (d ++ r))
 
@@ -242,7 +242,7 @@ fields_is f g first next next_id files terms =
     ∙ ap (λ l. record { first = g.first; next = g.next; next_id = g.next_id; files = l; terms = f.terms }) files
     ∙ ap (λ l. record { first = g.first; next = g.next; next_id = g.next_id; files = g.files; terms = l }) terms
 
--- what stands behind the mark
+-- what comes after the mark
 abbrev behind_mark : Format → Fields → List ℕ
 behind_mark format f =
     eight_bytes f.first ++ (eight_bytes f.next ++ (eight_bytes f.next_id ++ (eight_bytes (length f.files)

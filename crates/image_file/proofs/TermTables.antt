@@ -71,7 +71,7 @@ one_table words xs ys a b = same_terms xs ys a.rising b.rising a.some b.some (λ
 
 -- the table of some words, made word by word from the last one on
 
--- with a word before the first term, at it, or somewhere behind it
+-- with a word before the first term, at it, or somewhere after it
 abbrev put_by : Ordering → Word → TermEntry → (es rest : List TermEntry) → List TermEntry
 put_by Less w e es rest = entry w.token (w.address ∷ []) ∷ e ∷ es
 put_by Equal w e es rest = entry e.term (w.address ∷ e.addresses) ∷ es

@@ -36,7 +36,7 @@ long_file file = eight_bytes file.id ++ eight_bytes file.base ++ eight_bytes fil
 abbrev pub short_file : ℕ → ℕ → FileEntry → List ℕ
 short_file id at file = spelling (file.id - id) ++ spelling (file.base - at) ++ spelling (file.len - 2) ++ short_text file.name
 
--- files in version 2: the next has a later id, and stands behind the last address
+-- files in version 2: the next has a later id, and comes after the last address
 abbrev pub short_files : ℕ → ℕ → List FileEntry → List ℕ
 short_files id at [] = []
 short_files id at (file ∷ files) = short_file id at file ++ short_files (file.id + 1) (file.base + file.len) files

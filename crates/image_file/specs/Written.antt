@@ -18,7 +18,7 @@ pub record CanPack (least at : ℕ) (file : FileEntry) : Type 0 where
   pub len : 2 ≤ file.len
   pub name : length file.name < 2 ^ 32
 
--- so do all files, each behind the one before it
+-- so do all files, each after the one before it
 abbrev pub ArePacked : ℕ → ℕ → List FileEntry → Type 0
 ArePacked id at [] = Unit {0}
 ArePacked id at (file ∷ files) = CanPack id at file × ArePacked (file.id + 1) (file.base + file.len) files
@@ -30,7 +30,7 @@ pub record FitsLong (file : FileEntry) : Type 0 where
   pub len : file.len < 2 ^ 64
   pub name : length file.name < 2 ^ 32
 
--- and in version 2, behind these id and address
+-- and in version 2, after these id and address
 pub record FitsShort (least at : ℕ) (file : FileEntry) : Type 0 where
   pub least_id : least ≤ file.id
   pub id : file.id - least < number_end

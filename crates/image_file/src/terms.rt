@@ -42,7 +42,7 @@ pub(crate) fn terms_text(alloc: Global, version: &Version) -> Result<TermText, A
     Ok(text)
 }
 
-/// Puts a term and its addresses behind the bytes.
+/// Puts a term and its addresses after the bytes.
 fn put_term(out: &mut Vec<u8>, first: u64, term: &[u8], addresses: &[u64]) -> Result<(), AllocError>
     requires short { length term.now < number_end }
     requires some { 0 < length addresses.now }
@@ -55,7 +55,7 @@ fn put_term(out: &mut Vec<u8>, first: u64, term: &[u8], addresses: &[u64]) -> Re
     Ok(())
 }
 
-/// Puts each address behind the bytes, as its difference from the one before.
+/// Puts each address after the bytes, as its difference from the one before.
 fn put_differences(out: &mut Vec<u8>, from: u64, addresses: &[u64]) -> Result<(), AllocError>
     requires { RiseWithin from address_end addresses.now }
     ensures { OnOk result (out.new.items ≡ out.old.items ++ packed_from from addresses.now) }

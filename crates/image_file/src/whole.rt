@@ -33,7 +33,7 @@ pub fn image(alloc: Global, version: &Version) -> Result<Bytes, AllocError>
     Ok(Bytes::of(out))
 }
 
-/// Puts the mark, the numbers and the number of files behind the bytes.
+/// Puts the mark, the numbers and the number of files after the bytes.
 fn put_head(out: &mut Vec<u8>, version: &Version) -> Result<(), AllocError>
     ensures { OnOk result (out.new.items ≡ out.old.items ++ mark Format.Two ++ eight_bytes version.now.first ++ eight_bytes version.now.next ++
         eight_bytes version.now.next_id ++ eight_bytes (length (files_of version.now.slots))) }

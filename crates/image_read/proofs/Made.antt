@@ -166,7 +166,7 @@ hole_none table e es next next_id id at q is all from lt = by_term (term_at tabl
 abbrev pub EndsBy : List FileEntry → ℕ → Type 0
 EndsBy files end = AllByRecursion (λ (e : FileEntry). e.base + e.len ≤ end) files
 
--- the words of all files, up to an end behind them
+-- the words of all files, up to an end after them
 pub files_words : (table : List TermEntry) (files : List FileEntry) (next next_id id at end : ℕ) → AreAllFiles next next_id id at files → IsWordTable table files at → at ≤ end → EndsBy files end →
     words_between table at (end - at) ≡ flat_map (λ (f : File). words_from f.base (with_boundaries f.tokens)) (map (made table) files)
 files_words table [] next next_id id at end all is le ends = words-none table at (end - at) (λ q from lt. no_word q from)

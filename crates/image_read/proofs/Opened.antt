@@ -19,7 +19,7 @@ use Rattle.image_read.proofs.Spans.{all_end, all_run, span_of}
 use Rattle.image_read.proofs.Spelled.{no_terms}
 use Rattle.image_read.proofs.TermTracking.{terms_none, terms_read}
 
--- no files, and nothing behind the number of terms, which is 0
+-- no files, and nothing after the number of terms, which is 0
 empty_terms : (format : Format) (first next : ℕ) → AreTermBytes format first next 0 [] [] []
 empty_terms format first next = record {
   all = record { entries = record { rising = tt; apart = tt; each = tt }; covered = λ p of. absurd cc };

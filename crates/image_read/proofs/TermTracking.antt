@@ -324,7 +324,7 @@ none_more : (table left : List TermEntry) (n : ℕ) → length (table ++ left) �
 none_more table [] n long counted = refl
 none_more table (e ∷ left) n long counted = absurd (omega (arith, long, counted, length-append table (e ∷ left)))
 
--- at the end an image of the bytes has these terms and no byte behind them
+-- at the end an image of the bytes has these terms and no byte after them
 pub terms_are : (format : Format) (first next number : ℕ) (start : List FileEntry) (whole : List ℕ) (i : ℕ) (table : List TermEntry) (places : SeenContent) (rest : List ℕ) → i ≡ number → AreTermsRead format first next number start whole i table places rest →
     (all : List TermEntry) → AreTermBytes format first next number start whole all → (all ≡ table) × (rest ≡ [])
 terms_are format first next number start whole i table places rest done read all is =

@@ -38,7 +38,7 @@ pub record IsPacked (whole : List ℕ) (value : ℕ) (rest : List ℕ) : Type 0 
 abbrev pub HasNoPacked : List ℕ → Type 0
 HasNoPacked bytes = (n : ℕ) (rest : List ℕ) → n < number_end → bytes ≡ spelling n ++ rest → ⊥
 
--- the numbers at the front of an image, and what stands behind them
+-- the numbers at the front of an image, and what comes after them
 pub record IsHead (format : Format) (first next next_id count : ℕ) (whole rest : List ℕ) : Type 0 where
   pub bytes : whole ≡ mark format ++ (eight_bytes first ++ (eight_bytes next ++ (eight_bytes next_id ++ (eight_bytes count ++ rest))))
   pub ordered : first ≤ next
@@ -54,7 +54,7 @@ HasNoHead bytes = (format : Format) (first next next_id count : ℕ) (rest : Lis
 abbrev pub HasNoMark : List ℕ → Type 0
 HasNoMark bytes = (format : Format) (rest : List ℕ) → bytes ≡ mark format ++ rest → ⊥
 
--- one file, behind an id and an address
+-- one file, after an id and an address
 abbrev pub file_bytes : Format → ℕ → ℕ → FileEntry → List ℕ
 file_bytes One id at file = long_file file
 file_bytes Two id at file = short_file id at file
@@ -73,7 +73,7 @@ pub record IsFileFront (format : Format) (id at : ℕ) (whole : List ℕ) (file 
 abbrev pub HasNoFile : Format → ℕ → ℕ → List ℕ → Type 0
 HasNoFile format id at bytes = (file : FileEntry) (rest : List ℕ) → IsFileFront format id at bytes file rest → ⊥
 
--- files, behind an id and an address
+-- files, after an id and an address
 abbrev pub files_from : Format → ℕ → ℕ → List FileEntry → List ℕ
 files_from format id at [] = []
 files_from format id at (file ∷ files) = file_bytes format id at file ++ files_from format (file.id + 1) (file.base + file.len) files
@@ -249,7 +249,7 @@ pub record AreAllEntries (format : Format) (first next : ℕ) (files : List File
   pub entries : AreEntries format first next files terms
   pub covered : (p : ℕ) → is_of_files files p ≡ true → is_covered terms p ≡ true
 
--- the bytes are all terms of the files, and nothing behind them
+-- the bytes are all terms of the files, and nothing after them
 pub record AreTermBytes (format : Format) (first next number : ℕ) (files : List FileEntry) (whole : List ℕ) (terms : List TermEntry) : Type 0 where
   pub all : AreAllEntries format first next files terms
   pub count : length terms ≡ number

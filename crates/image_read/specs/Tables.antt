@@ -19,17 +19,17 @@ IsRangeOf range files = AllByRecursion (LiesIn range) files
 abbrev pub last_term : List TermEntry → Option (List ℕ)
 last_term terms = option_map (λ (e : TermEntry). e.term) (last_entry terms)
 
--- the term may stand behind the last one
+-- the term may come after the last one
 abbrev pub MayFollow : Option (List ℕ) → List ℕ → Type 0
 MayFollow last term = IfSome last (λ l. ComesBefore l term)
 
--- the bytes begin with a term that may stand behind the last one
+-- the bytes begin with a term that may come after the last one
 pub record IsTermFront (format : Format) (last : Option (List ℕ)) (whole term : List ℕ) (as_role : Role) (rest : List ℕ) : Type 0 where
   pub text : IsTextFront format whole term rest
   pub role : HasRole term as_role
   pub follows : MayFollow last term
 
--- the bytes begin with no term that may stand behind the last one
+-- the bytes begin with no term that may come after the last one
 abbrev pub HasNoTerm : Format → Option (List ℕ) → List ℕ → Type 0
 HasNoTerm format last bytes = (text : List ℕ) (role : Role) (rest : List ℕ) → IsTermFront format last bytes text role rest → ⊥
 

@@ -9,7 +9,7 @@ use image_file::Format;
 use posting_code::{PostingList, PostingMaker};
 use std::alloc::{AllocError, Global};
 
-/// The addresses of a term at the front of some bytes, and what stands behind them.
+/// The addresses of a term at the front of some bytes, and what comes after them.
 #[derive(Drop)]
 pub(crate) struct AddressesFront<'a> {
     pub(crate) list: PostingList,

@@ -12,7 +12,7 @@ use gcl_model::Bytes;
 use image_file::Format;
 use std::alloc::{AllocError, Global};
 
-/// A file at the front of some bytes, and what stands behind it.
+/// A file at the front of some bytes, and what comes after it.
 #[derive(Clone, Copy)]
 struct FileFront<'a> {
     id: u64,
@@ -29,7 +29,7 @@ struct Least {
     base: u64,
 }
 
-/// All files of an image, and what stands behind them.
+/// All files of an image, and what comes after them.
 #[derive(Drop)]
 pub(crate) struct FilesFront<'a> {
     pub(crate) files: FileRun,
@@ -98,7 +98,7 @@ fn record_of(alloc: Global, file: FileFront<'_>) -> Result<FileRecord, AllocErro
     })
 }
 
-/// The file at the front of some bytes, behind an id and an address.
+/// The file at the front of some bytes, after an id and an address.
 fn file_in_front<'a>(format: Format, least: Least, bytes: &'a [u8]) -> Option<FileFront<'a>>
     requires id { least.id ≤ address_end }
     requires base { least.base ≤ address_end }

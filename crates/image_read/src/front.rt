@@ -4,14 +4,14 @@ ghost use Rattle.image_read.specs.Reading.{IsFixed, IsPacked, HasNoPacked, IsTex
 use byteorder::{ByteOrder, LittleEndian};
 use posting_code::get_number;
 
-/// A number at the front of some bytes, and what stands behind it.
+/// A number at the front of some bytes, and what comes after it.
 #[derive(Clone, Copy)]
 pub(crate) struct NumberFront<'a> {
     pub(crate) value: u64,
     pub(crate) rest: &'a [u8],
 }
 
-/// Some bytes at the front of others, and what stands behind them.
+/// Some bytes at the front of others, and what comes after them.
 #[derive(Clone, Copy)]
 pub(crate) struct TextFront<'a> {
     pub(crate) text: &'a [u8],

@@ -16,7 +16,7 @@ pub(crate) struct Head {
     pub(crate) files: u64,
 }
 
-/// The head of an image, and what stands behind it.
+/// The head of an image, and what comes after it.
 #[derive(Clone, Copy)]
 pub(crate) struct HeadFront<'a> {
     pub(crate) head: Head,
@@ -49,7 +49,7 @@ pub(crate) fn head_in_front(bytes: &[u8]) -> Option<HeadFront<'_>>
     })
 }
 
-/// The version of the format, and what stands behind its mark.
+/// The version of the format, and what comes after its mark.
 #[derive(Clone, Copy)]
 struct MarkFront<'a> {
     format: Format,

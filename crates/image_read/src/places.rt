@@ -27,7 +27,7 @@ pub(crate) struct Places<'a> {
     // how many addresses the files before each one have
     before: Vec<usize>,
     seen: Marks,
-    // The file of the address that was seen last. The next one is nearly always in it or in the one behind it.
+    // The file of the address that was seen last. The next one is nearly always in it or in the one after it.
     near: usize,
 }
 
@@ -133,7 +133,7 @@ impl<'a> Places<'a> {
     }
 }
 
-/// The file at a place or the one behind it, whichever has the address.
+/// The file at a place or the one after it, whichever has the address.
 fn file_near(files: &[SharedRecord], place: usize, address: u64) -> Option<usize>
     requires { IsFileRun files.now }
     ensures value { IfSome result (λ i. i ≡ prefix_len (ends_by address) files.now) }

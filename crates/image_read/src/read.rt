@@ -48,7 +48,7 @@ fn found_in(alloc: Global, bytes: &[u8]) -> Result<Option<Version>, AllocError>
     Ok(version)
 }
 
-/// The version with these files and the terms behind them.
+/// The version with these files and the terms after them.
 fn version_of(
     alloc: Global,
     head: Head,

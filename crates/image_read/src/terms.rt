@@ -17,7 +17,7 @@ use std::alloc::{AllocError, Global};
 use std::cmp::Ordering;
 use word_tokens::is_token;
 
-/// A term at the front of some bytes, its role, and what stands behind it.
+/// A term at the front of some bytes, its role, and what comes after it.
 #[derive(Clone, Copy)]
 struct TermFront<'a> {
     text: &'a [u8],
@@ -25,7 +25,7 @@ struct TermFront<'a> {
     rest: &'a [u8],
 }
 
-/// As many terms as the bytes say and nothing behind them, where the words of all terms fill the places.
+/// As many terms as the bytes say and nothing after them, where the words of all terms fill the places.
 pub(crate) fn read_terms(
     alloc: Global,
     head: Head,
@@ -68,7 +68,7 @@ fn is_end(rest: &[u8], places: &Places<'_>) -> bool
     rest.is_empty() && places.is_full()
 }
 
-/// Puts the next term with its addresses behind the others.
+/// Puts the next term with its addresses after the others.
 fn next_term<'a>(
     alloc: Global,
     head: Head,
@@ -101,7 +101,7 @@ fn next_term<'a>(
     }))
 }
 
-/// The term at the front of some bytes, where it comes behind the last one.
+/// The term at the front of some bytes, where it comes after the last one.
 fn term_in_front<'a>(
     format: Format,
     last: Option<&'a [u8]>,
@@ -122,7 +122,7 @@ fn term_in_front<'a>(
     })
 }
 
-/// Whether the term comes behind the last one, if there is one.
+/// Whether the term comes after the last one, if there is one.
 fn comes_behind(last: Option<&[u8]>, term: &[u8]) -> bool
     ensures { IsTrue result ↔ IfSome (option_map (λ t. t.now) last.entry) (λ l. ComesBefore l term.now) }
 {

@@ -11,7 +11,7 @@ use Rattle.index_shard.specs.Kept.{leading, AreBytes}
 later : (x : ℕ) (xs : List ℕ) → AreBytes (x ∷ xs) → AreBytes xs
 later x xs bytes = λ k. bytes (suc k)
 
--- a lower number stays lower, whatever bytes are read behind it
+-- a lower number stays lower, whatever bytes are read after it
 lower : (n h k : ℕ) (a b : List ℕ) → AreBytes a → h < k → leading n h a < leading n k b
 lower zero h k a b bytes lt = lt
 lower (suc n) h k [] [] bytes lt = lower n (h * 256) (k * 256) [] [] bytes (omega (arith, lt))

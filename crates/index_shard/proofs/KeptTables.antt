@@ -72,7 +72,7 @@ kept_parted bytes packed long term head es i bs ts is kept le parted =
       λ k f low lt. let within : k < length es = omega (arith, lt, reach) in sym (order_here bytes packed long term head es k no_entry f bs ts is kept within) ∙ parted.1 k no_entry low within,
     )
 
--- what stands in a row stays there when more is put behind
+-- what stands in a row stays there when more is added at the end
 part_more : (bytes more : List ℕ) (start size : ℕ) → start + size ≤ length bytes → part_of (bytes ++ more) start size ≡ part_of bytes start size
 part_more bytes more start size le =
     let long = length-drop start bytes in
@@ -89,11 +89,11 @@ still_list packed p long l (Short first last at size count) is =
     (omega (arith, within, wide), subst (λ part. IsKeptTo last count first part []) (sym (part_more packed p at size is.0)) is.1)
 still_list packed p long l (Long place) is = let wide = length-append long l in omega (arith, is, wide)
 
--- the entries behind the first
+-- the entries after the first
 rest_kept : (bytes packed : List ℕ) (long : List (List ℕ)) (e : Entry) (es : List Entry) → AreKeptIn bytes packed long (e ∷ es) → AreKeptIn bytes packed long es
 rest_kept bytes packed long e es are = record { terms = are.terms.1; lists = are.lists.1 }
 
--- what is put behind the rows changes no entry
+-- what is put after the rows changes no entry
 pub table_more : (bytes b packed p : List ℕ) (long l : List (List ℕ)) (es : List Entry) → AreKeptIn bytes packed long es → table_in (bytes ++ b) (packed ++ p) (long ++ l) es ≡ table_in bytes packed long es
 table_more bytes b packed p long l [] are = refl
 table_more bytes b packed p long l (e ∷ es) are =
@@ -151,7 +151,7 @@ kept_here bytes packed long es i e are lt is = (
   subst (λ (k : Entry). IsListIn packed long k.list) (sym is) (all_at (λ (k : Entry). IsListIn packed long k.list) es i e are.lists lt),
 )
 
--- one entry more, whose term and addresses stand behind what the rows had
+-- one entry more, whose term and addresses come after what the rows had
 pub record IsPushed (bytes packed : List ℕ) (long : List (List ℕ)) (es : List Entry) (table : List TermEntry) (term addresses : List ℕ) : Type 0 where
   pub kept : AreKeptIn bytes packed long es
   pub is : table_in bytes packed long es ≡ table ++ record { term = term; addresses = addresses } ∷ []
@@ -176,7 +176,7 @@ pushed_here bytes packed p long l es table term addresses list same are is withi
           ∙ ap (λ (a : List ℕ). table ++ term_entry term a ∷ []) is;
     }
 
--- a row that begins as another one is that one, with more behind
+-- a row that begins as another one is that one, with more after it
 front_split : {X : Type 0} (xs ys : List X) → take (length xs) ys ≡ xs → ys ≡ xs ++ drop (length xs) ys
 front_split xs ys is = sym (take-append-drop (length xs) ys) ∙ ap (λ front. front ++ drop (length xs) ys) is
 
@@ -196,7 +196,7 @@ pushed bytes packed long es table term addresses list bytes' packed' long' more 
     (subst (λ q. IsPushed (bytes ++ term) (packed ++ p) (long ++ l) q table term addresses) (sym more_is)
     (pushed_here bytes packed p long l es table term addresses list same are is_there stands))))
 
--- no entry more, whatever was put behind the rows
+-- no entry more, whatever was put after the rows
 pub record IsUnchanged (bytes packed : List ℕ) (long : List (List ℕ)) (es : List Entry) (table : List TermEntry) : Type 0 where
   pub kept : AreKeptIn bytes packed long es
   pub is : table_in bytes packed long es ≡ table
@@ -220,7 +220,7 @@ itself xs = take_all (length xs) xs (le_refl (length xs))
 pub behind_front : {X : Type 0} (xs ys zs : List X) → zs ≡ xs ++ ys → take (length xs) zs ≡ xs
 behind_front xs ys zs is = ap (take (length xs)) is ∙ take-append_seam xs ys
 
--- a list behind the others is at the place that was their number
+-- a list after the others is at the place that was their number
 pub long_here : (packed : List ℕ) (long more : List (List ℕ)) (list : List ℕ) (place : ℕ) → place ≡ length long → more ≡ long ++ list ∷ [] → (list_in packed more (Long place) ≡ list) × IsListIn packed more (Long place)
 long_here packed long more list place place_is more_is =
     let seam : length long + 0 ≡ place = omega (arith, place_is) in
@@ -229,7 +229,7 @@ long_here packed long more list place place_is more_is =
       omega (arith, wide, place_is),
     )
 
--- addresses whose differences were put behind the others
+-- addresses whose differences were put after the others
 pub short_here : (list packed more : List ℕ) (first last at size count : ℕ) → ArePostings list → length list ≤ 64 → at ≡ length packed → size ≡ length (packed_of list) → count ≡ length list → first ≡ get_or list 0 0 → last ≡ last_of list →
     more ≡ packed ++ packed_of list → IsPutShort more list (Short first last at size count)
 short_here list packed more first last at size count rising few at_is size_is counted first_is last_is more_is =

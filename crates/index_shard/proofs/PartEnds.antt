@@ -1,4 +1,4 @@
--- Lists that are put behind each other.
+-- Lists that are put one after another.
 use Rattle.std.proofs.Common.{◌≡◌, ℕ, ◌+◌, ◌<◌, ◌≤◌, ◌^◌, List, [], ◌++◌, length, get_or, sym, ap, ◌∙◌, subst, arith}
 use Rattle.std.proofs.lemmas.List.{append-nil, get_or_append_left, length-append, nil_from_length}
 use Rattle.posting_code.specs.Postings.{ArePostings}
@@ -12,18 +12,18 @@ use Rattle.index_shard.specs.declared.parts.Ends.{Ends}
 pub ends_none : (ends : Ends) → ends.first ≡ 0 → ends.last ≡ 0 → ends.count ≡ 0 → AreEndsOf ends []
 ends_none ends first last count = record { first = first; last = last; count = count }
 
--- where nothing comes behind
+-- where nothing comes after it
 pub ends_same : (ends : Ends) (front list : List ℕ) → AreEndsOf ends front → 0 ≡ length list → AreEndsOf ends (front ++ list)
 ends_same ends front list are none = subst (AreEndsOf ends) (sym (ap (λ l. front ++ l) (nil_from_length list (sym none)) ∙ append-nil front)) are
 
--- where a list comes behind nothing
+-- where a list comes after nothing
 pub ends_begin : (ends more : Ends) (front list : List ℕ) → AreEndsOf ends front → ends.count ≡ 0 → more.first ≡ get_or list 0 0 → more.last ≡ last_of list → more.count ≡ length list → AreEndsOf more (front ++ list)
 ends_begin ends more front list are none first last count =
     let counted = are.count in
     let empty : front ≡ [] = nil_from_length front (omega (arith, counted, none)) in
     subst (λ f. AreEndsOf more (f ++ list)) (sym empty) record { first = first; last = last; count = count }
 
--- and behind others
+-- and after others
 pub ends_more : (ends more : Ends) (front list : List ℕ) → AreEndsOf ends front → 0 < ends.count → 0 < length list → more.first ≡ ends.first → more.last ≡ last_of list → more.count ≡ ends.count + length list → AreEndsOf more (front ++ list)
 ends_more ends more front list are some some_more first last count =
     let counted = are.count in

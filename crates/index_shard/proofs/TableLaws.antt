@@ -29,7 +29,7 @@ before_last : (x y : TermEntry) (ys : List TermEntry) (e : TermEntry) → AllByR
 before_last x y [] e all before = nat_list_cmp_total.trans x.term y.term e.term all.0.terms before
 before_last x y (z ∷ zs) e all before = before_last x z zs e all.1 before
 
--- an entry whose term comes last, with addresses of its own, goes behind
+-- an entry whose term comes last, with addresses of its own, goes at the end
 pub table_push : (range : SlotRange) (es : List TermEntry) (e : TermEntry) → IsTable range es → ArePostingsIn range e.addresses →
     IfSome (last_entry es) (λ last. ComesBefore last.term e.term) → AllByRecursion (λ d. AreApart d.addresses e.addresses) es → IsTable range (es ++ e ∷ [])
 table_push range [] e table postings before apart = (postings, tt, tt)

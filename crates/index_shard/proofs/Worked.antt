@@ -49,7 +49,7 @@ place_of-missing = refl
 addresses_at-last : addresses_at hamlet 3 ≡ 1 ∷ 5 ∷ []
 addresses_at-last = refl
 
--- the least term from a bound on, above it, and behind the last
+-- the least term from a bound on, above it, and after the last
 least_term-from : least_term hamlet (codes "bee") false ≡ Some (codes "not")
 least_term-from = refl
 

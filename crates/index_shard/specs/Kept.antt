@@ -12,8 +12,8 @@ use Rattle.index_shard.specs.declared.entry.Kept.{Kept}
 use Rattle.index_shard.specs.declared.entry.Kept.TheVariants.{Short, Long}
 use Rattle.index_shard.specs.declared.parts.Ends.{Ends}
 
--- a number and the next n bytes behind it, read as one number in base 256, with a 0 for each byte that is not there:
--- two bytes of "be" behind 0 give 98 * 256 + 101
+-- a number and the next n bytes after it, read as one number in base 256, with a 0 for each byte that is not there:
+-- two bytes of "be" after 0 give 98 * 256 + 101
 abbrev pub leading : ℕ → ℕ → List ℕ → ℕ
 leading zero before bytes = before
 leading (suc n) before [] = leading n (before * 256) []
@@ -70,6 +70,6 @@ pub record IsPutShort (packed : List ℕ) (addresses : List ℕ) (list : Kept) :
   pub is : (long : List (List ℕ)) → list_in packed long list ≡ addresses
   pub within : (long : List (List ℕ)) → IsListIn packed long list
 
--- the entry of a term that is put behind the bytes
+-- the entry of a term that is put after the bytes
 abbrev pub kept_entry : List ℕ → List ℕ → Kept → Entry
 kept_entry bytes term list = record { head = leading 8 0 term; start = length bytes; size = length term; list = list }

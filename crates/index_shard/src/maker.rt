@@ -34,6 +34,7 @@ impl ShardMaker {
         ensures range { result.range ≡ range }
         ensures table { result.table ≡ [] }
     {
+        // any look at a range tells that it is one
         let _ = &range.first;
         ShardMaker {
             range,
@@ -48,7 +49,7 @@ impl ShardMaker {
         self.table.reserve(room)
     }
 
-    /// Puts a term with its postings behind the others.
+    /// Puts a term with its postings after the others.
     pub fn push_term(&mut self, term: &[u8], addresses: &[u64]) -> Result<(), AllocError>
         requires rising { IfSome (last_entry self.old.table) (λ last. ComesBefore last.term term.now) }
         requires postings { ArePostingsIn self.old.range addresses.now }
@@ -60,7 +61,7 @@ impl ShardMaker {
         self.push_list(term, postings)
     }
 
-    /// Puts a term behind the others with postings that are handed over.
+    /// Puts a term after the others with postings that are handed over.
     pub fn push_list(&mut self, term: &[u8], postings: PostingList) -> Result<(), AllocError>
         requires rising { IfSome (last_entry self.old.table) (λ last. ComesBefore last.term term.now) }
         requires postings { ArePostingsIn self.old.range postings }
@@ -72,7 +73,7 @@ impl ShardMaker {
         Ok(())
     }
 
-    /// The same with the postings of several lists, each behind those before, and the first bytes of the term as a number, as `head_of` gives
+    /// The same with the postings of several lists, each after those before, and the first bytes of the term as a number, as `head_of` gives
     /// it. None of the lists is unpacked.
     #[inline]
     pub fn push_parts(

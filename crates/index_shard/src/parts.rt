@@ -7,7 +7,7 @@ use crate::entry::{Entry, Kept};
 use posting_code::{PostingList, PostingMaker, Postings, put_joined};
 use std::alloc::{AllocError, Global};
 
-/// The first and the last member of some lists behind each other, and how many they have.
+/// The first and the last member of some lists one after another, and how many they have.
 #[derive(Clone, Copy)]
 pub(crate) struct Ends {
     pub(crate) first: u64,
@@ -35,7 +35,7 @@ pub(crate) fn ends_of(lists: &[Postings<'_>]) -> Ends
     ends
 }
 
-/// The ends of some addresses and of those behind them.
+/// The ends of some addresses and of those after them.
 #[inline]
 fn ends_behind(ends: Ends, list: &Postings<'_>) -> Ends
     requires { (front : List ℕ) × AreEndsOf ends front × ArePostings (front ++ list.now) }
@@ -57,7 +57,7 @@ fn ends_behind(ends: Ends, list: &Postings<'_>) -> Ends
     }
 }
 
-/// Puts the packed differences of up to 64 addresses behind those of others, and gives where they stand.
+/// Puts the packed differences of up to 64 addresses after those of others, and gives where they stand.
 #[inline]
 pub(crate) fn put_short(
     packed: &mut Vec<u8>,
@@ -94,7 +94,7 @@ pub(crate) fn one_list(alloc: Global, lists: &[Postings<'_>]) -> Result<PostingL
     Ok(maker.finish())
 }
 
-/// Puts an entry behind the others, and its term behind the bytes of theirs.
+/// Puts an entry after the others, and its term after the bytes of theirs.
 #[inline]
 pub(crate) fn put_entry(
     bytes: &mut Vec<u8>,

@@ -53,7 +53,7 @@ impl TermTable {
         *self.entries.allocator()
     }
 
-    /// Puts a term with its postings behind the others. A long list is moved, and a short one copied.
+    /// Puts a term with its postings after the others. A long list is moved, and a short one copied.
     pub(crate) fn push(&mut self, term: &[u8], postings: PostingList) -> Result<(), AllocError>
         ensures ok { OnOk result (self.new ≡ self.old ++ record { term = term.now; addresses = postings } ∷ []) }
         ensures err { OnErr result (self.new ≡ self.old) }
@@ -66,7 +66,7 @@ impl TermTable {
         Ok(())
     }
 
-    /// The same with the postings of several lists, each behind those before, and the first bytes of the term as a number. None is unpacked.
+    /// The same with the postings of several lists, each after those before, and the first bytes of the term as a number. None is unpacked.
     #[inline]
     pub(crate) fn push_parts(
         &mut self,

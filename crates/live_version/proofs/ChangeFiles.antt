@@ -77,7 +77,7 @@ none_passes t (x ∷ xs) e = here (t x) refl e (none_passes t xs)
     here true is e rest = absurd cc
     here false is e rest = (is, rest e)
 
--- the files behind the one with the id
+-- the files after the one with the id
 sorted_behind : (id : ℕ) (gone : FileEntry) (files : List FileEntry) → has_id id gone ≡ true → AllByRecursion (Precedes gone) files → AllByRecursion (IsSorted id gone) files
 sorted_behind id gone [] e h = tt
 sorted_behind id gone (file ∷ files) e h = (
@@ -208,7 +208,7 @@ before_at (file ∷ files) (suc i) d run lt = (at files i run.1 (omega arith), b
     at (other ∷ others) zero h lt = h.0
     at (other ∷ others) (suc k) h lt = at others k h.1 (omega arith)
 
--- the next file goes behind those that survive of the ones before it
+-- the next file goes after those that survive of the ones before it
 pub next_survivor : (id : ℕ) (files : List FileEntry) (i : ℕ) (file : FileEntry) (d : FileEntry) → IsFileRun files → i < length files → file ≡ get_or files i d → IfSome (last_file (filter (survives id) (take i files))) (λ last. Precedes last file)
 next_survivor id files i file d run lt e =
     subst (λ f. IfSome (last_file (filter (survives id) (take i files))) (λ last. Precedes last f)) (sym e)

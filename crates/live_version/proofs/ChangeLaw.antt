@@ -7,7 +7,7 @@ use Rattle.gcl_model.specs.Collections.{Collection, File, file_end, with_boundar
 use Rattle.live_version.specs.Laws.{StandsForOne}
 use Rattle.live_version.specs.StandsFor.{entry_of}
 
--- tokens that are as many, and what stands behind them
+-- tokens that are as many, and what comes after them
 record AreSplit (ts us : List (List ℕ)) (l r : List Word) : Type 0 where
   tokens : ts ≡ us
   rest : l ≡ r

@@ -60,7 +60,7 @@ file_missed files id i parted =
       | inr h ↦ greater_differs (get_or files k d).id id (parted.1 k d h lt)
     ])
 
--- the slot at a place, with what is behind it
+-- the slot at a place, with what is after it
 pub files_from : (slots : List SlotContent) (i : ℕ) (slot : SlotContent) → i < length slots → slot ≡ get_or slots i slot → files_of (drop i slots) ≡ slot.files ++ files_of (drop (i + 1) slots)
 files_from [] i slot lt is = absurd (omega arith)
 files_from (x ∷ xs) zero slot lt is = ap (λ (s : SlotContent). s.files ++ files_of xs) (sym is)

@@ -179,7 +179,7 @@ module _ (mask : List SlotRange) (low end : ℕ) (ps : List ℕ) (k p : ℕ) (de
   bounds : (dead.first ≤ p) × (p ≤ dead.last)
   bounds = is_within-bounds dead p (dead_range-within mask p dead met)
 
-  -- behind the dead range the search goes on
+  -- after the dead range the search goes on
   pub next_dead : find (λ q. leb k q) ps ≡ Some p → find (λ q. leb k q) (filter (is_alive mask) ps) ≡ find (λ q. leb (dead.last + 1) q) (filter (is_alive mask) ps)
   next_dead e =
       let from : k ≤ p = leb-true k p (found_passes (λ q. leb k q) p ps e) in

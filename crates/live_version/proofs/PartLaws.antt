@@ -49,7 +49,7 @@ no_words_without (slot ∷ slots) are none =
 pub words_are_of_files : WordsAreOfFiles
 words_are_of_files v is none = no_words_without v.slots is.slots none
 
--- words at addresses of a range, behind it and before it
+-- words at addresses of a range, after it and before it
 words_within : (range : SlotRange) (next low : ℕ) (words : List Word) → AreRisingBelow next low words → range.first ≤ low → next ≤ range.last + 1 → AllByRecursion (λ w. is_within range w.address ≡ true) words
 words_within range next low [] r from to = tt
 words_within range next low (w ∷ ws) r from to =
@@ -74,7 +74,7 @@ files_begin low end (slot ∷ slots) r are =
     (all_weaker (LiesIn slot.range) (λ file. low ≤ file.base) (λ file lies. let begins : slot.range.first ≤ file.base = lies.0 in omega arith) slot.files are.0.files)
     (all_weaker (λ file. slot.range.last + 1 ≤ file.base) (λ file. low ≤ file.base) (λ file begins. omega arith) (files_of slots) (files_begin (slot.range.last + 1) end slots r.3 are.1))
 
--- a slot at a place begins behind what is before all slots
+-- a slot at a place begins after what is before all slots
 slot_begins : (low end : ℕ) (slots : List SlotContent) (i : ℕ) (slot : SlotContent) → AreRangesWithin low end (ranges_of slots) → slice_get slots i ≡ Some slot → low ≤ slot.range.first
 slot_begins low end [] zero slot r at = absurd cc
 slot_begins low end [] (suc i) slot r at = absurd cc

@@ -81,7 +81,7 @@ next_from (slot ∷ slots) term k all =
       | inr f ↦ rw f refl
     ]
 
--- those that begin behind an address have none of the words up to it
+-- those that begin after an address have none of the words up to it
 pub previous_upto : (low end : ℕ) (slots : List SlotContent) (term : List ℕ) (k : ℕ) → AreRangesWithin low end (ranges_of slots) → AllByRecursion IsSlot slots →
     previous_place (live_of (take (prefix_len (λ slot. leb slot.range.first k) slots) slots)) term k ≡ previous_place (live_of slots) term k
 previous_upto low end [] term k r all = refl
@@ -166,7 +166,7 @@ pub previous_in_rest : (slots : List SlotContent) (slot : SlotContent) (term : L
     previous_place (live_of (slots ++ slot ∷ [])) term k ≡ previous_place (live_of slots) term k
 previous_in_rest slots slot term k none = previous_push slots slot term k ∙ ap (λ o. later_or o (previous_place (live_of slots) term k)) (sym none)
 
--- the slot at a place, with what is behind it and before it
+-- the slot at a place, with what is after it and before it
 pub take_here : (slots : List SlotContent) (i : ℕ) (slot : SlotContent) → i < length slots → slot ≡ get_or slots i slot → take (suc i) slots ≡ take i slots ++ slot ∷ []
 take_here [] i slot lt is = absurd (omega arith)
 take_here (x ∷ xs) zero slot lt is = ap (λ s. s ∷ []) (sym is)

@@ -46,7 +46,7 @@ impl Version {
         Ok(Version::of(opening(first, next, next_id), slots))
     }
 
-    /// The version with one file more, in a slot of its own behind the others.
+    /// The version with one file more, in a slot of its own after the others.
     pub fn with_file(&self, file: FileRecord, shard: Shard) -> Result<Version, AllocError>
         requires few { length self.now.slots < most_slots }
         requires id { file.id ≡ self.now.next_id }

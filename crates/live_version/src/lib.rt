@@ -10,8 +10,8 @@
 //! read slots and files, and ask how many slots at the end become one. Where the file at 0 to 7 is deleted, the next
 //! `</file!>` from 0 on is that of the file at 8 to 9.
 //!
-//! The search itself goes over `LookUp`: one term, in whatever way it is found in the slots' indexes, and a counter that
-//! only the caller can make.
+//! The search itself goes over `LookUp`: one term, in whatever way it is found in the slots' indexes, and a counter
+//! that only the caller can make.
 #![tactic(auto)]
 
 mod alive;

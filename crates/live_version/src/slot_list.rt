@@ -10,7 +10,7 @@ use address_space::{FileRecord, FileRun};
 use index_shard::Shard;
 use std::alloc::{AllocError, Global};
 
-/// The slots once more, behind those that are there. Their parts are shared.
+/// The slots once more, after those that are there. Their parts are shared.
 pub(crate) fn push_copies(into: &mut Vec<Slot>, slots: &[Slot]) -> Result<(), AllocError>
     ensures { OnOk result (into.new.items ≡ into.old.items ++ slots.now) }
 {
@@ -20,7 +20,7 @@ pub(crate) fn push_copies(into: &mut Vec<Slot>, slots: &[Slot]) -> Result<(), Al
     Ok(())
 }
 
-/// The slot, if there is one, behind those that are there.
+/// The slot, if there is one, after those that are there.
 pub(crate) fn push_option(into: &mut Vec<Slot>, slot: Option<Slot>) -> Result<(), AllocError>
     ensures ok { OnOk result (into.new.items ≡ into.old.items ++ option_to_list slot) }
     ensures slot { IfSome slot IsSlot }
@@ -34,7 +34,7 @@ pub(crate) fn push_option(into: &mut Vec<Slot>, slot: Option<Slot>) -> Result<()
     Ok(())
 }
 
-/// The slots, and this one behind them.
+/// The slots, and this one after them.
 pub(crate) fn with_last(alloc: Global, slots: &[Slot], slot: Slot) -> Result<Vec<Slot>, AllocError>
     ensures { IfOk result (λ list. list.items ≡ slots.now ++ slot ∷ []) }
 {

@@ -65,7 +65,7 @@ marked_both (b ∷ rest) =
 marked_all : (text : List ℕ) → refusals text ≡ marked_from true text
 marked_all text = (marked_both text).0
 
--- a byte behind a text
+-- a byte after a text
 marked-snoc : (begins : Bool) (text : List ℕ) (b : ℕ) → marked_from begins (text ++ b ∷ []) ≡ marked_from begins text + marks (begins_behind begins text) b
 marked-snoc begins [] b = omega arith
 marked-snoc begins (c ∷ rest) b = let later = marked-snoc (c == 10) rest b in omega (arith, later)
@@ -77,7 +77,7 @@ begins-snoc begins (c ∷ rest) b = begins-snoc (c == 10) rest b
 sum-snoc : (text : List ℕ) (b : ℕ) → sum (text ++ b ∷ []) ≡ sum text + b
 sum-snoc text b = sum_by-append (λ x. x) text (b ∷ []) ∙ omega arith
 
--- the numbers of a text with a byte behind it
+-- the numbers of a text with a byte after it
 pub counts-snoc : (counts : Counts) (text : List ℕ) (b : ℕ) → AreCountsOf counts text → AreCountsOf (counts_with counts b) (text ++ b ∷ [])
 counts-snoc counts text b are = record {
   refused = ap (λ n. n + marks counts.begins b) (are.refused ∙ marked_all text) ∙ ap (λ t. marked_from true text + marks t b) are.begins

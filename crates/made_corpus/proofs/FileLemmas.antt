@@ -17,7 +17,7 @@ cut-long contents most name whole out is long cut = (
   },
 )
 
--- the bytes of an entry, or what is found behind it
+-- the bytes of an entry, or what is found after it
 kept_or : (b : Bool) (name bytes : List ℕ) (rest : Option (List ℕ × List ℕ)) (made : Option (List ℕ)) →
     option_or (option_map (λ entry. entry.1) (cond b (Some (name, bytes)) rest)) made ≡ cond b (Some bytes) (option_or (option_map (λ entry. entry.1) rest) made)
 kept_or true name bytes rest made = refl

@@ -5,7 +5,7 @@ use Rattle.std.proofs.lemmas.List.{append-nil}
 use Rattle.made_corpus.specs.Draws.{next_state, draw}
 use Rattle.made_corpus.specs.MadeFiles.{items_from, item_from, content_from, HasDrawn}
 
--- texts, each behind a space
+-- texts, each after a space
 abbrev pub behind_spaces : List (List ℕ) → List ℕ
 behind_spaces = flat_map (λ text. 32 ∷ text)
 
@@ -25,7 +25,7 @@ content-begun state begun after later left out out_1 is all next put =
     ap (join_with_byte 32) items ∙ joined first (items_from left (item_from begun).state) ∙ ap (λ s. first ++ behind_spaces (items_from left s)) (sym put.state) in
     ap (λ text. text ++ behind_spaces (items_from left after)) put.text ∙ append_assoc out first (behind_spaces (items_from left after)) ∙ ap (λ text. out ++ text) (sym content)
 
--- one item more is written, behind a space
+-- one item more is written, after a space
 pub content-step : (n m state after : ℕ) (out out_1 out_2 whole : List ℕ) → n ≡ suc m → out_1 ≡ out ++ 32 ∷ [] → HasDrawn (item_from state) out_1 out_2 after →
     out ++ behind_spaces (items_from n state) ≡ whole → out_2 ++ behind_spaces (items_from m after) ≡ whole
 content-step n m state after out out_1 out_2 whole is space put was =

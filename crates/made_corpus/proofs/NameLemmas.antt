@@ -50,7 +50,7 @@ no_number said i none some = cc
 one_number : (said : Option ℕ) (n i : ℕ) → said ≡ Some n → said ≡ Some i → n ≡ i
 one_number said n i some other = cc
 
--- what is behind the m is no number
+-- what is after the m is no number
 pub file_named-no_number : (count : ℕ) (name : List ℕ) (said : Option ℕ) → count < 2 ^ 64 → said ≡ None →
     ((n : ℕ) → n < 2 ^ 64 → take (length name - 1) (drop 1 name) ≡ decimal n → said ≡ Some n) → file_named count name ≡ None
 file_named-no_number count name said fits none each =

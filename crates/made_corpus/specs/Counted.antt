@@ -16,7 +16,7 @@ counts_with counts b = record {
   begins = b == 10;
 }
 
--- whether a byte behind the text begins a line, where it does so before the text or not
+-- whether a byte after the text begins a line, where it does so before the text or not
 abbrev pub begins_behind : Bool → List ℕ → Bool
 begins_behind begins [] = begins
 begins_behind begins (b ∷ rest) = begins_behind (b == 10) rest

@@ -80,7 +80,7 @@ impl Sink for SummarySink {
     }
 }
 
-/// A number behind its name, on a line of its own.
+/// A number after its name, on a line of its own.
 fn put_line(out: &mut Vec<u8>, name: &[u8], n: u64) -> Result<(), AllocError>
     ensures { OnOk result (out.new.items ≡ out.old.items ++ name.now ++ decimal n ++ 10 ∷ []) }
 {

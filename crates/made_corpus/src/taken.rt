@@ -41,7 +41,7 @@ impl Taken {
         Taken { last: Last::None }
     }
 
-    /// These bytes, and one behind them.
+    /// These bytes, and one after them.
     pub(crate) fn with(&self, byte: u8) -> Taken
         ensures { result ≡ self.now ++ byte ∷ [] }
     {

@@ -2,9 +2,10 @@
 use Rattle.std.proofs.Common.{◌≡◌, ◌≢◌, ℕ, ◌+◌, Bool, true, false, MatchBool, List, [], ◌∷◌, ◌++◌, length, ap, sym, ◌∙◌, subst, arith, inl, inr}
 use mathlib.Core.List.{IsPrefix}
 use Rattle.live_version.specs.Contents.{VersionContent}
+use Rattle.gcl_model.proofs.Lists.{all_weaker}
 use Rattle.manifest_publish.specs.Accounts.{Account, EndsWith, IsOwed, GoesOn, BeginWith, MayEnter, reader_content}
 use Rattle.manifest_publish.specs.Tracked.{HasAll, IsTracked}
-use Rattle.manifest_publish.proofs.Prefixes.{prefix_self, prefix_trans, prefix_whole, all_weaker, all_snoc}
+use Rattle.manifest_publish.proofs.Prefixes.{prefix_self, prefix_trans, prefix_whole, all_snoc}
 use Rattle.manifest_publish.proofs.HistoryLemmas.{latest-number}
 
 snoc-some : {A : Type 0} (xs : List A) (x : A) → xs ++ x ∷ [] ≢ []
@@ -16,7 +17,7 @@ module _ (seen due kept : Account) (told : List (List VersionContent)) (learnt :
   pub goes_on : (history : List VersionContent) → IsPrefix due.history history → GoesOn (reader_content seen.publisher seen.history told kept.history) history
   goes_on history p = (
     prefix_trans seen.history due.history history t.seen_due p,
-    all_weaker (λ l. IsPrefix l due.history) (λ l. IsPrefix l history) told (λ l q. prefix_trans l due.history history q p) t.told_due,
+    all_weaker (λ l. IsPrefix l due.history) (λ l. IsPrefix l history) (λ l q. prefix_trans l due.history history q p) told t.told_due,
   )
 
   -- one more was told of, and what is due has grown by it
@@ -24,7 +25,7 @@ module _ (seen due kept : Account) (told : List (List VersionContent)) (learnt :
       → IsTracked seen longer kept (told ++ more.history ∷ []) true
   tracked-learnt more longer same p q = record {
     publishers = (same ∙ t.publishers.0, t.publishers.1);
-    told_due = all_snoc (λ l. IsPrefix l longer.history) told more.history (all_weaker (λ l. IsPrefix l due.history) (λ l. IsPrefix l longer.history) told (λ l r. prefix_trans l due.history longer.history r p) t.told_due) q;
+    told_due = all_snoc (λ l. IsPrefix l longer.history) told more.history (all_weaker (λ l. IsPrefix l due.history) (λ l. IsPrefix l longer.history) (λ l r. prefix_trans l due.history longer.history r p) told t.told_due) q;
     seen_due = prefix_trans seen.history due.history longer.history t.seen_due p;
     kept_seen = t.kept_seen;
     learns = snoc-some told more.history;

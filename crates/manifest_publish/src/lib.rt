@@ -9,12 +9,13 @@
 //! receipt to whom it concerns: who learns it sees that version or a later one. They publish what is a next version of the last,
 //! and know of two passes or receipts of one publisher that the shorter history begins the longer.
 //!
-//! After the opening version, one added file makes version 1. A reader that learns its receipt and enters gets version 1, and where
-//! two more files came meanwhile it may get version 3; its next pass has no lower number.
+//! After the opening version, one added file makes version 1. A reader that learns its receipt and enters gets version
+//! 1, and where two more files came meanwhile it may get version 3; its next pass has no lower number.
 //!
-//! The history is the log of a `logbook`, and what anyone knows of it is a token of that, which takes no memory and outlives all. The
-//! versions themselves go by a `left_right`, whose rule says whose version it shows. The writer of that learns this only by a
-//! publication, so `Publisher::new` makes one, and takes `rt` for it; but there is no reader yet to wait for.
+//! The history is the log of a `logbook`, and what anyone knows of it is a token of that, which takes no memory and
+//! outlives all. The versions themselves go by a `left_right`, whose rule says whose version it shows. The writer of
+//! that learns this only by a publication, so `Publisher::new` makes one, and takes `rt` for it; but there is no reader
+//! yet to wait for.
 #![tactic(auto)]
 
 mod found;

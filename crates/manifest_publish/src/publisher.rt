@@ -127,6 +127,7 @@ fn followed(last: &Pass, version: Arc<Version>, mark: Mark) -> Pass
     requires lawful { IsLawful (last.now.history ++ version.value ∷ []) }
     ensures { result ≡ account last.now.publisher (last.now.history ++ version.value ∷ []) }
 {
+    // the marks are compared so that the histories that they stand for are, too
     let _covers = mark.covers(last.mark());
     Pass::of(version, mark)
 }

@@ -41,7 +41,7 @@ fn differences_of(list: &Postings<'_>) -> u64 {
     size
 }
 
-/// Puts the members of a block behind what is there, and gives the least address that may come next. It ends early where one does not
+/// Puts the members of a block after what is there, and gives the least address that may come next. It ends early where one does not
 /// rise, which no list has.
 fn put_block(maker: &mut PostingMaker, least: u64, members: &[u64]) -> Result<u64, AllocError>
     requires rising { RiseWithin 0 least maker.old }
@@ -71,7 +71,7 @@ fn copied(alloc: Global, list: &Postings<'_>) -> Result<PostingList, AllocError>
     Ok(maker.finish())
 }
 
-/// Puts a copy of each long list behind the others, and gives what they have together.
+/// Puts a copy of each long list after the others, and gives what they have together.
 fn copy_long(
     alloc: Global,
     shard: &Shard,

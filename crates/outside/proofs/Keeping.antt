@@ -6,7 +6,7 @@ use Rattle.std.proofs.lemmas.Slice.Eq.{bytes_eq-Decides}
 use Rattle.std.specs.Option.{option_map}
 use Rattle.outside.specs.Contents.{Contents, ChangesOnly, changed_at, content_of, sure_content_of}
 
--- the content of an entry, or of what is found behind it
+-- the content of an entry, or of what is found after it
 content_or : (b : Bool) (name bytes : List ℕ) (rest : Option (List ℕ × List ℕ)) →
     option_map (λ entry. entry.1) (cond b (Some (name, bytes)) rest) ≡ cond b (Some bytes) (option_map (λ entry. entry.1) rest)
 content_or true name bytes rest = refl

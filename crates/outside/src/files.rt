@@ -18,7 +18,7 @@ pub enum Loaded {
 
 /// Contents by name.
 pub trait Files {
-    /// The content under each name, None where the files don't tell.
+    /// The content under each name, None where that is not known.
     ghost held: { Self → Option Contents };
 
     /// How often the files have failed.

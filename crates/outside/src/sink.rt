@@ -7,7 +7,7 @@ use std::alloc::Global;
 
 /// Takes bytes.
 pub trait Sink {
-    /// The bytes that were taken so far, None where the sink doesn't tell.
+    /// The bytes that were taken so far, None where they are not known.
     ghost written: { Self → Option (List ℕ) };
 
     /// How often the sink has failed.

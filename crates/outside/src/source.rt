@@ -9,7 +9,7 @@ use std::alloc::Global;
 
 /// Hands out bytes, to its end.
 pub trait Source {
-    /// The bytes that are left, None where the source doesn't tell.
+    /// The bytes that are left, None where they are not known.
     ghost left: { Self → Option (List ℕ) };
 
     /// How often the source has failed.

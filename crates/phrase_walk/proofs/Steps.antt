@@ -26,7 +26,7 @@ none_before_on text tokens k s from before between r ge less row =
       | inr le ↦ between r le less row
     ]
 
--- where the first two tokens nowhere stand side by side before an address, no row starts before one that is not behind it
+-- where the first two tokens nowhere stand side by side before an address, no row starts before one that is not after it
 pub none_before_pair : (text : Text) (tokens : List (List ℕ)) (first second : List ℕ) (k s r : ℕ) → 1 < length tokens → first ≡ token_at tokens 0 → second ≡ token_at tokens 1 → s ≤ r →
     any_pair text.words first second k r ≡ false → NoneBefore text tokens k s
 none_before_pair text tokens first second k s r two is is_behind upto none = λ p ge less row.
@@ -36,7 +36,7 @@ none_before_pair text tokens first second k s r two is is_behind upto none = λ 
     (subst (λ t. Held text t p) (sym is) held)
     (subst (λ t. Held text t (p + 1)) (sym is_behind) (row_place text tokens p 1 two row))) ∙ none)
 
--- no row starts from behind s up to k
+-- no row starts from after s up to k
 abbrev pub NoneBehind : Text → List (List ℕ) → ℕ → ℕ → Type 0
 NoneBehind text tokens k s = (r : ℕ) → s < r → r ≤ k → InRow text tokens r → ⊥
 
@@ -70,7 +70,7 @@ IsAskedForward text tokens turn agreed s most old now = IsAskedWithin (length to
 abbrev pub from_last : List (List ℕ) → ℕ → ℕ
 from_last tokens turn = length tokens - 1 - turn
 
--- how many places of that token lie behind its place in the row from s on
+-- how many places of that token lie after its place in the row from s on
 abbrev pub passed_downto : Text → List (List ℕ) → ℕ → ℕ → ℕ
 passed_downto text tokens s i =
     length (places text.words (token_at tokens (from_last tokens i))) - places_before text.words (token_at tokens (from_last tokens i)) (s + from_last tokens i + 1)
@@ -197,7 +197,7 @@ module _ (text : Text) (tokens : List (List ℕ)) (sound : IsText text) (some : 
   row_upto s i q r lt is upto row =
       (previous_tells text (token_at tokens i) sound (s + i) q (sym is)).greatest (r + i) (row_place text tokens r i lt row) (omega (arith, upto))
 
-  -- no row starts behind the one in which the token stands at its previous place
+  -- no row starts after the one in which the token stands at its previous place
   pub none_behind_previous : (k s i q : ℕ) → i < length tokens → Some q ≡ previous_place text.words (token_at tokens i) (s + i) → NoneBehind text tokens k s → NoneBehind text tokens k (q - i)
   none_behind_previous k s i q lt is behind r more le row =
       elim (cases_lt s r) [

@@ -26,7 +26,7 @@ pub record LeadsTo (text : Text) (tokens : List (List ℕ)) (turn s q : ℕ) : T
   pub within : q < text.next
   pub none : NoneBefore text tokens s (q - turn)
 
--- the token that comes after the one at this turn stands right behind q, the place of that one
+-- the token that comes after the one at this turn stands right after q, the place of that one
 pub record IsFollowed (text : Text) (tokens : List (List ℕ)) (turn q : ℕ) : Type 0 where
   pub more : turn + 1 < length tokens
   pub behind : IsInPlace text tokens (q - turn) (turn + 1)

@@ -44,7 +44,7 @@ pub(crate) fn first_from<C: CountedLeaves>(
     Some(Interval::new(start, start + (len as u64 - 1)))
 }
 
-/// A place of a token, and whether the one that comes after it in the row is known to stand right behind it.
+/// A place of a token, and whether the one that comes after it in the row is known to stand right after it.
 #[derive(Drop)]
 struct Found {
     place: u64,
@@ -92,7 +92,7 @@ fn next_token<C: CountedLeaves>(
 }
 
 /// A start from this one on before which no row starts. At the first token's turn it is a later one where the source tells, without a
-/// look-up, that the second token does not stand right behind the first one before it. Where it does there, a pair is found.
+/// look-up, that the second token does not stand right after the first one before it. Where it does there, a pair is found.
 fn earliest_start<C: CountedLeaves>(tokens: &[Bytes], source: &C, turn: usize, start: u64) -> Pair
     requires { start < (C.text source.now).next }
     ensures from { start ≤ result.at }
@@ -140,7 +140,7 @@ pub(crate) fn last_upto<C: CountedLeaves>(
     while agreed < len {
         let at = len - 1 - turn;
         let place = source.prev(tokens[at].as_slice(), start + at as u64, counter)?;
-        // No row starts behind this: its token would stand behind the last place.
+        // No row starts after this: its token would come after the last place.
         let latest = place.checked_sub(at as u64)?;
         agreed = if latest == start { agreed + 1 } else { 1 };
         start = latest;
@@ -149,7 +149,7 @@ pub(crate) fn last_upto<C: CountedLeaves>(
     Some(Interval::new(start, start + (len as u64 - 1)))
 }
 
-/// The turn after this one: behind the last of a round comes the first of the next.
+/// The turn after this one: after the last of a round comes the first of the next.
 fn next_turn(turn: usize, len: usize) -> usize
     requires { turn < len }
     ensures wraps { turn + 1 ≡ len → result ≡ 0 }

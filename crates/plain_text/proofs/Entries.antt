@@ -66,7 +66,7 @@ part_kept bytes token a b le in' =
     let fits : b - a ≤ length (drop a bytes) = omega (arith, length-drop a bytes) in
     ap (take (b - a)) (drop-append-le a bytes token short) ∙ take-append-le (b - a) (drop a bytes) token fits
 
--- one word more, with its bytes behind all others
+-- one word more, with its bytes after all others
 pub words_in-put : (bytes token : List ℕ) (start : ℕ) (entries : List Entry) (address : ℕ) → AreCuts (length bytes) start entries →
     words_in (bytes ++ token) start (entries ++ record { address = address; end = length bytes + length token } ∷ []) ≡ words_in bytes start entries ++ word address token ∷ []
 words_in-put bytes token start [] address cuts =

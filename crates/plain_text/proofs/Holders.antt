@@ -1,4 +1,4 @@
--- The next and the previous place of a token, by the words before and behind an address.
+-- The next and the previous place of a token, by the words before and after an address.
 use Rattle.std.proofs.Common.{◌≡◌, ℕ, zero, suc, ◌+◌, ◌<◌, ◌≤◌, true, false, cond, leb, ltb, List, [], ◌∷◌, take, drop, slice_get, Option, Some, None, inl, inr, refl, ap, sym, ◌∙◌, arith, bytes_eq}
 use Rattle.std.specs.List.{prefix_len}
 use Rattle.std.specs.Option.{option_map}
@@ -69,7 +69,7 @@ previous_place_by_count next low (w ∷ ws) token k r =
     ge_self : w.address ≤ w.address
     ge_self = omega arith
 
--- the word at a place is the token, or those behind it go on
+-- the word at a place is the token, or those after it go on
 pub first_here : (words : List Word) (i a : ℕ) (t token : List ℕ) → slice_get words i ≡ Some (word a t) → bytes_eq t token ≡ true → first_holder (drop i words) token ≡ Some a
 first_here [] i a t token is same = absurd cc
 first_here (w ∷ ws) zero a t token is same = let e : w ≡ word a t = cc in rw (e, same) refl
@@ -91,7 +91,7 @@ last_earlier (w ∷ ws) zero a t token is other = let e : w ≡ word a t = cc in
 last_earlier (w ∷ ws) (suc i) a t token is other =
     last_holder-cons w (take (suc i) ws) token ∙ ap (λ o. later_or o (last_holder (w ∷ []) token)) (last_earlier ws i a t token is other) ∙ sym (last_holder-cons w (take i ws) token)
 
--- the word at a place is the token at an address, or those behind it tell
+-- the word at a place is the token at an address, or those after it tell
 pub holds_here : (words : List Word) (i a : ℕ) (t token : List ℕ) (p : ℕ) → slice_get words i ≡ Some (word a t) → is_word token p (word a t) ≡ true → holds (drop i words) token p ≡ true
 holds_here [] i a t token p is same = absurd cc
 holds_here (w ∷ ws) zero a t token p is same = let e : w ≡ word a t = cc in rw (e, same) refl

@@ -1,4 +1,4 @@
--- A word behind all others keeps them rising, and tokens stand one behind another.
+-- A word after all others keeps them rising, and tokens stand one after another.
 use Rattle.std.proofs.Common.{◌≡◌, ℕ, zero, suc, ◌+◌, ◌<◌, ◌≤◌, List, [], ◌∷◌, ◌++◌, length, take, slice_get, Some, ap, sym, subst, ◌∙◌, arith}
 use Rattle.gcl_model.specs.Texts.{Word, Text, IsText, AreRisingBelow}
 use Rattle.gcl_model.specs.Collections.{words_from}

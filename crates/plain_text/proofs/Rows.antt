@@ -19,7 +19,7 @@ range_more a b lt = let e : b - a ≡ suc (b - (a + 1)) = omega arith in ap (ran
 row_step : (test : Extent → Bool) (p q next : ℕ) → q < next → row test p q next ≡ cond (test (extent p q)) (extent p q ∷ row test p (q + 1) next) (row test p (q + 1) next)
 row_step test p q next lt = ap (λ ns. filter test (map (λ q. extent p q) ns)) (range_more q next lt)
 
--- the pair is put behind those so far
+-- the pair is put after those so far
 pub row_put : (test : Extent → Bool) (p q next : ℕ) (list more whole : List Extent) → q < next → test (extent p q) ≡ true → more ≡ list ++ extent p q ∷ [] → list ++ row test p q next ≡ whole → more ++ row test p (q + 1) next ≡ whole
 row_put test p q next list more whole lt t put is =
     ap (λ l. l ++ row test p (q + 1) next) put

@@ -1,4 +1,4 @@
--- A word behind all others, and tokens at consecutive addresses.
+-- A word after all others, and tokens at consecutive addresses.
 use Rattle.std.specs.Prelude.{ℕ, ◌+◌, ◌<◌, List, [], ◌∷◌, ◌++◌, length}
 use Rattle.std.specs.List.{AllByRecursion}
 use Rattle.gcl_model.specs.Texts.{Word, Text}

@@ -14,6 +14,7 @@ pub fn hamlet(alloc: Global) -> Result<TokenList, AllocError> {
     )
 }
 
+/// An expression that is one word.
 pub fn term(alloc: Global, word: &str) -> Result<Expr, AllocError>
     ensures { IfOk result (λ expr. IsWellFormed (form_of expr)) }
 {
@@ -30,12 +31,14 @@ fn two(alloc: Global, a: &str, b: &str) -> Result<Vec<Expr>, AllocError>
     Ok(exprs)
 }
 
+/// One word, followed by another.
 pub fn seq(alloc: Global, a: &str, b: &str) -> Result<Expr, AllocError>
     ensures { IfOk result (λ expr. IsWellFormed (form_of expr)) }
 {
     Ok(Expr::Seq(two(alloc, a, b)?))
 }
 
+/// Two words, in any order.
 pub fn both(alloc: Global, a: &str, b: &str) -> Result<Expr, AllocError>
     ensures { IfOk result (λ expr. IsWellFormed (form_of expr)) }
 {
@@ -52,6 +55,7 @@ pub fn both_or(alloc: Global, a: &str, b: &str, c: &str) -> Result<Expr, AllocEr
     Ok(Expr::One(exprs))
 }
 
+/// An expression in a box, as an operand of a containment is.
 pub fn boxed(alloc: Global, expr: Expr) -> Result<Box<Expr>, AllocError>
     requires { IsWellFormed (form_of expr) }
     ensures { IfOk result (λ b. IsWellFormed (form_of b.value)) }

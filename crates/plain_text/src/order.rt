@@ -20,7 +20,7 @@ pub(crate) fn runs_in_order(lists: &[IntervalList], pair: Interval) -> bool
     false
 }
 
-/// Whether members of the lists follow in order, the first behind `last`, the last of them ending at `end`.
+/// Whether members of the lists follow in order, the first after `last`, the last of them ending at `end`.
 fn ends_in_order(lists: &[IntervalList], last: u64, end: u64) -> bool
     ensures { result ≡ ends_in_order lists.now (last + 1) end }
 {

@@ -42,7 +42,7 @@ impl PlainText {
         }
     }
 
-    /// Puts a word behind all others.
+    /// Puts a word after all others.
     pub fn put(&mut self, address: u64, token: &[u8]) -> Result<(), AllocError>
         requires above { self.old.first ≤ address }
         requires below { address < self.old.next }

@@ -5,7 +5,7 @@
 //! binary digits; then it goes through at most one block, no further than the answer, and takes no memory. In the list
 //! `2, 5, 9` the least address from 3 on is 5, there is no greatest up to 1, and 2 are below 6.
 //!
-//! The one search is `border`: between two places it finds one that fails a test behind one that passes it. The layer
+//! The one search is `border`: between two places it finds one that fails a test after one that passes it. The layer
 //! above may narrow the places first, where it knows about where the border lies.
 #![tactic(auto)]
 

@@ -32,7 +32,7 @@ none_below k low end (x ∷ xs) r le =
     let e : ltb x k ≡ false = le-ltb x k (omega (arith, a)) in
     below_in-cons k x xs ∙ ap (λ o. option_or o (cond (ltb x k) (Some x) None)) (none_below k (x + 1) end xs r.2 (omega (arith, a))) ∙ rw e refl
 
--- a walk that stands at a member, with some behind it
+-- a walk that stands at a member, with some after it
 pub record IsAround (packed : List ℕ) (first at behind k value after left : ℕ) (below : Option ℕ) : Type 0 where
   pub can : CanUnpack packed value after
   pub enough : left ≤ length (members_behind packed value after)

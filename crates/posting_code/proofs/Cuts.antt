@@ -16,7 +16,7 @@ use Rattle.posting_code.proofs.Shorts.{short_of}
 abbrev none_of : List ℕ
 none_of = []
 
--- the differences of the members up to one, and of those behind it
+-- the differences of the members up to one, and of those after it
 packed_from-part : (before : ℕ) (ms : List ℕ) (steps r : ℕ) (rs : List ℕ) → drop steps (before ∷ ms) ≡ r ∷ rs →
     (packed_from before ms ≡ packed_from before (take steps ms) ++ packed_from r rs) × (last_of (before ∷ take steps ms) ≡ r)
 packed_from-part before ms zero r rs is = let first : before ≡ r = cc in let rest : ms ≡ rs = cc in (ap (λ b. packed_from b ms) first ∙ ap (packed_from r) rest, first)
@@ -160,13 +160,13 @@ front_below k list last count first packed heads cut is k' few at below =
     let end : cut.before.first ≡ last_of (take (cut.steps + 1) list) = lent.parts.end ∙ ap last_of lent.is in
     all_below k (take (cut.steps + 1) list) (take_rises 0 (2 ^ 56) list (cut.steps + 1) (subst ArePostings is k'.parts.rising)) (omega (arith, end, below))
 
--- the members behind it are not below what the first of them is not below
+-- the members after it are not below what the first of them is not below
 pub back_above : (k : ℕ) (list : List ℕ) (cut : Cut) → ArePostings list → IsCut list (packed_of list) cut → k ≤ cut.behind.first → RiseWithin k (2 ^ 56) (drop (cut.steps + 1) list)
 back_above k list cut rising at le =
     let first = ap (λ l. get_or l 0 0) at.behind.is in
     none_below_first k (drop (cut.steps + 1) list) (rise_drop 0 (2 ^ 56) list (cut.steps + 1) rising) (λ some. omega (arith, first, le))
 
--- the members behind a cut
+-- the members after a cut
 pub lend_back : (list : List ℕ) (last count first : ℕ) (packed : List ℕ) (heads : List Head) (cut : Cut) → kept count first packed ≡ list → IsKeptTo last count first packed heads → length list ≤ 64 → IsCut list (packed_of list) cut →
     CanLend (drop (cut.steps + 1) list) cut.behind.first last (count - (cut.steps + 1)) (take (length packed - cut.behind.at) (drop cut.behind.at packed))
 lend_back list last count first packed heads cut is k few at =
@@ -193,7 +193,7 @@ lend_last list last count first packed bytes heads held block left head is k lt 
           (lend_rest list bytes (64 * block) last left head rising stands (k.end ∙ ap last_of is) (omega (arith, counted, left_is)) few)),
     )
 
--- the members behind the head of a block that is not the last
+-- the members after the head of a block that is not the last
 pub record HasWhole (packed : List ℕ) (head : Head) : Type 0 where
   pub can : CanUnpack packed head.first head.at
   pub within : head.at ≤ length packed

@@ -42,7 +42,7 @@ kept_first : (list : List ℕ) (count first : ℕ) (packed : List ℕ) → kept 
 kept_first list zero first packed is some = absurd (let e = ap length is in omega (arith, e, some))
 kept_first list (suc n) first packed is some = ap (λ l. get_or l 0 0) is
 
--- what rises behind a list begins above its last member
+-- what rises after a list begins above its last member
 pub rise_step : (low end : ℕ) (xs ys : List ℕ) → RiseWithin low end (xs ++ ys) → 0 < length xs → 0 < length ys → (last_of xs < get_or ys 0 0) × (get_or ys 0 0 < end)
 rise_step low end [] ys r some more = absurd (omega (arith, some))
 rise_step low end (x ∷ xs) [] r some more = absurd (omega (arith, more))
@@ -154,14 +154,14 @@ block_is_there list count first packed heads held place is k lt held_is =
     let there = (head_block count first packed heads (place / 64) k (omega (arith, lt, long))).0 in
     subst (λ hs. place / 64 ≤ length hs) (sym held_is) there
 
--- there are enough members behind it
+-- there are enough members after it
 pub enough_behind : (list packed : List ℕ) (place : ℕ) (head : Head) → place < length list → StandsAt list packed (64 * (place / 64)) head → place % 64 ≤ length (members_behind packed head.first head.at)
 enough_behind list packed place head lt stands =
     let long = length-drop (64 * (place / 64)) list in
     let parts = ap length stands.is in
     omega (arith, long, parts, lt)
 
--- and so many behind it the member stands
+-- and so many after it the member stands
 pub walked_head : (list packed bytes : List ℕ) (place : ℕ) (head found : Head) → place < length list → packed ≡ packed_of list → bytes ≡ packed → StandsAt list bytes (64 * (place / 64)) head →
     drop (place % 64) (head.first ∷ members_behind bytes head.first head.at) ≡ found.first ∷ members_behind bytes found.first found.at → CanUnpack bytes found.first found.at → found.at ≤ length bytes →
     IsHead list (packed_of list) place found
@@ -189,7 +189,7 @@ one_head_more list heads longer head place are is at h = record {
       ]);
 }
 
--- the heads of a list are those of what comes behind it too
+-- the heads of a list are those of what comes after it too
 pub heads_before : (xs ys : List ℕ) (count first : ℕ) (packed : List ℕ) (heads : List Head) → IsKept count first packed heads → kept count first packed ≡ xs → AreHeads (xs ++ ys) heads
 heads_before xs ys count first packed heads k is = record {
   blocks = λ b d lt.

@@ -129,7 +129,7 @@ prefix_free a b rest more la lb e =
     let same : a ≡ b = ap (λ r. r.value) (same_Some _ _ both) in
     (same, append_cancel_left (spelling a) rest more (e ∙ ap (λ n. spelling n ++ more) (sym same)))
 
--- what is found behind some bytes that were read
+-- what is found after some bytes that were read
 abbrev pub raised_by : ℕ → ℕ → ℕ → ℕ → ℕ → Option Read
 raised_by i value scale zero size = None
 raised_by i value scale (suc v) size = Some (read (value + scale * suc v) (i + size))

@@ -96,7 +96,7 @@ pub packed_from-push : (before : ℕ) (ps : List ℕ) (y : ℕ) → packed_from 
 packed_from-push before [] y = append-nil (spelling (y - before))
 packed_from-push before (p ∷ ps) y = ap (λ bs. spelling (p - before) ++ bs) (packed_from-push p ps y) ∙ sym (append_assoc (spelling (p - before)) (packed_from p ps) (spelling (y - last_of (p ∷ ps))))
 
--- what was kept, and one member behind it
+-- what was kept, and one member after it
 pub record IsGrown (count first : ℕ) (packed : List ℕ) (last y : ℕ) (more : List ℕ) : Type 0 where
   pub some : 0 < count
   pub last_is : last ≡ last_of (kept count first packed)
@@ -214,7 +214,7 @@ kept_block count first packed heads last y next more head longer k g is on head_
           ]));
     }
 
--- a member behind the others, whether it begins a block or not
+-- a member after the others, whether it begins a block or not
 kept_next : (count first : ℕ) (packed : List ℕ) (heads : List Head) (last y next : ℕ) (more : List ℕ) (head : Head) (longer : List Head) → IsKept count first packed heads → IsGrown count first packed last y more →
     next ≡ count + 1 → head.first ≡ y → head.at ≡ length more → longer ≡ heads_behind count heads head → IsKept next first more longer
 kept_next count first packed heads last y next more head longer k g is head_first head_at longer_is =

@@ -9,7 +9,7 @@ rise_wider low low' end end' [] r a b = tt
 rise_wider low low' end end' (x ∷ xs) r a b =
     let p = r.0 in let q = r.1 in (omega arith, omega arith, rise_wider (x + 1) (x + 1) end end' xs r.2 (omega arith) b)
 
--- a number past the end goes behind
+-- a number past the end goes at the end
 pub rise_push : (low mid end : ℕ) (xs : List ℕ) (y : ℕ) → RiseWithin low mid xs → low ≤ mid → mid ≤ y → y < end → RiseWithin low end (xs ++ y ∷ [])
 rise_push low mid end [] y r a b c = (omega arith, c, tt)
 rise_push low mid end (x ∷ xs) y r a b c =
@@ -41,7 +41,7 @@ pub rise_length : (low end : ℕ) (xs : List ℕ) → RiseWithin low end xs → 
 rise_length low end [] r = omega arith
 rise_length low end (x ∷ xs) r = let p = r.0 in let q = r.1 in let inner = rise_length (x + 1) end xs r.2 in omega (arith, p, q, inner)
 
--- what rises behind a list is above its last member
+-- what rises after a list is above its last member
 pub rise_last : (low end : ℕ) (xs : List ℕ) (y : ℕ) → RiseWithin low end (xs ++ y ∷ []) → 0 < length xs → (last_of xs < y) × (y < end)
 rise_last low end [] y r some = absurd (omega (arith, some))
 rise_last low end (x ∷ []) y r some = let p = r.2 in let low = p.0 in (omega (arith, low), p.1)

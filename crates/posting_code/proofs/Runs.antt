@@ -112,7 +112,7 @@ mixed_number packed before at first second can some first_is second_is fits few 
       subst (λ a. IsNumberAt packed at (first % 128 + first / 128 * (128 * second)) a) after (subst (λ v. IsNumberAt packed at v (at + 2)) value n)
 ]
 
--- some members are there, behind those before their place
+-- some members are there, after those before their place
 pub record IsRun (packed : List ℕ) (before at : ℕ) (old into : List ℕ) (place i member after : ℕ) : Type 0 where
   pub long : length into ≡ length old
   pub taken : take (place + i) into ≡ take place old ++ take i (members_behind packed before at)
@@ -184,7 +184,7 @@ unpacking_left packed first at into i value after u =
     let same = ap length u.rest in
     omega (arith, left, same)
 
--- a member some steps behind another one
+-- a member some steps after another one
 pub record IsPassed (packed : List ℕ) (before at i member after : ℕ) : Type 0 where
   pub rest : drop i (before ∷ members_behind packed before at) ≡ member ∷ members_behind packed member after
   pub can : CanUnpack packed member after

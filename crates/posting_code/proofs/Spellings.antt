@@ -5,7 +5,7 @@ use Rattle.std.proofs.Math.Nat.{pow-suc}
 use Rattle.posting_code.specs.Numbers.{value_of, EndsAtLast, IsUnpadded, IsSpelling, spelling_within, spelling}
 use Rattle.posting_code.proofs.Numbers.{within-small, within-more}
 
--- what is unpadded has a value above 0 behind its first byte
+-- what is unpadded has a value above 0 after its first byte
 positive : (b c : ℕ) (cs : List ℕ) → EndsAtLast (b ∷ c ∷ cs) → IsUnpadded (b ∷ c ∷ cs) → 0 < value_of (c ∷ cs)
 positive b c [] ends some = let e = ends.2 in omega (arith, some, ends)
 positive b c (d ∷ ds) ends some = let inner = positive c d ds ends.2 some in omega (arith, inner)

@@ -1,4 +1,4 @@
--- Lists that are put behind each other, one list more.
+-- Lists that are put one after another, one list more.
 use Rattle.std.proofs.Common.{◌≡◌, ℕ, ◌+◌, ◌<◌, ◌^◌, List, [], ◌∷◌, ◌++◌, length, take, drop, get_or, Option, Some, IfSome, refl, sym, ap, ◌∙◌, subst, arith}
 use Rattle.std.specs.List.{concat}
 use Rattle.std.proofs.Math.Seq.{take-append_seam}
@@ -53,7 +53,7 @@ first_small [] [] rising some = absurd (omega (arith, some))
 first_small [] (x ∷ xs) rising some = rising.1
 first_small (f ∷ fs) list rising some = (rise_step 0 (2 ^ 56) (f ∷ fs) list rising (omega arith) some).1
 
--- what was put behind a base
+-- what was put after a base
 pub put_more : (front list base old mid new bytes : List ℕ) (last : Option ℕ) (first : ℕ) → 0 < length list → last ≡ last_in front → first ≡ get_or list 0 0 → old ≡ base ++ packed_of front →
     mid ≡ old ++ step_from last first → bytes ≡ packed_of list → new ≡ mid ++ bytes → new ≡ base ++ packed_of (front ++ list)
 put_more front list base old mid new bytes last first some last_is first_is old_is mid_is bytes_is new_is =

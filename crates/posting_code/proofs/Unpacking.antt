@@ -3,7 +3,7 @@ use Rattle.std.proofs.Common.{◌≡◌, ℕ, zero, suc, ◌+◌, ◌<◌, List,
 use Rattle.std.proofs.lemmas.List.{take_more_set}
 use Rattle.posting_code.specs.Packed.{members_behind, CanUnpack}
 
--- the first i members are there, and the rest comes behind the last of them
+-- the first i members are there, and the rest comes after the last of them
 pub record IsUnpacking (packed : List ℕ) (first at : ℕ) (into : List ℕ) (i value after : ℕ) : Type 0 where
   pub can : CanUnpack packed value after
   pub taken : take i into ≡ take i (first ∷ members_behind packed first at)

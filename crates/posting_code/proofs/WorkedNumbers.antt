@@ -24,7 +24,7 @@ spelling-greatest = refl
 value_of-300 : value_of (172 ∷ 2 ∷ []) ≡ 300
 value_of-300 = refl
 
--- 7 with a byte behind it that says nothing would be 7 again
+-- 7 with a byte after it that says nothing would be 7 again
 value_of-padded : value_of (135 ∷ 0 ∷ []) ≡ 7
 value_of-padded = refl
 

@@ -1,4 +1,4 @@
--- Lists that are put behind each other, for this crate alone.
+-- Lists that are put one after another, for this crate alone.
 use Rattle.std.specs.Prelude.{ℕ, ◌-◌, List, [], ◌∷◌, Option, None, Some}
 use Rattle.posting_code.specs.Numbers.{spelling}
 use Rattle.posting_code.specs.Packed.{last_of}

@@ -4,14 +4,14 @@ use Rattle.posting_code.specs.declared.head.Head.{Head}
 use Rattle.posting_code.specs.Numbers.{spelling}
 use Rattle.posting_code.specs.Postings.{RiseWithin, ArePostings}
 
--- the members behind one, by their packed differences; value and scale are of the number that is being read
+-- the members after one, by their packed differences; value and scale are of the number that is being read
 abbrev pub unpacked : ℕ → ℕ → ℕ → List ℕ → List ℕ
 unpacked before value scale [] = []
 unpacked before value scale (b ∷ bs) =
     if nat_lt b 128 then (before + (value + scale * b)) ∷ unpacked (before + (value + scale * b)) 0 1 bs
     else unpacked before (value + scale * (b - 128)) (scale * 128) bs
 
--- the members behind the one before place `at`
+-- the members after the one before place `at`
 abbrev pub members_behind : List ℕ → ℕ → ℕ → List ℕ
 members_behind packed before at = unpacked before 0 1 (drop at packed)
 
@@ -20,7 +20,7 @@ abbrev pub kept : ℕ → ℕ → List ℕ → List ℕ
 kept zero first packed = []
 kept (suc count) first packed = first ∷ unpacked first 0 1 packed
 
--- the packed differences of the members behind one: of 5 and 8 behind 3 they are 2 and 3
+-- the packed differences of the members after one: of 5 and 8 after 3 they are 2 and 3
 abbrev pub packed_from : ℕ → List ℕ → List ℕ
 packed_from before [] = []
 packed_from before (p ∷ ps) = spelling (p - before) ++ packed_from p ps
@@ -30,12 +30,12 @@ abbrev pub packed_of : List ℕ → List ℕ
 packed_of [] = []
 packed_of (p ∷ ps) = packed_from p ps
 
--- from the place on stand the differences of some rising members behind `before`
+-- from the place on stand the differences of some rising members after `before`
 pub record CanUnpack (packed : List ℕ) (before at : ℕ) : Type 0 where
   pub rising : RiseWithin (before + 1) (2 ^ 56) (members_behind packed before at)
   pub spelled : drop at packed ≡ packed_from before (members_behind packed before at)
 
--- a member that can be read on from, behind those before it
+-- a member that can be read on from, after those before it
 pub record StandsAt (list packed : List ℕ) (place : ℕ) (head : Head) : Type 0 where
   pub can : CanUnpack packed head.first head.at
   pub within : head.at ≤ length packed
@@ -71,6 +71,6 @@ abbrev pub head_at : ℕ → List Head → ℕ → Head
 head_at first heads zero = record { first = first; at = 0 }
 head_at first heads (suc b) = get_or heads b (record { first = first; at = 0 })
 
--- the heads where a member comes behind `count` others: one more where it begins a block
+-- the heads where a member comes after `count` others: one more where it begins a block
 abbrev pub heads_behind : ℕ → List Head → Head → List Head
 heads_behind count heads head = if (count % 64) == 0 then heads ++ head ∷ [] else heads

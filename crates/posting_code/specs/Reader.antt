@@ -27,7 +27,7 @@ reads zero bs = None
 reads (suc k) [] = None
 reads (suc k) (b ∷ bs) = if nat_lt b 128 then Some (read b 1) else behind b (reads k bs)
 
--- what was found, with the place behind it
+-- what was found, with the place after it
 abbrev pub number_at : ℕ → Option Read → Option Number
 number_at at None = None
 number_at at (Some r) = Some (record { value = r.value; after = at + r.size })

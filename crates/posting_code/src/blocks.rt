@@ -209,7 +209,7 @@ impl ManyBlocks {
     }
 }
 
-/// A whole block, and one member with this head behind it.
+/// A whole block, and one member with this head after it.
 fn two_blocks(alloc: Global, first: u64, head: Head) -> Result<Box<ManyBlocks>, AllocError>
     ensures count { IfOk result (λ many. many.value.count ≡ 65) }
     ensures first { IfOk result (λ many. many.value.first ≡ first) }

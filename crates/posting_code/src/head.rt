@@ -3,7 +3,7 @@ ghost use Rattle.posting_code.specs.Packed.{head_at, heads_behind};
 
 use std::alloc::AllocError;
 
-/// Where a block stands: its first member, and the place of the packed differences behind it.
+/// Where a block stands: its first member, and the place of the packed differences after it.
 #[derive(Clone, Copy, Debug)]
 pub(crate) struct Head {
     pub(crate) first: u64,
@@ -22,7 +22,7 @@ pub(crate) fn head_of(first: u64, heads: &[Head], block: usize) -> Head
     heads[block - 1]
 }
 
-/// Puts a head behind the others where the member behind `count` others begins a block.
+/// Puts a head after the others where the member after `count` others begins a block.
 pub(crate) fn push_head(heads: &mut Vec<Head>, count: usize, head: Head) -> Result<(), AllocError>
     ensures ok { OnOk result (heads.new.items ≡ heads_behind count heads.old.items head) }
     ensures err { OnErr result (heads.new.items ≡ heads.old.items) }

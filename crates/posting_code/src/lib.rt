@@ -1,11 +1,11 @@
 //! Posting lists: the addresses at which one term stands; and packed numbers, in which they are kept.
 //!
-//! Contracts see a `PostingList` as a list of addresses that rises strictly and stays below 2^56. It is lent as `Postings`, and read in
-//! blocks of 64: block `b` has the members from place `64 b` on. That only a block's first address is a fixed number,
-//! and each other member the packed difference from the one before, is seen by no contract.
+//! Contracts see a `PostingList` as a list of addresses that rises strictly and stays below 2^56. It is lent as
+//! `Postings`, and read in blocks of 64: block `b` has the members from place `64 b` on. That only a block's first
+//! address is a fixed number, and each other member the packed difference from the one before, is seen by no contract.
 //!
-//! The layer above asks for the first address of a block, reads a block where that one decides, or goes through it as far
-//! as an answer. Of the 70 addresses `0, 2, .. 138` block 1 begins with 128 and has 6 members.
+//! The layer above asks for the first address of a block, reads a block where that one decides, or goes through it as
+//! far as an answer. Of the 70 addresses `0, 2, .. 138` block 1 begins with 128 and has 6 members.
 //!
 //! A packed number has 7 bits a byte, the lowest first: 300 is `ac 02`. It is written in one way only, and what begins
 //! with the spelling of one number begins with that of no other.

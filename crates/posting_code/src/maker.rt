@@ -30,7 +30,7 @@ impl PostingMaker {
         }
     }
 
-    /// Puts an address behind the others.
+    /// Puts an address after the others.
     pub fn push(&mut self, address: u64) -> Result<(), AllocError>
         requires { ArePostings (self.old ++ address ∷ []) }
         ensures ok { OnOk result (self.new ≡ self.old ++ address ∷ []) }
@@ -39,7 +39,7 @@ impl PostingMaker {
         self.list.push_behind(address)
     }
 
-    /// Puts the addresses of a list behind the others. They are not unpacked. After an Err none are left.
+    /// Puts the addresses of a list after the others. They are not unpacked. After an Err none are left.
     pub fn append(&mut self, list: &Postings<'_>) -> Result<(), AllocError>
         requires { ArePostings (self.old ++ list.now) }
         ensures { OnOk result (self.new ≡ self.old ++ list.now) }
@@ -113,7 +113,7 @@ impl PostingMaker {
     }
 }
 
-/// The members of a list, and those of another one behind them.
+/// The members of a list, and those of another one after them.
 fn both(front: PostingList, list: &Postings<'_>) -> Result<PostingList, AllocError>
     requires some { 0 < length list.now }
     requires rising { ArePostings (front ++ list.now) }

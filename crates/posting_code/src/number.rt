@@ -7,7 +7,7 @@ use std::alloc::AllocError;
 /// Packed numbers are below this.
 pub const NUMBER_END: u64 = 1 << 56;
 
-/// A number that was read, and the place behind its spelling.
+/// A number that was read, and the place after its spelling.
 #[derive(Clone, Copy, Debug, PartialEq, Eq)]
 pub struct Number {
     pub value: u64,

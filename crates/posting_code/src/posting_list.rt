@@ -19,8 +19,8 @@ pub const BLOCK: usize = 64;
 
 /// The addresses of one term.
 // The first address of the whole list stands apart, so that a list of one needs no memory beside itself. The differences
-// of all members stand in one row, so that a list grows behind, and a block is read from its head on. The last member
-// is kept too: what is put behind needs its difference from it.
+// of all members stand in one row, so that a list grows at its end, and a block is read from its head on. The last member
+// is kept too: what is added needs its difference from it.
 #[derive(Drop)]
 pub struct PostingList {
     packed: Vec<u8>,
@@ -53,7 +53,7 @@ impl PostingList {
         }
     }
 
-    /// Puts an address behind the last one.
+    /// Puts an address after the last one.
     pub(crate) fn push_behind(&mut self, address: u64) -> Result<(), AllocError>
         requires { ArePostings (self.old ++ address ∷ []) }
         ensures ok { OnOk result (self.new ≡ self.old ++ address ∷ []) }
@@ -160,7 +160,7 @@ impl PostingList {
         })
     }
 
-    /// Puts the members of a list behind the others, where all of them are one block.
+    /// Puts the members of a list after the others, where all of them are one block.
     pub(crate) fn join_short(&mut self, list: &Postings<'_>) -> Result<(), AllocError>
         requires some { (0 < length self.old) × (0 < length list.now) }
         requires few { length self.old + length list.now ≤ 64 }
@@ -244,7 +244,7 @@ impl<'a> Postings<'a> {
         }
     }
 
-    /// The packed differences behind the first member.
+    /// The packed differences after the first member.
     pub(crate) fn packed(&self) -> &'a [u8]
         ensures { result.now ≡ packed_of self.now }
     {
@@ -353,7 +353,7 @@ impl<'a> Postings<'a> {
         }
     }
 
-    /// The members of a list of one block up to a cut, and those behind it.
+    /// The members of a list of one block up to a cut, and those after it.
     fn cut_at(&self, cut: Cut) -> (Postings<'a>, Postings<'a>)
         requires few { length self.now ≤ 64 }
         requires cut { IsCut self.now (packed_of self.now) cut }
@@ -404,7 +404,7 @@ impl<'a> Postings<'a> {
     }
 }
 
-/// Puts a difference behind others, and then those of a list.
+/// Puts a difference after others, and then those of a list.
 fn put_differences(packed: &mut Vec<u8>, step: u64, behind: &[u8]) -> Result<(), AllocError>
     requires { step < 2 ^ 56 }
     ensures ok { OnOk result (packed.new.items ≡ (packed.old.items ++ spelling step) ++ behind.now) }

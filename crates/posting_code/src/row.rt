@@ -8,7 +8,7 @@ use crate::number::put_number;
 use crate::posting_list::Postings;
 use std::alloc::AllocError;
 
-/// Puts the packed differences of some lists behind other bytes, as those of one list. None is unpacked. After an Err some of them may
+/// Puts the packed differences of some lists after other bytes, as those of one list. None is unpacked. After an Err some of them may
 /// stand there.
 pub fn put_joined(packed: &mut Vec<u8>, lists: &[Postings<'_>]) -> Result<(), AllocError>
     requires { ArePostings (concat lists.now) }
@@ -27,7 +27,7 @@ pub fn put_joined(packed: &mut Vec<u8>, lists: &[Postings<'_>]) -> Result<(), Al
     Ok(())
 }
 
-/// Puts the packed differences of one list more behind those of others, of which the last member is given, and gives the last of all.
+/// Puts the packed differences of one list more after those of others, of which the last member is given, and gives the last of all.
 fn put_next(
     packed: &mut Vec<u8>,
     last: Option<u64>,

@@ -13,7 +13,7 @@ fn byte_at(packed: &[u8], at: usize) -> u8
     packed.get(at).copied().unwrap_or(0)
 }
 
-/// The member behind another one, and the place behind its difference.
+/// The member after another one, and the place after its difference.
 #[inline(always)]
 fn next_member(packed: &[u8], before: u64, at: usize) -> Number
     requires can { CanUnpack packed.now before at }
@@ -93,7 +93,7 @@ fn put_run(packed: &[u8], before: u64, at: usize, into: &mut [u64], place: usize
     member
 }
 
-/// Puts so many of the next members from a place on, and gives the last of them and the place behind its difference.
+/// Puts so many of the next members from a place on, and gives the last of them and the place after its difference.
 fn put_each(packed: &[u8], before: Number, into: &mut [u64], place: usize, count: usize) -> Number
     requires can { CanUnpack packed.now before.value before.after }
     requires enough { count ≤ length (members_behind packed.now before.value before.after) }
@@ -111,7 +111,7 @@ fn put_each(packed: &[u8], before: Number, into: &mut [u64], place: usize, count
     member
 }
 
-/// Puts the next seven members from a place on, whatever their differences, and gives the last of them and the place behind its difference.
+/// Puts the next seven members from a place on, whatever their differences, and gives the last of them and the place after its difference.
 #[inline(always)]
 fn put_seven(packed: &[u8], before: Number, into: &mut [u64], place: usize) -> Number
     requires can { CanUnpack packed.now before.value before.after }
@@ -132,7 +132,7 @@ fn put_seven(packed: &[u8], before: Number, into: &mut [u64], place: usize) -> N
     put_each(packed, before, into, place, RUN)
 }
 
-/// Fills `into` with the first member and those behind it.
+/// Fills `into` with the first member and those after it.
 pub(crate) fn unpack(packed: &[u8], first: u64, at: usize, into: &mut [u64])
     requires can { CanUnpack packed.now first at }
     requires some { 0 < length into.old }
@@ -153,7 +153,7 @@ pub(crate) fn unpack(packed: &[u8], first: u64, at: usize, into: &mut [u64])
     put_each(packed, member, into, place, left);
 }
 
-/// The last member of a run behind a member, where each difference is one byte.
+/// The last member of a run after a member, where each difference is one byte.
 #[inline(always)]
 fn pass_run(packed: &[u8], before: u64, at: usize) -> u64
     requires can { CanUnpack packed.now before at }
@@ -169,7 +169,7 @@ fn pass_run(packed: &[u8], before: u64, at: usize) -> u64
     member
 }
 
-/// The place of the member that stands so many behind another one, by a look at each.
+/// The place of the member that stands so many after another one, by a look at each.
 fn pass_each(packed: &[u8], head: Head, steps: usize) -> Head
     requires can { CanUnpack packed.now head.first head.at }
     requires enough { steps ≤ length (members_behind packed.now head.first head.at) }
@@ -189,7 +189,7 @@ fn pass_each(packed: &[u8], head: Head, steps: usize) -> Head
     member
 }
 
-/// The place of the member that stands seven behind another one.
+/// The place of the member that stands seven after another one.
 #[inline(always)]
 fn pass_seven(packed: &[u8], head: Head) -> Head
     requires can { CanUnpack packed.now head.first head.at }
@@ -208,7 +208,7 @@ fn pass_seven(packed: &[u8], head: Head) -> Head
     pass_each(packed, head, RUN)
 }
 
-/// The place of the member that stands so many behind another one.
+/// The place of the member that stands so many after another one.
 pub(crate) fn walk(packed: &[u8], head: Head, steps: usize) -> Head
     requires can { CanUnpack packed.now head.first head.at }
     requires within { head.at ≤ length packed.now }
@@ -226,7 +226,7 @@ pub(crate) fn walk(packed: &[u8], head: Head, steps: usize) -> Head
     pass_each(packed, member, left)
 }
 
-/// A member, and how many steps behind the first it stands.
+/// A member, and how many steps after the first it stands.
 #[derive(Clone, Copy)]
 struct Stop {
     steps: usize,
@@ -264,7 +264,7 @@ fn leap_below(packed: &[u8], first: Head, behind: usize, k: u64) -> Stop
     stop
 }
 
-/// A place between two members: the steps from the first to the last before it, and where that one and the one behind it stand.
+/// A place between two members: the steps from the first to the last before it, and where that one and the one after it stand.
 #[derive(Clone, Copy)]
 pub(crate) struct Cut {
     pub(crate) steps: usize,
@@ -272,7 +272,7 @@ pub(crate) struct Cut {
     pub(crate) behind: Head,
 }
 
-/// Where the members from `k` on begin among the first, which is below it, and some behind it. None where all of them are below.
+/// Where the members from `k` on begin among the first, which is below it, and some after it. None where all of them are below.
 pub(crate) fn cut_before(packed: &[u8], first: Head, behind: usize, k: u64) -> Option<Cut>
     requires can { CanUnpack packed.now first.first first.at }
     requires within { first.at ≤ length packed.now }
@@ -303,7 +303,7 @@ pub(crate) fn cut_before(packed: &[u8], first: Head, behind: usize, k: u64) -> O
     None
 }
 
-/// Of the first member and some behind it the greatest before `k`, and the least from `k` on.
+/// Of the first member and some after it the greatest before `k`, and the least from `k` on.
 pub(crate) fn around_in(
     packed: &[u8],
     first: u64,

@@ -2,9 +2,10 @@
 use Rattle.std.proofs.Common.{◌≡◌, suc, inl, inr, List, [], ◌∷◌, refl, sym, ◌∙◌, subst, arith}
 use mathlib.Core.List.{IsPrefix}
 use Rattle.logbook.specs.Pages.{Book}
+use Rattle.gcl_model.proofs.Lists.{all_weaker}
 use Rattle.live_version.specs.Contents.{VersionContent}
 use Rattle.manifest_publish.specs.Accounts.{Account, ReaderContent, GoesOn, MayEnter, IsRefused, reached, with_pass}
-use Rattle.manifest_publish.proofs.Prefixes.{prefix_self, prefix_trans, all_weaker}
+use Rattle.manifest_publish.proofs.Prefixes.{prefix_self, prefix_trans}
 use Rattle.query_lanes.specs.Readers.{AreOf, EachIsOf, IsLater}
 
 pub later_self : (r : ReaderContent) → IsLater r r
@@ -21,7 +22,7 @@ later_trans before mid after one other = record {
 goes_on : (r : ReaderContent) (seen history : List VersionContent) → GoesOn r seen → IsPrefix seen history → GoesOn r history
 goes_on r seen history on p = (
   prefix_trans r.seen seen history on.0 p,
-  all_weaker (λ l. IsPrefix l seen) (λ l. IsPrefix l history) r.told (λ l q. prefix_trans l seen history q p) on.1,
+  all_weaker (λ l. IsPrefix l seen) (λ l. IsPrefix l history) (λ l q. prefix_trans l seen history q p) r.told on.1,
 )
 
 -- the reader has seen a history since that goes on from all that it knew

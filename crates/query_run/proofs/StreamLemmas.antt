@@ -114,7 +114,7 @@ fed_left most r n held script fed =
     let whole : all ≡ take n all ++ lines most (held ++ drop r script) = ap (lines most) (sym (take-append-drop r script)) ∙ fed.lines_are (drop r script) in
     append_cancel_left (take n all) (drop n all) (lines most (held ++ drop r script)) (take-append-drop n all ∙ whole)
 
--- the bytes behind the whole lines
+-- the bytes after the whole lines
 step_split : (t : Bool) (b : ℕ) (part bytes rest : List ℕ) → part ++ rest ≡ bytes → (t ≡ true → b ≡ 10) → (behind : List ℕ) × (cond t (10 ∷ part) (before_any b part) ++ behind ≡ b ∷ bytes)
 step_split true b part bytes rest whole is = (rest, ap (λ first. first ∷ (part ++ rest)) (sym (is refl)) ∙ ap (λ l. b ∷ l) whole)
 step_split false b [] bytes rest whole is = (b ∷ rest, ap (λ l. b ∷ l) whole)

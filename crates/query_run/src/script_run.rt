@@ -32,8 +32,8 @@ pub fn run_script<R: Threads + Wait + Sync, F: Files, S: Source, K: Sink, G: Gat
     requires few { readers ≤ most_readers }
     ensures never_usage { ¬ (result ≡ Status.Usage) }
 
-    // Where the source tells the script and the files tell what they hold, and of what the lines open it is said rightly what
-    // it is an image of.
+    // Where the script and what the files hold are known, and of what the lines open it is said rightly what it is an
+    // image of.
     ensures done { result ≡ Status.Done → WhereTold greatest_limits (Some first) (S.left source.old) (F.held files.old) (λ start script.
         IsAnswered start script false (S.left source.new) (F.held files.new) (K.written sink.old) (K.written sink.new)) }
     ensures done_with_refusals { result ≡ Status.DoneWithRefusals →

@@ -81,7 +81,7 @@ fn serve_pieces<R: Threads + Wait + Sync, F: Files, S: Source, K: Sink, G: Gate 
 /// has handed out is answered, and the answer is handed to the sink: so whoever waits for an answer before the next line is sent is not left
 /// waiting.
 ///
-/// Queries are answered in batches by the engine's readers, beside a merge that is wanted; before that other lines behind them may be done, but
+/// Queries are answered in batches by the engine's readers, beside a merge that is wanted; before that other lines after them may be done, but
 /// for those that save or open an image. `opened.lines` counts the lines that are completed: a query once its answer is put, or it is put off
 /// before such a line, any other line once its answer is made. It is not for this call to end the engine.
 pub fn serve<R: Threads + Wait + Sync, F: Files, S: Source, K: Sink, G: Gate + Sync>(
@@ -99,7 +99,7 @@ pub fn serve<R: Threads + Wait + Sync, F: Files, S: Source, K: Sink, G: Gate + S
     requires limits { AreLimits limits.now }
     ensures never_usage { ¬ (result ≡ Status.Usage) }
 
-    // Where the source tells the script and the files tell what they hold, the bytes written are the output of the script, and the files
+    // Where the script and what the files hold are known, the bytes written are the output of the script, and the files
     // hold what its lines leave.
     ensures done { result ≡ Status.Done → WhereTold limits.now (Some opened.old.engine.version.first) (S.left source.old) (F.held files.old) (λ start script.
         IsAnsweredBy limits.now start script false (S.left source.new) (F.held files.new) (K.written sink.old) (K.written sink.new)) }

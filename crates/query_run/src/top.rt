@@ -37,8 +37,8 @@ pub fn run<R: Threads + Wait + Sync, F: Files, S: Source, K: Sink, G: Gate + Syn
     ensures untouched { result ≡ Status.Usage →
         (source.new ≡ source.old) × (files.new ≡ files.old) × (sink.new ≡ sink.old) }
 
-    // The headline: where the source tells the script and the files tell what they hold, and of what the lines open it is said rightly what
-    // it is an image of.
+    // The headline: where the script and what the files hold are known, and of what the lines open it is said rightly
+    // what it is an image of.
     ensures done { result ≡ Status.Done → WhereTold greatest_limits (first_of words.now) (S.left source.old) (F.held files.old) (λ start script.
         IsAnswered start script false (S.left source.new) (F.held files.new) (K.written sink.old) (K.written sink.new)) }
     ensures done_with_refusals { result ≡ Status.DoneWithRefusals →

@@ -1,8 +1,8 @@
 //! Queries on a pass.
 //!
-//! Contracts see the members of an expression's concordance list over the version of the pass, the last one of its history, and so
-//! over the collection that this version stands for. No call takes a handle, so none waits, and whatever is published
-//! meanwhile changes no answer.
+//! Contracts see the members of an expression's concordance list over the version of the pass, the last one of its
+//! history, and so over the collection that this version stands for. No call takes a handle, so none waits, and
+//! whatever is published meanwhile changes no answer.
 //!
 //! The layer above asks for the first members, from the first one or from an address on, or for their number. Each makes at most as
 //! many look-ups as the expression's cost for each member, and once more: it leaps, and never lists an operand. Each word is found in

@@ -26,7 +26,7 @@ pub struct Limits {
 }
 
 impl Limits {
-    /// The limits of `run`.
+    /// The limits of the program's runs.
     pub fn greatest() -> Limits
         ensures { result ≡ greatest_limits }
     {
@@ -39,7 +39,7 @@ impl Limits {
         }
     }
 
-    /// Whether each limit is at least 1, and at most that of `run`.
+    /// Whether each limit is at least 1, and at most that of `Limits::greatest`.
     pub fn are_allowed(&self) -> bool
         ensures { (result ≡ true) ↔ AreLimits self.now }
     {

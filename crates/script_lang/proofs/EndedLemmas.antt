@@ -34,7 +34,7 @@ ended-at [] rest none = ap (λ part. 10 ∷ part) (ended_whole rest none)
 ended-at (b ∷ front) rest none =
     ap (λ part. cond (b == 10) (10 ∷ part) (before_any b part)) (ended-at front rest none) ∙ step_ended (b == 10) b front (is_newline b)
 
--- what stands before the last newline, and what stands behind it
+-- what stands before the last newline, and what comes after it
 record LastNewline (bytes : List ℕ) : Type 0 where
   front : List ℕ
   rest : List ℕ
@@ -58,7 +58,7 @@ last-newline (b ∷ bytes) some = step_last (has_newline bytes) b bytes refl som
 
 -- The lines of the whole lines.
 
--- what stands behind the whole lines, and that lines which follow them come behind theirs
+-- what comes after the whole lines, and that lines which follow them come after theirs
 record EndedParts (bytes : List ℕ) : Type 0 where
   behind : List ℕ
   whole : ended bytes ++ behind ≡ bytes
@@ -87,13 +87,13 @@ ended-parts_by false bytes is =
 ended-parts : (bytes : List ℕ) → EndedParts bytes
 ended-parts bytes = ended-parts_by (has_newline bytes) bytes refl
 
--- the lines of a text are those of its whole lines, and then those of what stands behind them, whatever follows
+-- the lines of a text are those of its whole lines, and then those of what comes after them, whatever follows
 pub lines_of_ended : (most : ℕ) (bytes rest later : List ℕ) → ended bytes ++ rest ≡ bytes → lines most (bytes ++ later) ≡ lines most (ended bytes) ++ lines most (rest ++ later)
 lines_of_ended most bytes rest later whole =
     let regroup : bytes ++ later ≡ ended bytes ++ (rest ++ later) = ap (λ text. text ++ later) (sym whole) ∙ append_assoc (ended bytes) rest later in
     ap (lines most) regroup ∙ (ended-parts bytes).lines_are most (rest ++ later)
 
--- no newline stands behind the whole lines
+-- no newline comes after the whole lines
 pub none_behind_ended : (bytes rest : List ℕ) → ended bytes ++ rest ≡ bytes → has_newline rest ≡ false
 none_behind_ended bytes rest whole =
     let parts : EndedParts bytes = ended-parts bytes in
@@ -115,7 +115,7 @@ ended-append_none_by false a b is none =
 pub ended-append_none : (a b : List ℕ) → has_newline b ≡ false → ended (a ++ b) ≡ ended a
 ended-append_none a b = ended-append_none_by (has_newline a) a b refl
 
--- with a newline behind them all bytes stand in whole lines
+-- with a newline after them all bytes stand in whole lines
 pub ended-append_some : (a b : List ℕ) → has_newline b ≡ true → ended (a ++ b) ≡ a ++ ended b
 ended-append_some a b some =
     let last : LastNewline b = last-newline b some in
@@ -136,7 +136,7 @@ ended_begins most a b = ended_begins_by (has_newline b) most a b refl
 
 -- Lines that were taken.
 
--- a newline behind bytes without one makes them a line
+-- a newline after bytes without one makes them a line
 line-ended : (most : ℕ) (held : List ℕ) → has_newline held ≡ false → lines most (held ++ 10 ∷ []) ≡ line_of most held ∷ []
 line-ended most held none =
     let count : length (held ++ 10 ∷ []) ≡ length held + 1 = length-append held (10 ∷ []) in
@@ -167,7 +167,7 @@ done_is_ended most read held done taken none =
 
 -- A feed.
 
--- a place that holds a newline, behind which none is, ends the whole lines
+-- a place that holds a newline, after which none is, ends the whole lines
 pub ended-found : (bytes : List ℕ) (place : ℕ) → place < length bytes → get_or bytes place 0 ≡ 10 → has_newline (drop (place + 1) bytes) ≡ false → take (place + 1) bytes ≡ ended bytes
 ended-found bytes place inside here none =
     let rest : List ℕ = drop (place + 1) bytes in
@@ -178,7 +178,7 @@ ended-found bytes place inside here none =
     sym (take_all (place + 1 + length rest) bytes long_enough) ∙ piece-parts bytes place (length rest) inside here ∙ ap (λ part. take place bytes ++ 10 ∷ part) (take-length rest) in
     front ∙ sym (ap ended whole ∙ ended-at (take place bytes) rest none)
 
--- the last newline behind a place that has none before it
+-- the last newline after a place that has none before it
 pub ended-last : (bytes slice : List ℕ) (at seen last : ℕ) → at ≤ seen → slice ≡ drop seen bytes → NoneAfter (Passes (is_byte 10) slice) 0 (length slice) last → Passes (is_byte 10) slice last →
     take (seen + last + 1 - at) (drop at bytes) ≡ ended (drop at bytes)
 ended-last bytes slice at seen last begins same after here =
@@ -194,7 +194,7 @@ ended-last bytes slice at seen last begins same after here =
     let count : seen + last + 1 - at ≡ place + 1 = omega arith in
     ap (λ k. take k held) count ∙ ended-found held place inside newline none
 
--- a search that found no newline behind that place
+-- a search that found no newline after that place
 pub ended-nowhere : (bytes slice : List ℕ) (at seen : ℕ) → at ≤ seen → seen ≤ length bytes → line_end bytes seen ≡ line_end bytes at → slice ≡ drop seen bytes → Nowhere (Passes (is_byte 10) slice) 0 (length slice) →
     [] ≡ ended (drop at bytes)
 ended-nowhere bytes slice at seen begins within same_end same none =
@@ -202,7 +202,7 @@ ended-nowhere bytes slice at seen begins within same_end same none =
     let end : line_end bytes seen ≡ length bytes = omega (arith, all, length-drop seen bytes) in
     sym (ended_whole (drop at bytes) (take-none bytes at seen (line_end bytes seen) begins within same_end refl end))
 
--- what is held behind the whole lines that are taken
+-- what is held after the whole lines that are taken
 pub ready-parts : (bytes held : List ℕ) (at n : ℕ) → drop at bytes ≡ held → take n held ≡ ended held → ended held ++ drop (at + n) bytes ≡ held
 ready-parts bytes held at n same front =
     let behind : drop (at + n) bytes ≡ drop n held = sym (drop-drop n at bytes) ∙ ap (drop n) same in

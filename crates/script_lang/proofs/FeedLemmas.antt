@@ -119,7 +119,7 @@ step_split : (t : Bool) (b : ℕ) (first : List ℕ) (others both front later : 
 step_split true b first others both front later is some = rw is refl
 step_split false b first others both front later is some = rw (is, some) refl
 
--- a newline parts the lines before it from those behind it
+-- a newline parts the lines before it from those after it
 cut-split : (front rest : List ℕ) → cut_at_newlines (front ++ 10 ∷ rest) ≡ cut_at_newlines (front ++ 10 ∷ []) ++ cut_at_newlines rest
 cut-split [] rest = refl
 cut-split (b ∷ front) rest =
@@ -129,14 +129,14 @@ cut-split (b ∷ front) rest =
 pub lines-split : (most : ℕ) (front rest : List ℕ) → lines most (front ++ 10 ∷ rest) ≡ lines most (front ++ 10 ∷ []) ++ lines most rest
 lines-split most front rest = ap (map (line_of most)) (cut-split front rest) ∙ map-append (line_of most) (cut_at_newlines (front ++ 10 ∷ [])) (cut_at_newlines rest)
 
--- the bytes at a newline, and as many behind it
+-- the bytes at a newline, and as many after it
 pub piece-parts : (piece : List ℕ) (place n : ℕ) → place < length piece → get_or piece place 0 ≡ 10 → take (place + 1 + n) piece ≡ take place piece ++ 10 ∷ take n (drop (place + 1) piece)
 piece-parts piece place n inside here =
     let regroup : place + 1 + n ≡ place + suc n = omega arith in
     let next : drop place piece ≡ 10 ∷ drop (place + 1) piece = rw add-one (drop-cons piece place 0 inside ∙ ap (λ b. b ∷ drop (suc place) piece) here) in
     ap (λ k. take k piece) regroup ∙ take-add place (suc n) piece ∙ ap (λ rest. take place piece ++ take (suc n) rest) next
 
--- a piece in which a newline is: what is behind the last one may be cut
+-- a piece in which a newline is: what is after the last one may be cut
 pub lines-kept : (most : ℕ) (held piece later : List ℕ) (place n : ℕ) → place < length piece → get_or piece place 0 ≡ 10 → has_newline (drop (place + 1) piece) ≡ false →
     n ≤ length (drop (place + 1) piece) → (n < length (drop (place + 1) piece) → most < n) →
     lines most (held ++ take (place + 1 + n) piece ++ later) ≡ lines most (held ++ piece ++ later)
@@ -150,7 +150,7 @@ lines-kept most held piece later place n inside here none fits over =
     let all : held ++ piece ++ later ≡ front ++ 10 ∷ (rest ++ later) = ap (λ text. held ++ text ++ later) whole ∙ simp append_assoc in
     rw (kept, all) (lines-split most front (take n rest ++ later) ∙ ap (λ tail. lines most (front ++ 10 ∷ []) ++ tail) (lines-cut most n rest later none fits over) ∙ sym (lines-split most front (rest ++ later)))
 
--- a piece without a newline, behind what has none
+-- a piece without a newline, after what has none
 pub lines-begun : (most : ℕ) (held piece later : List ℕ) (n : ℕ) → has_newline held ≡ false → has_newline piece ≡ false → n ≤ length piece → (n < length piece → most < length held + n) →
     lines most (held ++ take n piece ++ later) ≡ lines most (held ++ piece ++ later)
 lines-begun most held piece later n begun none fits over =
@@ -215,7 +215,7 @@ line_end-pushed bytes part at inside none =
     let place : first_newline (drop at (bytes ++ part)) ≡ length (drop at bytes) + first_newline part = ap first_newline (drop-append-le at bytes part inside) ∙ newline-behind (drop at bytes) part none in
     omega (arith, place, length-drop at bytes)
 
--- a search from behind what was seen goes on as one from the front
+-- a search from after what was seen goes on as one from the front
 pub same_end-pushed : (bytes now part : List ℕ) (at seen : ℕ) → at ≤ seen → seen ≤ length bytes → line_end bytes seen ≡ line_end bytes at → has_newline (drop at bytes) ≡ false → now ≡ bytes ++ part →
     line_end now seen ≡ line_end now at
 same_end-pushed bytes now part at seen begins within same none is =

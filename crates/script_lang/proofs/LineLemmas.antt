@@ -46,7 +46,7 @@ cut_last : (t : Bool) (b : ℕ) → cond t ([] ∷ []) (onto_first b []) ≡ tak
 cut_last true b = refl
 cut_last false b = refl
 
--- the first line ends at the first newline, and the others come behind it
+-- the first line ends at the first newline, and the others come after it
 pub cut-first : (bs : List ℕ) → 0 < length bs → cut_at_newlines bs ≡ take (position_or_len (λ b. b == 10) bs) bs ∷ cut_at_newlines (drop (position_or_len (λ b. b == 10) bs + 1) bs)
 cut-first [] some = absurd (omega arith)
 cut-first (b ∷ []) some = cut_last (b == 10) b
@@ -65,7 +65,7 @@ line_of-long most line over = cond-true (nat_lt most (length line)) _ _ (grind (
 pub line_of-short : (most : ℕ) (line : List ℕ) → length line ≤ most → line_of most line ≡ short_line (without_front (without_back (without_return line)))
 line_of-short most line few = cond-false (nat_lt most (length line)) _ _ (grind (arith, nat_tests))
 
--- the first of the lines from a place on, and those behind its newline
+-- the first of the lines from a place on, and those after its newline
 lines-at : (text : List ℕ) (at most end after : ℕ) → at < length text → end ≡ line_end text at → after ≡ min (end + 1) (length text) →
     lines most (drop at text) ≡ line_of most (take (end - at) (drop at text)) ∷ lines most (drop after text)
 lines-at text at most end after inside is ends =

@@ -12,7 +12,7 @@ long = record { long = true; bytes = [] }
 of_nothing : lines 5 [] ≡ []
 of_nothing = refl
 
--- an empty line counts, and so does what stands behind the last newline
+-- an empty line counts, and so does what comes after the last newline
 of_three : lines 5 (codes "a" ++ 10 ∷ 10 ∷ codes "b") ≡ short (codes "a") ∷ short [] ∷ short (codes "b") ∷ []
 unfolding short
 of_three = refl
@@ -45,7 +45,7 @@ of_most = refl
 text-of_two : text_of_lines (codes "ab" ∷ [] ∷ []) ≡ codes "ab" ++ 10 ∷ 10 ∷ []
 text-of_two = refl
 
--- what stands behind the last newline is in no whole line
+-- what comes after the last newline is in no whole line
 ended-with_a_rest : ended (codes "a" ++ 10 ∷ codes "b") ≡ codes "a" ++ 10 ∷ []
 ended-with_a_rest = refl
 

@@ -9,7 +9,7 @@ pub record Line : Type 0 where
   pub long : Bool
   pub bytes : List ℕ
 
--- the text cut at each newline; what stands behind the last newline counts where there is anything
+-- the text cut at each newline; what comes after the last newline counts where there is anything
 abbrev pub cut_at_newlines : List ℕ → List (List ℕ)
 cut_at_newlines [] = []
 cut_at_newlines (b ∷ rest) = if b == 10 then [] ∷ cut_at_newlines rest else onto_first b (cut_at_newlines rest)
@@ -49,7 +49,7 @@ line_of_cut text cut = record { long = cut.long; bytes = slice_range text cut.fr
 abbrev pub line_end : List ℕ → ℕ → ℕ
 line_end text at = at + position_or_len (λ b. b == 10) (drop at text)
 
--- the places of a cut at this place of the text: the next line begins behind the newline, or at the end of the text where there is none
+-- the places of a cut at this place of the text: the next line begins after the newline, or at the end of the text where there is none
 pub record IsCut (text : List ℕ) (at : ℕ) (cut : LineCut) : Type 0 where
   pub after_is : cut.after ≡ min (line_end text at + 1) (length text)
   pub further : at < cut.after

@@ -23,7 +23,7 @@ fn taken_of(alloc: Global, line: &[u8], most: u64) -> Result<Taken, AllocError>
     Ok(Taken::Line(Bytes::copy_of(alloc, said)?))
 }
 
-/// How many bytes of a piece are kept behind those that are held: of a line that does not end in it, no more than
+/// How many bytes of a piece are kept after those that are held: of a line that does not end in it, no more than
 /// show that it is long.
 fn kept_len(held: &[u8], piece: &[u8], most: u64) -> usize
     requires begun { has_newline held.now ≡ false }

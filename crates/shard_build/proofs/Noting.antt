@@ -19,7 +19,7 @@ pub record AreFrom (es : Entries) (number : ℕ) (seen : List Seen) : Type 0 whe
   pub behind : (i : ℕ) → number ≤ i → times i seen ≡ filled (list_at es i)
   pub noted : AllByRecursion (IsNoted (keys_of es)) seen
 
--- what is not before a number and not that number is behind it
+-- what is not before a number and not that number is after it
 behind_it : (number i next : ℕ) → number ≤ i → number + 1 ≡ next → (number ≡ i → ⊥) → next ≤ i
 behind_it zero zero next le follows other = absurd (other refl)
 behind_it zero (suc i) next le follows other = omega (arith, follows)

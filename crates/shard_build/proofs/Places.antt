@@ -30,7 +30,7 @@ pub unless_empty-push : (ps : List ℕ) (p : ℕ) → unless_empty (ps ++ p ∷ 
 unless_empty-push [] p = refl
 unless_empty-push (q ∷ qs) p = refl
 
--- one word more goes behind the places of its token
+-- one word more goes after the places of its token
 pub group_of-push : (words : List Word) (p : ℕ) (t token : List ℕ) →
     group_of (words ++ word p t ∷ []) token ≡ cond (bytes_eq t token) (Some (unwrap_or (group_of words token) [] ++ p ∷ [])) (group_of words token)
 group_of-push words p t token =
@@ -47,7 +47,7 @@ words_from_rise (t ∷ ts) p end le = (le_refl p, omega (arith, le), words_from_
 pub places_rise : (tokens : List (List ℕ)) (p : ℕ) (token : List ℕ) → RiseWithin p (p + length tokens) (places (words_from p tokens) token)
 places_rise tokens p token = rising_places (p + length tokens) p (words_from p tokens) token (words_from_rise tokens p (p + length tokens) (le_refl (p + length tokens)))
 
--- so the next address is behind those of each token
+-- so the next address is after those of each token
 pub group_behind : (p : ℕ) (tokens : List (List ℕ)) (token : List ℕ) (address : ℕ) (o : Option (List ℕ)) → address ≡ p + length tokens → o ≡ group_of (words_from p tokens) token → IfSome o (λ list. RiseWithin 0 address list)
 group_behind p tokens token address o at is = subst (λ g. IfSome g (λ list. RiseWithin 0 address list)) (sym is) (if_there (places (words_from p tokens) token) (rise_wider p 0 (p + length tokens) address (places (words_from p tokens) token) (places_rise tokens p token) (omega arith) (omega (arith, at))))
   where

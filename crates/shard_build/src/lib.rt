@@ -3,10 +3,10 @@
 //! Contracts see the tokens of a file between its two boundary tokens, at consecutive addresses. The words of the shard
 //! that `build` makes are these, and its range is these addresses.
 //!
-//! The layer above gives the next free address and a file's tokens. From address 0 on, the shard of `to be or not to be`
-//! has `to` at 1 and 5, and `</file!>` at 7. Any `Tokens` will do: a list of tokens, or a text that was cut. Of a text as
-//! it stands, `build_text` takes one token after the other, so that nothing is kept but the index and `Names`. What these
-//! have is seen by no contract, and changes no shard: whoever builds many lends the same ones to each call.
+//! The layer above gives the next free address and a file's tokens. From address 0 on, the shard of `to be or not to
+//! be` has `to` at 1 and 5, and `</file!>` at 7. Any `Tokens` will do: a list of tokens, or a text that was cut. Of a
+//! text as it stands, `build_text` takes one token after the other, so that nothing is kept but the index and `Names`.
+//! What these have is seen by no contract, and changes no shard: whoever builds many lends the same ones to each call.
 #![tactic(auto)]
 
 mod building;

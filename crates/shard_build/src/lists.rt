@@ -15,7 +15,7 @@ use indexmap::IndexMap;
 use posting_code::{BLOCK, PostingList, PostingMaker};
 use std::alloc::AllocError;
 
-/// Puts an address behind those of the name with this number: whether it is the first.
+/// Puts an address after those of the name with this number: whether it is the first.
 pub(crate) fn push_at(
     lists: &mut IndexMap<Name, PostingMaker>,
     number: usize,
@@ -120,7 +120,7 @@ fn hand_one(
     done
 }
 
-/// Puts a name with its addresses behind the others.
+/// Puts a name with its addresses after the others.
 fn lend(
     lists: &IndexMap<Name, PostingMaker>,
     last: Seen,

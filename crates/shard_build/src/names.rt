@@ -80,7 +80,7 @@ impl Names {
         }
     }
 
-    /// Puts an address behind those of its token.
+    /// Puts an address after those of its token.
     pub(crate) fn put(&mut self, token: &[u8], address: u64) -> Result<(), AllocError>
         requires bounded { address < address_end }
         requires behind { IfSome (addresses_of self.old token.now) (λ list. RiseWithin 0 address list) }
@@ -109,7 +109,7 @@ impl Names {
         Ok(number)
     }
 
-    /// Puts an address behind those of the name with this number.
+    /// Puts an address after those of the name with this number.
     // Only at its first address is it noted that the name was seen.
     fn put_at(&mut self, number: usize, address: u64) -> Result<(), AllocError>
         requires within { number < length self.old.entries }
@@ -124,7 +124,7 @@ impl Names {
         Ok(())
     }
 
-    /// The shard of the names that were seen. No list has addresses behind.
+    /// The shard of the names that were seen. No list has addresses left.
     pub(crate) fn make(&mut self, alloc: Global, range: Range) -> Result<Shard, AllocError>
         requires { (tokens : List (List ℕ)) × HaveTokens self.old range tokens }
         ensures words { IfOk result (λ shard. (tokens : List (List ℕ)) → HaveTokens self.old range tokens → words_of shard ≡ words_from range.first tokens) }

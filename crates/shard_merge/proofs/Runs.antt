@@ -23,13 +23,13 @@ use Rattle.shard_merge.proofs.SameWords.{shard_has_words}
 use Rattle.slot_terms.specs.Parts.{PartContent, IsPart, part_of, postings_left}
 use Rattle.shard_merge.specs.Merged.{AreWordsOf}
 
--- the next file of a run goes behind those before it
+-- the next file of a run goes after those before it
 pub run_next : (xs ys : List FileEntry) (y : FileEntry) → IsFileRun (xs ++ y ∷ ys) → IfSome (last_file xs) (λ last. Precedes last y)
 run_next [] ys y run = tt
 run_next (x ∷ []) ys y run = run.1.0
 run_next (x ∷ z ∷ zs) ys y run = run_next (z ∷ zs) ys y run.2
 
--- the next record to be put behind the files that are copied already
+-- the next record to be put after the files that are copied already
 pub put_next : (files records now : List FileEntry) (i : ℕ) (item : FileEntry) → IsFileRun (files ++ records) → i < length records → item ≡ get_or records i item →
     now ≡ files ++ take i records → IfSome (last_file now) (λ last. Precedes last item)
 put_next files records now i item run lt at is =
@@ -51,7 +51,7 @@ put_slot slots now i slot run lt at is =
     let front : now ++ slot.files ≡ files_of (take (i + 1) slots) = flat_map_item (λ (s : SlotContent). s.files) slots i [] now (now ++ slot.files) slot lt at is refl in
     subst IsFileRun (sym front) (run_left (files_of (take (i + 1) slots)) (files_of (drop (i + 1) slots)) (subst IsFileRun whole run))
 
--- some slots of a version, one behind the other
+-- some slots of a version, one after the other
 pub record IsRun (slots : List SlotContent) : Type 0 where
   pub all : AllByRecursion IsSlot slots
   pub apart : (low : ℕ) × (end : ℕ) × AreRangesWithin low end (ranges_of slots)

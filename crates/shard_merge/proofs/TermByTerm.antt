@@ -32,7 +32,7 @@ pub all_before : (parts : List PartContent) (table : List TermEntry) (term : Lis
 all_before parts [] term any all = tt
 all_before parts (e ∷ es) term any all = (member_after parts term e.term any all.0, all_before parts es term any all.1)
 
--- a term that comes behind all entries has no postings
+-- a term that comes after all entries has no postings
 pub before_missed : (es : List TermEntry) (term : List ℕ) → AllBefore term es → postings_of es term ≡ []
 before_missed [] term all = refl
 before_missed (e ∷ es) term all = rw (before_differs e.term term all.0) (before_missed es term all.1)
@@ -74,7 +74,7 @@ merging_skips start parts table term m next = record {
   ];
 }
 
--- a term with live postings goes behind the others
+-- a term with live postings goes after the others
 pub merging_pushes : (start parts : List PartContent) (table : List TermEntry) (term addresses : List ℕ) → IsMerging start parts table → IsNext parts term addresses →
     IsMerging start (map (past term) parts) (table ++ entry term addresses ∷ [])
 merging_pushes start parts table term addresses m next =

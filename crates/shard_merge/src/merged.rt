@@ -28,7 +28,7 @@ pub(crate) fn merge_terms(
     merge_live(alloc, range, terms)
 }
 
-/// The same where no posting is dead. The lists are put behind each other as they are packed.
+/// The same where no posting is dead. The lists are put one after another as they are packed.
 fn merge_whole(alloc: Global, range: Range, terms: &mut SlotTerms<'_>) -> Result<Shard, AllocError>
     requires parts { AllByRecursion IsPart terms.old }
     requires whole { AllByRecursion IsWhole terms.old }

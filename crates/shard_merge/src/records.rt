@@ -18,7 +18,7 @@ pub(crate) fn records_of(alloc: Global, slots: &[Slot]) -> Result<FileRun, Alloc
     Ok(files)
 }
 
-/// Puts the records behind the files. They are shared.
+/// Puts the records after the files. They are shared.
 fn put_shared(files: &mut FileRun, records: &[SharedRecord]) -> Result<(), AllocError>
     requires { IsFileRun (files.old ++ records.now) }
     ensures { OnOk result (files.new ≡ files.old ++ records.now) }

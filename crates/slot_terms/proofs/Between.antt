@@ -46,7 +46,7 @@ both_bounds : (low low' end end' : ℕ) (xs : List ℕ) → RiseWithin low end x
 both_bounds low low' end end' [] r s = tt
 both_bounds low low' end end' (x ∷ xs) r s = (r.0, s.1, both_bounds (x + 1) (x + 1) end end' xs r.2 s.2)
 
--- rising postings in three parts: before a range, within it, and behind it
+-- rising postings in three parts: before a range, within it, and after it
 pub record IsParted (range : SlotRange) (rest live others dead after : List ℕ) : Type 0 where
   pub whole : rest ≡ live ++ others
   pub below : RiseWithin 0 range.first live
@@ -62,7 +62,7 @@ before_alive range later low end live apart below =
     alive_where (range ∷ later) 0 range.first live below
     (λ p le lt. or_from (is_within range p) (is_dead later p) (is_within-before range p lt) (is_dead-before (range.last + 1) end later p apart.3 (omega (arith, lt, some))))
 
--- of them those before the range are alive, and of those behind it what later ranges leave
+-- of them those before the range are alive, and of those after it what later ranges leave
 pub parted : (range : SlotRange) (later : List SlotRange) (low end : ℕ) (rest live others dead after : List ℕ) → AreRangesWithin low end (range ∷ later) → IsParted range rest live others dead after →
     alive (range ∷ later) rest ≡ live ++ alive later after
 parted range later low end rest live others dead after apart is =
@@ -98,7 +98,7 @@ dead_behind low p q (range ∷ front) back r le =
     let below = r.2 in
     rw (is_within-behind range q (omega (arith, below, le))) (dead_behind (range.last + 1) p q front back r.3 le)
 
--- ranges that end before an address have none that is behind it
+-- ranges that end before an address have none that is after it
 pub dead_from : (low end : ℕ) (mask : List SlotRange) (p q : ℕ) → AreRangesWithin low end mask → p ≤ q → is_dead (drop (prefix_len (λ range. ltb range.last p) mask) mask) q ≡ is_dead mask q
 dead_from low end mask p q r le =
     let n = prefix_len (λ (range : SlotRange). ltb range.last p) mask in
@@ -165,7 +165,7 @@ between_rises ranges block out put rest live others i range lt at apart was is b
     ∙ sym (append_assoc put live (alive (range ∷ later) others)) in
     front_rises (put ++ live) (alive (range ∷ later) others) (subst ArePostings (sym was.all ∙ ap (λ m. put ++ alive m rest) cut ∙ parts) rising)
 
--- behind the last range all of the rest is left
+-- after the last range all of the rest is left
 pub between_ends : (ranges : List SlotRange) (block out put rest : List ℕ) (i : ℕ) → length ranges ≤ i → IsBetween ranges block out put rest i → put ++ rest ≡ out ++ alive ranges block
 between_ends ranges block out put rest i le was =
     let none : drop i ranges ≡ [] = drop_of_length-le ranges le in

@@ -126,7 +126,7 @@ least_tied parts more first least own of tie =
     let same : first.term.now ≡ term = exact_bytes first.term.now term (sym tie) in
     least_stays parts more least false of (subst (IsNoLater (Some term)) own.term (inl (sym same))) (λ is. absurd cc)
 
--- one whose first term comes behind the least
+-- one whose first term comes after the least
 pub least_kept : (parts : List PartContent) (more : PartContent) (first : First) (least : Least) → IsFirstOf more.left (Some first) → IsLeastOf parts (Some least) →
     Greater ≡ slice_cmp nat_cmp first.term.now least.first.term.now → IsLeastOf (parts ++ more ∷ []) (Some least)
 least_kept parts more first least own of greater =

@@ -12,7 +12,7 @@ back_within : (low end : ℕ) (xs ys : List ℕ) → RiseWithin low end (xs ++ y
 back_within low end [] ys r = r
 back_within low end (x ∷ xs) ys r = let a = r.0 in rise_wider (x + 1) low end end ys (back_within (x + 1) end xs ys r.2) (omega (arith, a)) (omega arith)
 
--- the front of postings, and what is behind it
+-- the front of postings, and what is after it
 pub front_rises : (xs ys : List ℕ) → ArePostings (xs ++ ys) → ArePostings xs
 front_rises xs ys r = rise_front 0 (2 ^ 56) xs ys r
 

@@ -9,7 +9,7 @@ use Rattle.slot_terms.specs.declared.least.Least.{Least}
 abbrev pub NoneHas : List ℕ → List PartContent → Type 0
 NoneHas term parts = AllByRecursion (λ part. is_headed part.left term ≡ false) parts
 
--- no part has a lesser first term, one has this at the place, and none before it. None behind it has it where it is alone
+-- no part has a lesser first term, one has this at the place, and none before it. None after it has it where it is alone
 pub record IsLeastAt (parts : List PartContent) (least : Least) : Type 0 where
   pub is : IsFirst least.first
   pub none_earlier : NoneEarlier least.first.term.now parts

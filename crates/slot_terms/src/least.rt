@@ -28,7 +28,7 @@ pub(crate) fn least_of<'a>(parts: &[Part<'a>]) -> Option<Least<'a>>
     least
 }
 
-/// The least term of some parts and of one more, which stands behind them.
+/// The least term of some parts and of one more, which comes after them.
 #[inline]
 fn with_part<'a>(least: Option<Least<'a>>, part: &Part<'a>, place: usize) -> Option<Least<'a>>
     requires { IfSome least (λ least. IsFirst least.first) }

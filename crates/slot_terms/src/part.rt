@@ -72,7 +72,7 @@ impl<'a> Part<'a> {
         self.first
     }
 
-    /// Goes past the term, where it is the first, and puts its postings behind the lists.
+    /// Goes past the term, where it is the first, and puts its postings after the lists.
     pub(crate) fn take_list(
         &mut self,
         first: &First<'_>,
@@ -88,7 +88,7 @@ impl<'a> Part<'a> {
         Ok(())
     }
 
-    /// Goes past the first term, and puts its postings behind the lists.
+    /// Goes past the first term, and puts its postings after the lists.
     #[inline]
     pub(crate) fn take_first(&mut self, lists: &mut Vec<Postings<'a>>) -> Result<(), AllocError>
         requires { 0 < length self.old.left }
@@ -123,7 +123,7 @@ impl<'a> Part<'a> {
         }
     }
 
-    /// Goes past the term, where it is the first, and puts its live postings behind the addresses.
+    /// Goes past the term, where it is the first, and puts its live postings after the addresses.
     pub(crate) fn take(
         &mut self,
         first: &First<'_>,
@@ -140,7 +140,7 @@ impl<'a> Part<'a> {
         Ok(())
     }
 
-    /// The same, with the live postings put behind those of a list.
+    /// The same, with the live postings put after those of a list.
     pub(crate) fn take_packed(
         &mut self,
         first: &First<'_>,
@@ -175,7 +175,7 @@ fn first_from(shard: &Shard, place: usize) -> Option<First<'_>>
     })
 }
 
-/// Puts the live ones of the postings behind the others. None of them is unpacked.
+/// Puts the live ones of the postings after the others. None of them is unpacked.
 pub(crate) fn append_live(
     list: &Postings<'_>,
     mask: &Mask,
@@ -222,7 +222,7 @@ fn ranges_from(mask: &Mask, p: u64) -> &[Range]
     &ranges[before..]
 }
 
-/// Puts the live ones of a block's postings behind the others: what stands between two dead ranges is copied as it is packed.
+/// Puts the live ones of a block's postings after the others: what stands between two dead ranges is copied as it is packed.
 fn append_between(
     block: Postings<'_>,
     ranges: &[Range],
@@ -245,7 +245,7 @@ fn append_between(
     postings.append(&rest)
 }
 
-/// Puts the live ones of the postings behind the addresses. Each block is read once.
+/// Puts the live ones of the postings after the addresses. Each block is read once.
 fn put_live(list: &Postings<'_>, mask: &Mask, addresses: &mut Vec<u64>) -> Result<(), AllocError>
     ensures { OnOk result (addresses.new.items ≡ addresses.old.items ++ alive mask.now list.now) }
 {
@@ -257,7 +257,7 @@ fn put_live(list: &Postings<'_>, mask: &Mask, addresses: &mut Vec<u64>) -> Resul
     Ok(())
 }
 
-/// Puts the live ones of a block's postings behind the addresses. Where no dead range meets the block it is put as a whole.
+/// Puts the live ones of a block's postings after the addresses. Where no dead range meets the block it is put as a whole.
 fn put_block(members: &[u64], mask: &Mask, addresses: &mut Vec<u64>) -> Result<(), AllocError>
     requires { ArePostings members.now }
     ensures { OnOk result (addresses.new.items ≡ addresses.old.items ++ alive mask.now members.now) }

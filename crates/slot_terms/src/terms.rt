@@ -84,7 +84,7 @@ impl<'a> SlotTerms<'a> {
         room
     }
 
-    /// The next term behind its first bytes as a number, and its postings in place of the lists, slot by slot. They are lent, and none is
+    /// The next term after its first bytes as a number, and its postings in place of the lists, slot by slot. They are lent, and none is
     /// unpacked. After an Err nothing is known of what is still to come.
     pub fn next_lists(
         &mut self,
@@ -165,7 +165,7 @@ impl<'a> SlotTerms<'a> {
     }
 }
 
-/// Goes past the term in each part, and puts its live postings behind those of a list.
+/// Goes past the term in each part, and puts its live postings after those of a list.
 fn take_term_packed(
     parts: &mut [Part<'_>],
     first: &First<'_>,
@@ -182,7 +182,7 @@ fn take_term_packed(
     Ok(())
 }
 
-/// Goes past the term in each part, and puts its live postings behind the addresses.
+/// Goes past the term in each part, and puts its live postings after the addresses.
 fn take_term(
     parts: &mut [Part<'_>],
     first: &First<'_>,
@@ -199,7 +199,7 @@ fn take_term(
     Ok(())
 }
 
-/// Goes past the least term in each part that has it, and puts its postings behind the lists.
+/// Goes past the least term in each part that has it, and puts its postings after the lists.
 fn take_term_lists<'a>(
     parts: &mut [Part<'a>],
     least: &Least<'_>,

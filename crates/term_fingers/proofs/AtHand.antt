@@ -30,7 +30,7 @@ whole_known slots number whole d known told = λ slot at.
     sym (get_or-take (length slots) whole number d (slice_get_within slots number slot at)) ∙ get_or_from_slice_get (take (length slots) whole) number (is_whole slot) d got in
     nil_from_length slot.mask (eqb-true (length slot.mask) 0 (sym is ∙ told))
 
--- a slot at a place begins behind what is before all slots, and from an address on that is not before the slot, its next word is that of all
+-- a slot at a place begins after what is before all slots, and from an address on that is not before the slot, its next word is that of all
 next_in_slot : (low end : ℕ) (slots : List SlotContent) (number : ℕ) (slot : SlotContent) (term : List ℕ) (k p : ℕ) → AreRangesWithin low end (ranges_of slots) → AllByRecursion IsSlot slots → slice_get slots number ≡ Some slot →
     (low ≤ slot.range.first) × (slot.range.first ≤ k → Some p ≡ next_place (live_words slot) term k → Some p ≡ next_place (live_of slots) term k)
 next_in_slot low end [] zero slot term k p r are at = absurd cc
@@ -51,7 +51,7 @@ next_in_slot low end (x ∷ xs) (suc number) slot term k p r are at =
           rest.1 from here ∙ sym (next_in_rest x xs term k (sym none)),
     )
 
--- up to an address that is not behind a slot, its last word is that of all
+-- up to an address that is not after a slot, its last word is that of all
 previous_in_slot : (low end : ℕ) (slots : List SlotContent) (number : ℕ) (slot : SlotContent) (term : List ℕ) (k p : ℕ) → AreRangesWithin low end (ranges_of slots) → AllByRecursion IsSlot slots → slice_get slots number ≡ Some slot →
     k ≤ slot.range.last → Some p ≡ previous_place (live_words slot) term k → Some p ≡ previous_place (live_of slots) term k
 previous_in_slot low end [] zero slot term k p r are at upto here = absurd cc

@@ -41,7 +41,7 @@ module _ (first second : List ℕ) (k : ℕ) (rise : ArePostings first) (rise_be
     ],
   )
 
-  -- where the member of the second list lies farther behind, the first list's is passed
+  -- where the member of the second list lies farther on, the first list's is passed
   passed_first : (i j : ℕ) → j < length second → get_or first i 0 + 1 < get_or second j 0 → ArePassed first second k i j → ArePassed first second k (i + 1) j
   passed_first i j within less passed = λ x y xl yl ge same.
       let p = passed x y xl yl ge same in
@@ -105,7 +105,7 @@ module _ (first second : List ℕ) (k : ℕ) (rise : ArePostings first) (rise_be
   steps_by i j u w a b other passed eu ew =
       subst (λ n. IsStep i j n w) (sym eu) (subst (λ n. IsStep i j (one_below (get_or first i 0 + 1) (get_or second j 0)) n) (sym ew) (steps_on i j a b other passed))
 
-  -- of two and two, of which none stand side by side, the first list's are passed where the other's last one lies farther behind
+  -- of two and two, of which none stand side by side, the first list's are passed where the other's last one lies farther on
   passed_two_first : (i j : ℕ) → i + 1 < length first → j + 1 < length second → (get_or first i 0 + 1 ≡ get_or second j 0 → ⊥) → (get_or first (i + 1) 0 + 1 ≡ get_or second j 0 → ⊥) →
       get_or first (i + 1) 0 + 1 < get_or second (j + 1) 0 → ArePassed first second k i j → ArePassed first second k (i + 2) j
   passed_two_first i j a b near far less passed = λ x y xl yl ge same.

@@ -17,7 +17,7 @@ use Rattle.term_fingers.proofs.Beside.{at_of_block, list_is, slot_is}
 pub in_list : (xs part : List ℕ) (b p : ℕ) → part ≡ block_of xs b → IsAt part p → IsAt xs p
 in_list xs part b p is at = subst (IsAt xs) at.is (at_of_block xs part b at.place is at.within)
 
--- a member is the first one, or one of those behind it
+-- a member is the first one, or one of those after it
 pub first_or_behind : (x : ℕ) (xs : List ℕ) (p : ℕ) → IsAt (x ∷ xs) p → (x ≡ p) ⊎ IsAt xs p
 first_or_behind x xs p at = by_place at.place at.within at.is
   where

@@ -34,7 +34,7 @@ none_at : (low end : ℕ) (xs : List ℕ) (k : ℕ) → RiseWithin low end xs �
 none_at low end [] k r after = refl
 none_at low end (x ∷ xs) k r after = let lt : k < x = after (omega arith) in greatest_none x end (x ∷ xs) k (omega arith, r.1, r.2) lt
 
--- where the member at place n is at most k, and the one behind it is not, that one is the greatest up to k
+-- where the member at place n is at most k, and the one after it is not, that one is the greatest up to k
 greatest_at : (low end : ℕ) (xs : List ℕ) (n k : ℕ) → RiseWithin low end xs → n < length xs → get_or xs n 0 ≤ k → ((m : ℕ) → m ≡ suc n → m < length xs → k < get_or xs m 0) → greatest_to xs k ≡ Some (get_or xs n 0)
 greatest_at low end [] n k r within before after = absurd (omega arith)
 greatest_at low end (x ∷ xs) zero k r within before after =
@@ -42,11 +42,11 @@ greatest_at low end (x ∷ xs) zero k r within before after =
 greatest_at low end (x ∷ xs) (suc n) k r within before after =
     rw (greatest_at (x + 1) end xs n k r.2 (omega arith) before (λ m e lt. after (suc m) (ap suc e) (omega arith))) refl
 
--- what stands behind the members below k is the least from k on
+-- what comes after the members below k is the least from k on
 pub least_below : (xs : List ℕ) (n k : ℕ) → ArePostings xs → AreBelow xs k n → least_from xs k ≡ slice_get xs n
 least_below xs n k r below = least_at 0 (2 ^ 56) xs n k r below.within (λ m e. let back : n - 1 ≡ m = omega (arith, e) in subst (λ i. get_or xs i 0 < k) back (below.before (omega (arith, e)))) below.after
 
--- where none is below what comes right behind k, none is k or less
+-- where none is below what comes right after k, none is k or less
 pub greatest_before : (xs : List ℕ) (n k next : ℕ) → ArePostings xs → ((u : ℕ) → u < 2 ^ 56 → next ≤ u → k < u) → AreBelow xs next n → n ≡ 0 → None ≡ greatest_to xs k
 greatest_before xs n k next r above below none =
     sym (none_at 0 (2 ^ 56) xs k r (λ lt. above (get_or xs 0 0) (rise_index 0 (2 ^ 56) xs 0 r lt).1 (subst (λ i. i < length xs → next ≤ get_or xs i 0) none below.after lt)))
@@ -68,7 +68,7 @@ greatest_below xs n at k next r upto above below is =
 pub below_border : (xs : List ℕ) (n k : ℕ) → n ≤ length xs → (0 < n → ltb (get_or xs (n - 1) 0) k ≡ true) → (n < length xs → ltb (get_or xs n 0) k ≡ false) → AreBelow xs k n
 below_border xs n k within before after = record { within = within; before = λ some. ltb-true _ _ (before some); after = λ lt. ltb-false _ _ (after lt) }
 
--- a member is at most one that stands behind it
+-- a member is at most one that comes after it
 pub climbs : (low end : ℕ) (xs : List ℕ) (i j : ℕ) → RiseWithin low end xs → i ≤ j → j < length xs → get_or xs i 0 ≤ get_or xs j 0
 climbs low end [] i j r le lt = absurd (omega (arith, lt))
 climbs low end (x ∷ xs) zero zero r le lt = le_refl x
@@ -76,7 +76,7 @@ climbs low end (x ∷ xs) zero (suc j) r le lt = let above = (rise_index (x + 1)
 climbs low end (x ∷ xs) (suc i) zero r le lt = absurd (omega (arith, le))
 climbs low end (x ∷ xs) (suc i) (suc j) r le lt = climbs (x + 1) end xs i j r.2 (omega (arith, le)) (omega (arith, lt))
 
--- a member is less than the one behind it
+-- a member is less than the one after it
 rises_on : (low end : ℕ) (xs : List ℕ) (i : ℕ) → RiseWithin low end xs → suc i < length xs → get_or xs i 0 < get_or xs (suc i) 0
 rises_on low end [] i r lt = absurd (omega arith)
 rises_on low end (x ∷ xs) zero r lt = let above = (rise_index (x + 1) end xs zero r.2 (omega arith)).0 in omega (arith, above)
@@ -141,7 +141,7 @@ part-ge u k size ge = ap (λ b. cond b size 0) (le-ltb u k ge)
 part_is : (xs : List ℕ) (k size n m : ℕ) → n ≡ m → m + size ≤ length xs → (0 < m → get_or xs (m - 1) 0 < k) → (m + size < length xs → k ≤ get_or xs (m + size) 0) → (n + size ≤ length xs) × EndBetween xs k n (n + size)
 part_is xs k size n m same within before after = subst (λ i. (i + size ≤ length xs) × EndBetween xs k i (i + size)) (sym same) (within, record { before = before; after = after })
 
--- of four parts those that end below k come first, and the members below k end in the one behind them
+-- of four parts those that end below k come first, and the members below k end in the one after them
 pub quarter_ends : (xs : List ℕ) (k i size a b d : ℕ) → ArePostings xs → 0 < size → i + 4 * size ≤ length xs → EndBetween xs k i (i + 4 * size) →
     a ≡ size_below (get_or xs (i + size - 1) 0) k size → b ≡ size_below (get_or xs (i + 2 * size - 1) 0) k size → d ≡ size_below (get_or xs (i + 3 * size - 1) 0) k size →
     (i + a + b + d + size ≤ length xs) × EndBetween xs k (i + a + b + d) (i + a + b + d + size)
@@ -187,7 +187,7 @@ below_one xs k at n within ends is =
           subst (AreBelow xs k) same record { within = omega (arith, within); before = ends.before; after = λ _. ge }
     ]
 
--- a place with one below k right before it, and the fourth behind it not below k, begins four that they end in
+-- a place with one below k right before it, and the fourth after it not below k, begins four that they end in
 pub ends_soon : (xs : List ℕ) (k n : ℕ) → ArePostings xs → get_or xs (n - 1) 0 < k → k ≤ get_or xs (n + 3) 0 → EndBetween xs k n (n + 4)
 ends_soon xs k n r less more = record {
   before = λ _. less;

@@ -57,7 +57,7 @@ one_below member k = if nat_lt member k then 1 else 0
 abbrev pub size_below : ℕ → ℕ → ℕ → ℕ
 size_below last k size = if nat_lt last k then size else 0
 
--- the members below k end at place i or behind, and before place j or there: of 2, 5 and 9 those below 6 end between 0 and 2
+-- the members below k end at place i or after, and before place j or there: of 2, 5 and 9 those below 6 end between 0 and 2
 pub record EndBetween (members : List ℕ) (k i j : ℕ) : Type 0 where
   pub before : 0 < i → slice_index members (i - 1) < k
   pub after : j < length members → k ≤ slice_index members j
@@ -74,12 +74,12 @@ pub record IsAt (members : List ℕ) (p : ℕ) : Type 0 where
   pub within : place < length members
   pub is : slice_index members place ≡ p
 
--- each member of the first list, from k on, with a member of the second right behind it stands at place i or later, and that one at j or later:
+-- each member of the first list, from k on, with a member of the second right after it stands at place i or later, and that one at j or later:
 -- of 2, 5 and 9 beside 4 and 10 from 2 on it is so of the places 2 and 1
 abbrev pub ArePassed : (first second : List ℕ) (k i j : ℕ) → Type 0
 ArePassed first second k i j = (x y : ℕ) → x < length first → y < length second → k ≤ slice_index first x → slice_index first x + 1 ≡ slice_index second y → (i ≤ x) × (j ≤ y)
 
--- a member of the first list lies at k or before, and one of the second at r or behind
+-- a member of the first list lies at k or before, and one of the second at r or after
 pub record LieAround (first second : List ℕ) (k r : ℕ) : Type 0 where
   pub low : ℕ
   pub begins : IsAt first low
@@ -88,7 +88,7 @@ pub record LieAround (first second : List ℕ) (k r : ℕ) : Type 0 where
   pub ends : IsAt second high
   pub upto : r ≤ high
 
--- from k on before r no member of the first list has one of the second right behind it, and if that says anything, their members lie around
+-- from k on before r no member of the first list has one of the second right after it, and if that says anything, their members lie around
 pub record LackPairs (first second : List ℕ) (k r : ℕ) : Type 0 where
   pub none : (p : ℕ) → k ≤ p → p < r → IsAt first p → IsAt second (p + 1) → ⊥
   pub around : k < r → LieAround first second k r

@@ -13,7 +13,7 @@ use gcl_model::{Direction, Interval, Ledger, NoLedger, Steps};
 use std::sync::ledger;
 use std::sync::ledger::Blank;
 
-/// The interval up to the next `second` behind the next `first` from `k` on, and from the last `first` before that, as far as their fingers
+/// The interval up to the next `second` after the next `first` from `k` on, and from the last `first` before that, as far as their fingers
 /// tell. The probes are kept nowhere.
 #[inline(always)]
 pub(crate) fn element_from<'a, J: Naming, B: ledger::Ledger>(
@@ -44,7 +44,7 @@ pub(crate) fn element_from<'a, J: Naming, B: ledger::Ledger>(
     element_from_by(first, second, &mut finger, &mut behind, k, &mut probes)
 }
 
-/// The interval from the last `first` before the next `second` from `k` on, and up to the next `second` behind that, where it ends at `k` or
+/// The interval from the last `first` before the next `second` from `k` on, and up to the next `second` after that, where it ends at `k` or
 /// later, as far as their fingers tell. The probes are kept nowhere.
 #[inline(always)]
 pub(crate) fn element_up_to<'a, J: Naming, B: ledger::Ledger>(

@@ -56,7 +56,7 @@ impl<J: Naming> Finger<J> {
         self.place
     }
 
-    /// An address from `k` on before which no member of this finger's list has one of the other finger's right behind it, and whether one
+    /// An address from `k` on before which no member of this finger's list has one of the other finger's right after it, and whether one
     /// there does, as far as the blocks tell that both hold. Both go on to there.
     pub(crate) fn earliest_pair(&mut self, other: &mut Finger<J>, k: u64) -> Pair
         requires { IsVersion J.version }

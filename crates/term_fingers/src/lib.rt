@@ -1,4 +1,5 @@
-//! The terms of a query, each found once in each slot of a version, with a finger on the postings that it was last looked for in.
+//! The terms of a query, each found once in each slot of a version, with a finger on the postings that it was last
+//! looked for in.
 //!
 //! Contracts see `Fingers` as the version that they are over: as `Leaves` they have its text, its span and its bound of
 //! look-ups. No contract sees which terms were found, or where a finger is, so no answer depends on it.

@@ -152,7 +152,7 @@ pub(crate) fn least_in<P: Ledger>(
     (Some(members[at]), at)
 }
 
-/// The greatest member up to `k`, and the place behind it, looked for from the place `hint` on.
+/// The greatest member up to `k`, and the place after it, looked for from the place `hint` on.
 #[inline(always)]
 pub(crate) fn greatest_in<P: Ledger>(
     members: &[u64],

@@ -5,7 +5,7 @@ use posting_access::{Test, border};
 
 /// A place that fails, or the end, where the one before it passes, or it is the first. It is looked for from a place on that it
 /// may be near to, in steps that double and then by halving: as many tests as twice the digits of how far it is from there. Any
-/// hint is right, one behind the end too.
+/// hint is right, one after the end too.
 pub(crate) fn border_near<T: Test, P: Ledger>(
     test: &T,
     len: usize,

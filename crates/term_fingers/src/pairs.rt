@@ -5,7 +5,7 @@ ghost use Rattle.term_fingers.specs.Lists.{ArePassed, IsAt};
 use crate::members::one_below;
 use gcl_model::Pair;
 
-/// An address from `k` on before which no member of the first list has one of the second right behind it, whether one there does, and the
+/// An address from `k` on before which no member of the first list has one of the second right after it, whether one there does, and the
 /// place in each list up to which it was gone through. The places from which on they are gone through are only hints.
 pub(crate) fn earliest_pair_in(
     first: &[u64],
@@ -46,7 +46,7 @@ fn place_from(members: &[u64], hint: usize, k: u64) -> usize
     ensures within { result ≤ length members.now }
     ensures before { 0 < result → slice_index members.now (result - 1) < k }
 {
-    // a hint behind a member that is not below `k` is of no use
+    // a hint after a member that is not below `k` is of no use
     let mut at = if 0 < hint && hint <= members.len() && members[hint - 1] < k {
         hint
     } else {
@@ -59,7 +59,7 @@ fn place_from(members: &[u64], hint: usize, k: u64) -> usize
 }
 
 /// Goes through both lists side by side from these places on, two members of the one or the other at a time, as long as of two and two none
-/// stands right behind the other.
+/// stands right after the other.
 // Each turn waits for the last one's, so fewer turns take less time, though each of them compares more.
 fn by_twos(first: &[u64], second: &[u64], from: usize, from_behind: usize, k: u64) -> (usize, usize)
     requires first { ArePostings first.now }
@@ -82,7 +82,7 @@ fn by_twos(first: &[u64], second: &[u64], from: usize, from_behind: usize, k: u6
     (at, behind)
 }
 
-/// Whether of two members of the second list, from its place on, none stands right behind one of two of the first.
+/// Whether of two members of the second list, from its place on, none stands right after one of two of the first.
 #[inline(always)]
 fn apart(first: &[u64], second: &[u64], at: usize, behind: usize) -> bool
     requires rising { ArePostings first.now }
@@ -103,7 +103,7 @@ fn apart(first: &[u64], second: &[u64], at: usize, behind: usize) -> bool
     true
 }
 
-/// Goes through both lists side by side from these places on, up to the first member of the one that has a member of the other right behind
+/// Goes through both lists side by side from these places on, up to the first member of the one that has a member of the other right after
 /// it, or to the end of one.
 fn side_by_side(
     first: &[u64],
@@ -133,7 +133,7 @@ fn side_by_side(
     (at, behind)
 }
 
-/// The member at a place, or the address behind the last one.
+/// The member at a place, or the address after the last one.
 fn address_at(members: &[u64], at: usize) -> u64
     requires rising { ArePostings members.now }
     requires some { 0 < length members.now }

@@ -133,7 +133,7 @@ impl<'a, J: Naming> Term<'a, J> {
         finger.nearest_within(&list, k, direction, probes)
     }
 
-    /// An address from `k` on before which the other term nowhere stands right behind this one, and whether it does there, as far as their
+    /// An address from `k` on before which the other term nowhere stands right after this one, and whether it does there, as far as their
     /// fingers tell.
     pub(crate) fn earliest_pair(
         &self,

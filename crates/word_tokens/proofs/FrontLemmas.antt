@@ -45,7 +45,7 @@ a_bracket true q e = refl
 a_bracket false true e = refl
 a_bracket false false e = absurd cc
 
--- the search for brackets from behind a name
+-- the search for brackets from after a name
 pub record BracketAt (after : List ℕ) (k : ℕ) : Type 0 where
   pub within : k < length after
   pub before : prefix_len is_tag_byte after ≡ k

@@ -12,7 +12,7 @@ other_opening text opening middle closing other e =
 behind_opening : (text behind opening middle closing : List ℕ) → behind ≡ drop (length opening) text → text ≡ opening ++ middle ++ closing → behind ≡ middle ++ closing
 behind_opening text behind opening middle closing b e = b ∙ ap (drop (length opening)) (e ∙ append_assoc opening middle closing) ∙ drop_at opening (middle ++ closing) _ refl
 
--- what stands behind the opening does not end with the closing
+-- what comes after the opening does not end with the closing
 pub other_closing : (text behind opening middle closing : List ℕ) → behind ≡ drop (length opening) text → pointwise nat_eq (drop (length behind - length closing) behind) closing ≡ false
     → text ≡ opening ++ middle ++ closing → false ≡ true
 other_closing text behind opening middle closing b other e =

@@ -20,7 +20,7 @@ use Rattle.word_tokens.proofs.PartLemmas.{token_from_part}
 abbrev pub AllPass : (ℕ → Bool) → List ℕ → Type 0
 AllPass p bytes = AllByRecursion (λ b. p b ≡ true) bytes
 
--- a letter, and bytes of a name behind it; or nothing
+-- a letter, and bytes of a name after it; or nothing
 abbrev pub IsName : List ℕ → Type 0
 IsName [] = Unit {0}
 IsName (b ∷ bytes) = (is_ascii_alphabetic b ≡ true) × AllPass is_name_byte bytes

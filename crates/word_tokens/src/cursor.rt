@@ -63,7 +63,7 @@ impl<'a> TokenCursor<'a> {
     }
 }
 
-/// The first lexeme that gives a token, or a separator where no token is left, and what stands behind it.
+/// The first lexeme that gives a token, or a separator where no token is left, and what comes after it.
 fn next_lexeme(bytes: &[u8]) -> (Lexeme<'_>, &[u8])
     ensures whole { tokens_of bytes.now ≡ lexeme_tokens result.0 ++ tokens_of result.1.now }
     ensures none { lexeme_tokens result.0 ≡ [] → tokens_of bytes.now ≡ [] }

@@ -70,7 +70,7 @@ pub(crate) fn append_lower_case(bytes: &mut Vec<u8>, name: &[u8]) -> Result<(), 
     Ok(())
 }
 
-/// Puts one token behind the others: the name in lower case, between these bytes.
+/// Puts one token after the others: the name in lower case, between these bytes.
 fn append_token(
     bytes: &mut Vec<u8>,
     ends: &mut Vec<usize>,
@@ -88,7 +88,7 @@ fn append_token(
     Ok(())
 }
 
-/// Puts the tokens of a lexeme behind the others.
+/// Puts the tokens of a lexeme after the others.
 pub(crate) fn append_tokens(
     bytes: &mut Vec<u8>,
     ends: &mut Vec<usize>,

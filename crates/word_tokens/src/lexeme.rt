@@ -89,7 +89,7 @@ fn tag<'a>(closing: bool, name: &'a [u8], between: &[u8]) -> Lexeme<'a>
     }
 }
 
-/// How many bytes stand before the `>` of a tag, from behind its name on. The search stops at the next `<` too, so a text
+/// How many bytes stand before the `>` of a tag, from after its name on. The search stops at the next `<` too, so a text
 /// with many of these is read no more than twice.
 fn tag_end(after: &[u8]) -> Option<usize>
     ensures { result ≡ tag_end after.now }
@@ -141,7 +141,7 @@ pub(crate) fn first_lexeme(text: &[u8]) -> (Lexeme<'_>, usize)
     (Lexeme::Separator, 1)
 }
 
-/// The lexeme at the front of the text, and what stands behind it.
+/// The lexeme at the front of the text, and what comes after it.
 pub(crate) fn split_lexeme(text: &[u8]) -> (Lexeme<'_>, &[u8])
     requires { 0 < length text.now }
     ensures whole { tokens_of text.now ≡ lexeme_tokens result.0 ++ tokens_of result.1.now }

@@ -5,8 +5,9 @@
 //! `tokens_of` of `gcl_model`, a `TokenText` as the list of its tokens, and bytes that are one token by themselves as
 //! `IsToken`.
 //!
-//! The layers above use `tokens`, `token_text` (the same in two blocks of memory), `TokenCursor` (one at a time), `token_count`, `is_token` and the
-//! law that each token of a text is a token. Of `To <B x="1">be</B >` the tokens are `to`, `<b>`, `be` and `</b>`.
+//! The layers above use `tokens`, `token_text` (the same in two blocks of memory), `TokenCursor` (one at a time),
+//! `token_count`, `is_token` and the law that each token of a text is a token. Of `To <B x="1">be</B >` the tokens are
+//! `to`, `<b>`, `be` and `</b>`.
 #![tactic(auto)]
 
 mod cursor;

@@ -22,7 +22,7 @@ decreases-member l = (length l.text.now - l.at) * 9 + 2 * rank l.joint - 1
 abbrev pub decreases-operand : goal.decreases-operand
 decreases-operand l = (length l.text.now - l.at) * 9
 
--- the chain so far, with a joint behind it
+-- the chain so far, with a joint after it
 abbrev pub invariant-chain-loop-members : goal.invariant-chain-loop-members
 invariant-chain-loop-members l = Chained l.joint l.text l.at l.next l.members.items
 

@@ -2,7 +2,7 @@ use Rattle.std.proofs.Common.{◌+◌, ◌-◌, ◌*◌, ◌<◌, ◌≤◌, len
 use Rattle.phrase_walk.proofs.Steps.{NoneBehind, IsAskedBackward}
 use Rattle.phrase_walk.proofs.walks.last_upto.Given as goal
 
--- no row starts behind here up to k, and the tokens were asked in a ring, the last one first
+-- no row starts after here up to k, and the tokens were asked in a ring, the last one first
 abbrev pub invariant-loop-agreed : goal.invariant-loop-agreed
 invariant-loop-agreed g l =
     let text = g.C.CountedLeaves.text l.source in

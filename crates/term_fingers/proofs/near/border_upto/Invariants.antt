@@ -1,7 +1,7 @@
 use Rattle.std.proofs.Common.{◌≡◌, ◌<◌, ◌≤◌, false}
 use Rattle.term_fingers.proofs.near.border_upto.Given as goal
 
--- the border is not behind `high`
+-- the border is not after `high`
 abbrev pub invariant-loop-step : goal.invariant-loop-step
 invariant-loop-step g l = record {
   within : l.high ≤ g.T.Test.places l.test;

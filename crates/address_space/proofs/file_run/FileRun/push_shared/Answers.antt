@@ -3,7 +3,7 @@ use Rattle.address_space.specs.Runs.{FileEntry, IsPlaced, Precedes, last_file}
 use Rattle.address_space.proofs.RunLemmas.{IsFileRun-push}
 use Rattle.address_space.proofs.file_run.FileRun.push_shared.Goals as goal
 
--- the run of before, with a file behind its last
+-- the run of before, with a file after its last
 pub invariant_of-self-2 : goal.invariant_of-self-2
 invariant_of-self-2 c =
     let IsLastBefore : List FileEntry → Type 0 = λ files. IfSome (last_file files) (λ last. Precedes last c.args.file) in

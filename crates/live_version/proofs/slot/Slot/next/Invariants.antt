@@ -6,7 +6,7 @@ use Rattle.live_version.specs.LookUps.{is_alive}
 use Rattle.live_version.proofs.LeapLemmas.{ahead}
 use Rattle.live_version.proofs.slot.Slot.next.Given as goal
 
--- nothing alive was passed, and each look-up so far met a dead range that is behind
+-- nothing alive was passed, and each look-up so far met a dead range that is not passed yet
 abbrev pub invariant-loop-p : goal.invariant-loop-p
 invariant-loop-p g l = record {
   same : nearest Forward (filter (is_alive l.mask) (postings_of l.shard.table (g.T.LookUp.term l.term))) l.from ≡ nearest Forward (filter (is_alive l.mask) (postings_of l.shard.table (g.T.LookUp.term l.term))) l.k;
