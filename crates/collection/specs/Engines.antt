@@ -1,5 +1,5 @@
 -- What contracts see of an engine, and what is always true of one.
-use Rattle.std.specs.Prelude.{◌≡◌, ℕ, ◌+◌, ◌^◌, ◌≤◌, List, [], ◌∷◌, ◌++◌}
+use Rattle.std.specs.Prelude.{◌≡◌, ◌+◌, ◌≤◌, List, [], ◌∷◌, ◌++◌}
 use Rattle.gcl_model.specs.Limits.{merge_end}
 use Rattle.gcl_model.specs.Collections.{Collection, IsSound}
 use Rattle.gcl_model.specs.Laws.{AreTiers}

@@ -11,7 +11,7 @@ use Rattle.gcl_model.specs.Access.{first_start, last_end}
 use Rattle.gcl_model.proofs.Covers.{covers_by_first_start, covers_by_last_end, ends_by, starts_from, find_gives, find_last_gives, covered_tells, covered_from, same_member, first_start_reached, first_start_none, last_end_reached, last_end_none}
 use Rattle.gcl_model.proofs.Meanings.{any_cover, covers_one, concordance_rises}
 use Rattle.gcl_model.proofs.Reach.{AreRising, operands_of, operands_rise}
-use Rattle.gcl_combine.specs.Better.{EndsFirst, StartsLast, nearer, nearer_back, best_forward, best_backward}
+use Rattle.gcl_combine.specs.Better.{EndsFirst, StartsLast, best_forward, best_backward}
 use Rattle.gcl_model.specs.Directions.{near_access}
 use Rattle.gcl_model.specs.declared.direction.Direction.{Direction}
 use Rattle.gcl_model.specs.declared.direction.Direction.TheVariants.{Forward, Backward}

@@ -1,14 +1,13 @@
 -- Where it is known what the source has left and what the files hold, and of what the lines open it is said rightly what it is an image of.
-use Rattle.std.proofs.Common.{◌≡◌, ℕ, ◌+◌, ◌≤◌, inl, Bool, List, [], length, take, refl, sym, subst, Option, Some, None, IsSome, IfSome, arith}
-use Rattle.std.specs.Io.KnownBytes.{Consumes, IsAtEnd}
+use Rattle.std.proofs.Common.{◌≡◌, ℕ, ◌+◌, inl, List, [], take, refl, sym, subst, Option, Some, None, IsSome, IfSome, arith}
 use Rattle.outside.specs.Contents.{Contents}
 use Rattle.collection.specs.Engines.{EngineContent}
 use Rattle.live_version.specs.Contents.{VersionContent}
 use Rattle.script_lang.specs.Lines.{lines, text_of_lines}
 use Rattle.script_answers.specs.Images.{Images}
 use Rattle.script_answers.specs.States.{State, opening, IsFresh}
-use Rattle.script_answers.specs.Answers.{answers, output_by, AreRead}
-use Rattle.query_run.specs.Runs.{WhereTold, WhereMade, WhereMadeBy, HasAnswered, HasStopped, IsAnsweredBy, made_opening, made_summary}
+use Rattle.script_answers.specs.Answers.{answers, output_by}
+use Rattle.query_run.specs.Runs.{WhereTold, WhereMade, WhereMadeBy, HasStopped, made_opening, made_summary}
 use Rattle.script_answers.specs.Stopped.{GetsPart, IsStopped}
 use Rattle.query_run.specs.Statuses.{IsFinished, IsMadeEnd}
 use Rattle.query_run.specs.declared.status.Status.{Status}
@@ -16,7 +15,7 @@ use Rattle.query_run.specs.declared.status.Status.TheVariants.{Done, DoneWithRef
 use Rattle.script_answers.specs.declared.limits.Limits.{Limits}
 use Rattle.command_words.specs.declared.options.Made.{Made}
 use Rattle.command_words.specs.declared.options.Options.{Options}
-use Rattle.query_run.proofs.WholeScripts.{fresh_keeps, all_read}
+use Rattle.query_run.proofs.WholeScripts.{fresh_keeps}
 use Rattle.script_answers.proofs.Scripts.{part_of_all}
 use Rattle.std.proofs.KnownBytes.{Appends-nil}
 

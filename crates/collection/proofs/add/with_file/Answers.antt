@@ -1,4 +1,4 @@
-use Rattle.std.proofs.Common.{◌+◌, ap, ◌∙◌}
+use Rattle.std.proofs.Common.{ap, ◌∙◌}
 use Rattle.gcl_model.specs.Collections.{with_boundaries, words_from}
 use Rattle.gcl_model.specs.Tokens.{tokens_of}
 use Rattle.word_tokens.proofs.TokenLemmas.{tokens_are_tokens}

@@ -1,6 +1,4 @@
-use Rattle.std.proofs.Common.{◌≡◌, ◌∙◌, ap, rules}
 use Rattle.command_words.specs.Grammar.{options_of}
-use Rattle.query_run.specs.Statuses.{number_of}
 use Rattle.query_run.specs.declared.status.Status.TheVariants.{Done, DoneWithRefusals, Usage, ReadFault, WriteFault, FileFault, ScriptTooLong}
 use Rattle.gclq.proofs.Numbers.{same_status, finished_number, cut_off_number, made_finished, answered_status, sure_status, usage_number}
 use Rattle.gclq.proofs.session.answer.Goals as goal

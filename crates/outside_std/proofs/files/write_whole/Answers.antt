@@ -1,4 +1,4 @@
-use Rattle.std.proofs.Common.{◌≤◌, length, rules}
+use Rattle.std.proofs.Common.{rules}
 use Rattle.outside.proofs.Pieces.{piece_written}
 use Rattle.outside_std.proofs.files.write_whole.Goals as goal
 

@@ -1,5 +1,5 @@
-use Rattle.std.proofs.Common.{◌≡◌, ◌+◌, ◌<◌, ◌≤◌, length, Option, Some, None, ℕ, sym, ◌∙◌, arith}
-use Rattle.posting_access.proofs.Searches.{IsNear, least_found, least_not_found, probed_after}
+use Rattle.std.proofs.Common.{◌∙◌, arith}
+use Rattle.posting_access.proofs.Searches.{least_found, least_not_found, probed_after}
 use Rattle.posting_access.proofs.search.at_or_after.Goals as goal
 
 pub returns-in-Some-clause-answer : goal.returns-in-Some-clause-answer

@@ -1,4 +1,4 @@
-use Rattle.std.proofs.Common.{◌≡◌, ◌+◌, ◌∙◌, sym, subst, arith}
+use Rattle.std.proofs.Common.{◌≡◌, ◌∙◌, sym, subst, arith}
 use Rattle.posting_access.proofs.Searches.{IsNear, greatest_first, greatest_found}
 use Rattle.posting_access.proofs.search.at_or_before.Goals as goal
 

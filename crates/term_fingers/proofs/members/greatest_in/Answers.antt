@@ -1,4 +1,4 @@
-use Rattle.std.proofs.Common.{◌^◌, arith}
+use Rattle.std.proofs.Common.{arith}
 use Rattle.term_fingers.proofs.Nearest.{greatest_before, greatest_below}
 use Rattle.term_fingers.proofs.members.greatest_in.Goals as goal
 

@@ -1,4 +1,4 @@
-use Rattle.std.proofs.Common.{◌≡◌, length, ap, ◌∙◌, sym, subst, arith}
+use Rattle.std.proofs.Common.{length, ap, ◌∙◌, sym, subst, arith}
 use Rattle.live_version.specs.Contents.{VersionContent, IsVersion}
 use Rattle.gcl_model.specs.Tokens.{tokens_of}
 use Rattle.collection.specs.Changes.{AddsFileTo}

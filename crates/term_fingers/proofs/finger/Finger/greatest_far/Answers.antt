@@ -1,6 +1,6 @@
 use Rattle.std.proofs.Common.{◌≡◌, ap, sym, ◌∙◌, subst, arith}
 use Rattle.posting_access.specs.Search.{greatest_to}
-use Rattle.posting_access.proofs.Searches.{IsNear, greatest_first, greatest_found, greatest_near}
+use Rattle.posting_access.proofs.Searches.{IsNear, greatest_first, greatest_near}
 use Rattle.term_fingers.proofs.finger.Finger.greatest_far.Goals as goal
 
 pub returns-in_err-last : goal.returns-in_err-last
