@@ -1,8 +1,8 @@
 -- A collection that can be saved stays one.
-use Rattle.std.proofs.Common.{◌≡◌, ℕ, ◌+◌, ◌^◌, ◌<◌, ◌≤◌, Bool, true, false, not, cond, eqb, List, [], ◌∷◌, ◌++◌, length, filter, flat_map, drop, get_or, refl, sym, ap, ◌∙◌, subst, arith}
+use Rattle.std.proofs.Common.{◌≡◌, ℕ, ◌+◌, ◌^◌, ◌<◌, ◌≤◌, Bool, true, false, not, cond, eqb, List, [], ◌∷◌, ◌++◌, length, filter, flat_map, refl, sym, ap, ◌∙◌, subst, arith}
 use Rattle.std.specs.List.{AllByRecursion}
 use Rattle.std.proofs.lemmas.Grind.{flat_map-append}
-use Rattle.std.proofs.lemmas.List.{append-nil, drop_more}
+use Rattle.std.proofs.lemmas.List.{append-nil}
 use Rattle.gcl_model.specs.Texts.{Word}
 use Rattle.gcl_model.specs.Limits.{address_end}
 use Rattle.gcl_model.specs.Collections.{Collection, File, IsToken, width_of, empty_from, file_end, with_boundaries, with_file, without_file, words_from, words_of}
@@ -10,8 +10,6 @@ use Rattle.gcl_model.proofs.Lists.{all_append, all_left, all_right}
 use Rattle.address_space.proofs.CollectionLemmas.{adding_keeps_soundness, deleting_keeps_soundness, start_is_sound}
 use Rattle.live_version.specs.Changes.{HasTokens, empty_version}
 use Rattle.gcl_model.specs.Names.{is_name}
-use Rattle.gcl_model.specs.Tokens.{tokens_of}
-use Rattle.word_tokens.proofs.TokenLemmas.{tokens_are_tokens}
 use Rattle.address_space.specs.Runs.{FileEntry}
 use Rattle.index_shard.specs.Tables.{ShardContent}
 use Rattle.live_version.specs.Contents.{VersionContent}
@@ -75,11 +73,3 @@ added_saves v w file shard tokens can adds has fits named are short = (
     short = added_short can.0 file.name tokens can.1.short short;
   },
 )
-
--- a short token before others
-pub short_left : (tokens : List (List ℕ)) (i : ℕ) → i < length tokens → length (get_or tokens i []) < 2 ^ 56 → AllByRecursion (λ (t : List ℕ). length t < 2 ^ 56) (drop (i + 1) tokens) → AllByRecursion (λ (t : List ℕ). length t < 2 ^ 56) (drop i tokens)
-short_left tokens i lt short left = subst (AllByRecursion (λ (t : List ℕ). length t < 2 ^ 56)) (sym (drop_more tokens i [] lt)) (short, left)
-
--- what a text is cut into are tokens
-pub tokens_are : (tokens : List (List ℕ)) (bytes : List ℕ) → tokens ≡ tokens_of bytes → AllByRecursion IsToken tokens
-tokens_are tokens bytes is = subst (AllByRecursion IsToken) (sym is) (tokens_are_tokens bytes)

@@ -43,9 +43,6 @@ option_or-none : (o : Option ℕ) → o ≡ option_or o None
 option_or-none None = refl
 option_or-none (Some x) = refl
 
-pub around_starts : (packed : List ℕ) (first at behind k : ℕ) → CanUnpack packed first at → behind ≤ length (members_behind packed first at) → IsAround packed first at behind k first at behind None
-around_starts packed first at behind k can enough = record { can = can; enough = enough; under = option_or-none _; from = refl }
-
 pub take_rises : (low end : ℕ) (xs : List ℕ) (n : ℕ) → RiseWithin low end xs → RiseWithin low end (take n xs)
 take_rises low end [] zero r = tt
 take_rises low end [] (suc n) r = tt
@@ -127,16 +124,6 @@ around_goes packed first at behind k value after (suc left) next next_after belo
           ∙ ap (λ n. option_or (below_in k (next ∷ take n rest)) (Some value)) (sym one);
       from = a.from ∙ ap (λ t. from_in k (value ∷ t)) taken ∙ rw other (ap (λ n. from_in k (next ∷ take n rest)) (sym one));
     }
-
-pub around_ends : (packed : List ℕ) (first at behind k value after left : ℕ) (below : Option ℕ) → IsAround packed first at behind k value after left below → value < k → left ≡ 0 →
-    (Some value ≡ below_in k (first ∷ take behind (members_behind packed first at))) × (None ≡ from_in k (first ∷ take behind (members_behind packed first at)))
-around_ends packed first at behind k value after left below a lt none =
-    let yes : ltb value k ≡ true = lt-ltb value k lt in
-    let other : leb k value ≡ false = lt-leb k value lt in
-    let taken : take left (members_behind packed value after) ≡ [] = ap (λ n. take n (members_behind packed value after)) none in (
-      sym (a.under ∙ ap (λ t. option_or (below_in k (value ∷ t)) below) taken ∙ rw yes refl),
-      sym (a.from ∙ ap (λ t. from_in k (value ∷ t)) taken ∙ rw other refl),
-    )
 
 pub around_met : (packed : List ℕ) (first at behind k value after left : ℕ) (below : Option ℕ) → IsAround packed first at behind k value after left below → k ≤ value →
     (below ≡ below_in k (first ∷ take behind (members_behind packed first at))) × (Some value ≡ from_in k (first ∷ take behind (members_behind packed first at)))

@@ -160,12 +160,6 @@ front_below k list last count first packed heads cut is k' few at below =
     let end : cut.before.first ≡ last_of (take (cut.steps + 1) list) = lent.parts.end ∙ ap last_of lent.is in
     all_below k (take (cut.steps + 1) list) (take_rises 0 (2 ^ 56) list (cut.steps + 1) (subst ArePostings is k'.parts.rising)) (omega (arith, end, below))
 
--- the members after it are not below what the first of them is not below
-pub back_above : (k : ℕ) (list : List ℕ) (cut : Cut) → ArePostings list → IsCut list (packed_of list) cut → k ≤ cut.behind.first → RiseWithin k (2 ^ 56) (drop (cut.steps + 1) list)
-back_above k list cut rising at le =
-    let first = ap (λ l. get_or l 0 0) at.behind.is in
-    none_below_first k (drop (cut.steps + 1) list) (rise_drop 0 (2 ^ 56) list (cut.steps + 1) rising) (λ some. omega (arith, first, le))
-
 -- the members after a cut
 pub lend_back : (list : List ℕ) (last count first : ℕ) (packed : List ℕ) (heads : List Head) (cut : Cut) → kept count first packed ≡ list → IsKeptTo last count first packed heads → length list ≤ 64 → IsCut list (packed_of list) cut →
     CanLend (drop (cut.steps + 1) list) cut.behind.first last (count - (cut.steps + 1)) (take (length packed - cut.behind.at) (drop cut.behind.at packed))

@@ -138,14 +138,6 @@ abbrev pub raised : ℕ → ℕ → ℕ → Option Read → Option Read
 raised i value scale None = None
 raised i value scale (Some r) = raised_by i value scale r.value r.size
 
-pub raised-first : (b : ℕ) (o : Option Read) → behind b o ≡ raised 1 (b - 128) 128 o
-raised-first b None = refl
-raised-first b (Some r) = by_value r.value r.size
-  where
-    by_value : (v size : ℕ) → behind_value b v size ≡ raised_by 1 (b - 128) 128 v size
-    by_value zero size = refl
-    by_value (suc v) size = let e : size + 1 ≡ 1 + size = omega arith in ap (λ s. Some (read (b - 128 + 128 * suc v) s)) e
-
 raised-some : (i value scale v size : ℕ) → 0 < v → raised_by i value scale v size ≡ Some (read (value + scale * v) (i + size))
 raised-some i value scale zero size lt = absurd (omega arith)
 raised-some i value scale (suc v) size lt = refl

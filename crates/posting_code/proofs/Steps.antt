@@ -2,7 +2,7 @@
 use Rattle.std.proofs.Common.{◌≡◌, ℕ, ◌+◌, ◌<◌, ◌^◌, List, [], ◌∷◌, ◌++◌, length, take, drop, get_or, Option, Some, IfSome, refl, sym, ap, ◌∙◌, subst, arith}
 use Rattle.std.specs.List.{concat}
 use Rattle.std.proofs.Math.Seq.{take-append_seam}
-use Rattle.std.proofs.lemmas.List.{append-nil, append_assoc, nil_from_length, take-append-drop, take_more}
+use Rattle.std.proofs.lemmas.List.{append-nil, append_assoc, take-append-drop, take_more}
 use Rattle.std.proofs.lemmas.List.Folds.{concat-append}
 use Rattle.posting_code.specs.Postings.{ArePostings}
 use Rattle.posting_code.specs.Packed.{packed_of, last_of}
@@ -27,10 +27,6 @@ front_rises lists i list lt at rising =
 -- a list alone
 pub concat_one : (list : List ℕ) → concat (list ∷ []) ≡ list
 concat_one list = append-nil list
-
--- a list without members changes nothing
-pub nothing_more : (front list : List ℕ) → 0 ≡ length list → front ≡ front ++ list
-nothing_more front list none = sym (ap (λ l. front ++ l) (nil_from_length list (sym none)) ∙ append-nil front)
 
 -- the last of both is that of the later one
 pub last_more : (front list : List ℕ) → 0 < length list → Some (last_of list) ≡ last_in (front ++ list)

@@ -1,6 +1,5 @@
 -- A block that is unpacked, member by member.
-use Rattle.std.proofs.Common.{◌≡◌, ℕ, zero, suc, ◌+◌, ◌<◌, List, [], ◌∷◌, ◌++◌, length, take, drop, slice_set, refl, sym, ap, ◌∙◌, arith}
-use Rattle.std.proofs.lemmas.List.{take_more_set}
+use Rattle.std.proofs.Common.{◌≡◌, ℕ, zero, suc, ◌+◌, ◌<◌, List, [], ◌∷◌, ◌++◌, length, take, drop, slice_set, refl, ap, ◌∙◌, arith}
 use Rattle.posting_code.specs.Packed.{members_behind, CanUnpack}
 
 -- the first i members are there, and the rest comes after the last of them
@@ -21,13 +20,3 @@ take_next (suc i) (x ∷ xs) v t e =
 pub unpacking_starts : (packed : List ℕ) (first at : ℕ) (into : List ℕ) → CanUnpack packed first at → 0 < length into → IsUnpacking packed first at (slice_set into 0 first) 1 first at
 unpacking_starts packed first at [] can some = absurd (omega (arith, some))
 unpacking_starts packed first at (x ∷ into) can some = record { can = can; taken = refl; rest = refl }
-
-pub unpacking_goes : (packed : List ℕ) (first at : ℕ) (into : List ℕ) (i value after next next_after : ℕ) → IsUnpacking packed first at into i value after → i < length into →
-    members_behind packed value after ≡ next ∷ members_behind packed next next_after → CanUnpack packed next next_after → IsUnpacking packed first at (slice_set into i next) (i + 1) next next_after
-unpacking_goes packed first at into i value after next next_after u lt is can =
-    let step = take_next i (first ∷ members_behind packed first at) next (members_behind packed next next_after) (u.rest ∙ is) in
-    record {
-      can = can;
-      taken = take_more_set into i next lt ∙ ap (λ xs. xs ++ next ∷ []) u.taken ∙ sym step.0;
-      rest = step.1;
-    }

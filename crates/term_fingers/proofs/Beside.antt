@@ -286,10 +286,6 @@ lists_lack xs ys part behind b d k r rise rise_behind is is_behind some some_beh
   };
 }
 
--- an empty stretch has no pair
-pub lack_none : (xs ys : List ℕ) (k : ℕ) → LackPairs xs ys k k
-lack_none xs ys k = record { none = λ p ge lt here behind. omega (arith, ge, lt); around = λ more. absurd (omega (arith, more)) }
-
 -- the addresses at a place of a table rise inside its range
 addresses_rise : (range : SlotRange) (es : List TermEntry) (i : ℕ) → IsTable range es → RiseWithin range.first (range.last + 1) (addresses_at es i)
 addresses_rise range [] i table = tt

@@ -19,13 +19,6 @@ map_shard term (Some slot) shard e = ap (option_map (λ (s : ShardContent). plac
 place_at : (slots : List SlotContent) (number : ℕ) (term : List ℕ) (shard : ShardContent) → shard_at slots number ≡ Some shard → slice_get (places_of term slots) number ≡ Some (place_of shard.table term)
 place_at slots number term shard e = slice_get-map (λ (slot : SlotContent). place_of slot.shard.table term) slots number ∙ map_shard term (slice_get slots number) shard e
 
--- a slot whose index is known is one of the places
-pub place_exists : (slots : List SlotContent) (number : ℕ) (term : List ℕ) (shard : ShardContent) (places : List (Option ℕ)) → shard_at slots number ≡ Some shard →
-    take (length slots) places ≡ places_of term slots → number < length places
-place_exists slots number term shard places e found =
-    let within = slice_get_within (take (length slots) places) number (place_of shard.table term) (ap (λ ps. slice_get ps number) found ∙ place_at slots number term shard e) in
-    omega (arith, within, length-take (length slots) places)
-
 -- and it is the term's
 pub place_known : (slots : List SlotContent) (number : ℕ) (term : List ℕ) (shard : ShardContent) (places : List (Option ℕ)) (d : Option ℕ) → shard_at slots number ≡ Some shard →
     take (length slots) places ≡ places_of term slots → get_or places number d ≡ place_of shard.table term
