@@ -74,11 +74,6 @@ rise_to_last low end (x ∷ z ∷ xs) r =
 pub all_below : (k : ℕ) (xs : List ℕ) → ArePostings xs → last_of xs < k → RiseWithin 0 k xs
 all_below k xs r lt = rise_wider 0 0 (last_of xs + 1) k xs (rise_to_last 0 (2 ^ 56) xs r) (omega arith) (omega (arith, lt))
 
--- where the first is not below it, none is
-pub none_below_first : (k : ℕ) (xs : List ℕ) → ArePostings xs → (0 < length xs → k ≤ get_or xs 0 0) → RiseWithin k (2 ^ 56) xs
-none_below_first k [] r le = tt
-none_below_first k (x ∷ xs) r le = (le (omega arith), r.1, r.2)
-
 -- all bytes from a place on
 take_rest : (bytes : List ℕ) (n : ℕ) → take (length bytes - n) (drop n bytes) ≡ drop n bytes
 take_rest bytes n = let long = length-drop n bytes in take_all (length bytes - n) (drop n bytes) (omega (arith, long))
