@@ -4,6 +4,7 @@ ghost use Rattle.gcl_model.specs.Limits.{address_end};
 ghost use Rattle.gcl_model.specs.Texts.{Text};
 ghost use Rattle.live_version.specs.Contents.{version_text};
 ghost use Rattle.query_lanes.specs.Answers.{text_asked};
+ghost use Rattle.query_lanes.specs.PutOff.{IsPutOff};
 
 use crate::asks::Ask;
 use collection::Engine;
@@ -13,6 +14,7 @@ use std::alloc::AllocError;
 /// Puts a query off: it is asked on the engine's version of now, whatever is published before it is answered. One that has a pass keeps it.
 pub fn put_off(engine: &Engine, ask: &mut Ask) -> Result<(), AllocError>
     ensures text { OnOk result ((text : Text) → text_asked ask.new.pass text ≡ text_asked ask.old.pass (version_text engine.now.version)) }
+    ensures own { OnOk result (IsPutOff ask.new) }
     ensures asked { ask.new.asked ≡ ask.old.asked }
     ensures query { ask.new.query ≡ ask.old.query }
 {
