@@ -78,7 +78,7 @@ are_made_more asks lanes at next before mid after answers ask some place asked e
 -- entered is one of the engine's where its number is not above the engine's, and not one before the batch
 pub trusted : (asks : List Ask) (lanes at : ℕ) (old new : EngineContent) (first told run settled : ReaderContent) (work work' : Work)
     → HasOneText old new → IsTold old.history first told → IsRun asks lanes at told run work → IsSettled new.history run settled work work'
-    → IsTrusted asks lanes new at work'
+    → IsTrusted asks lanes new.version.number (version_text new.version) at work'
 trusted asks lanes at old new first told run settled work work' text t r s k made ask here asked counts =
     either (r.made k made ask (rw s.same at here) asked)
   where
@@ -103,14 +103,14 @@ trusted asks lanes at old new first told run settled work work' text t r s k mad
 -- the same of all lanes
 pub all_trusted : (asks : List Ask) (lanes : ℕ) (old new : EngineContent) (first told run settled : List ReaderContent) (works works' : List Work)
     → length works' ≡ lanes → HasOneText old new → AreTold old.history first told → AreRun asks lanes 0 told run works → AreSettled new.history run settled works works'
-    → AreTrusted asks new works'
+    → AreTrusted asks new.version.number (version_text new.version) works'
 all_trusted asks lanes old new first told run settled works works' count text t r s i e lt =
     let d : ReaderContent = slice_index_or first i (some_reader old) in
     let same : length works' ≡ length told = s.works_are ∙ r.works_are in
     let lt1 : i < length told = subst (λ (n : ℕ). i < n) same lt in
     let lt0 : i < length first = subst (λ (n : ℕ). i < n) t.count lt1 in
     let lt2 : i < length run = subst (λ (n : ℕ). i < n) (sym r.readers) lt1 in
-    subst (λ (n : ℕ). IsTrusted asks n new i (slice_index_or works' i e)) (sym count)
+    subst (λ (n : ℕ). IsTrusted asks n new.version.number (version_text new.version) i (slice_index_or works' i e)) (sym count)
     (trusted asks lanes i old new (slice_index_or first i d) (slice_index_or told i d) (slice_index_or run i d) (slice_index_or settled i d)
     (slice_index_or works i e) (slice_index_or works' i e)
     text (t.each i d lt0) (record { later = r.later i d lt1; made = subst (λ (n : ℕ). AreMadeOn asks lanes n (slice_index_or told i d) (slice_index_or run i d) (slice_index_or works i e).made.items) (zero-add i) (r.made i d e lt1) }) (s.each i d e lt2))

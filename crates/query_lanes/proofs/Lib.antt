@@ -4,5 +4,6 @@ pub mod MergeLemmas
 pub mod LaneLemmas
 pub mod EachLane
 pub mod OwnLemmas
+pub mod OwnLaneLemmas
 pub mod PageLemmas
 mod Worked

@@ -4,7 +4,6 @@ use mathlib.Core.List.{IsPrefix}
 use Rattle.gcl_model.specs.Texts.{Text}
 use Rattle.live_version.specs.Contents.{VersionContent, version_text}
 use Rattle.manifest_publish.specs.Accounts.{ReaderContent, EndsWith, GoesOn}
-use Rattle.collection.specs.Engines.{EngineContent}
 use Rattle.query_lanes.specs.declared.asks.Ask.{Ask}
 use Rattle.query_lanes.specs.declared.work.Made.{Made}
 use Rattle.query_lanes.specs.declared.work.Work.{Work}
@@ -80,11 +79,15 @@ abbrev pub Counts : Bool → ℕ → Option ℕ → Type 0
 Counts settled last None = ⊤
 Counts settled last (Some number) = (settled ≡ true) × (number ≤ last)
 
--- each answer of a lane that counts is the one over the engine's text
-abbrev pub IsTrusted : List Ask → ℕ → EngineContent → ℕ → Work → Type 0
-IsTrusted asks lanes engine at work = (k : ℕ) (made : Made) (ask : Ask) → slice_get work.made.items k ≡ Some (Some made)
-    → slice_get asks (at + k * lanes) ≡ Some ask → Counts work.is_settled engine.version.number made.number → made.found ≡ answer_in (version_text engine.version) ask
+-- each answer of a lane that counts beside a last version of this number is the one over a text
+abbrev pub IsTrusted : List Ask → ℕ → ℕ → Text → ℕ → Work → Type 0
+IsTrusted asks lanes last text at work = (k : ℕ) (made : Made) (ask : Ask) → slice_get work.made.items k ≡ Some (Some made)
+    → slice_get asks (at + k * lanes) ≡ Some ask → Counts work.is_settled last made.number → made.found ≡ answer_in text ask
 
 -- the same of each lane
-abbrev pub AreTrusted : List Ask → EngineContent → List Work → Type 0
-AreTrusted asks engine works = (i : ℕ) (e : Work) → i < length works → IsTrusted asks (length works) engine i (slice_index_or works i e)
+abbrev pub AreTrusted : List Ask → ℕ → Text → List Work → Type 0
+AreTrusted asks last text works = (i : ℕ) (e : Work) → i < length works → IsTrusted asks (length works) last text i (slice_index_or works i e)
+
+-- each answer of a lane on a query's own pass is the one over whatever text
+abbrev pub AreOfAnyText : List Ask → List Work → Type 0
+AreOfAnyText asks works = (text : Text) → AreTrusted asks 0 text works

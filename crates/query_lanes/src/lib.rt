@@ -6,7 +6,8 @@
 //! beside each batch.
 //!
 //! A query may have a pass of its own: then it is asked on the version of that, whatever was published since. So the layer above may put
-//! a query off, do lines that change the collection, and answer it with those that come after them.
+//! a query off, do lines that change the collection, and answer it with those that come after them. Queries that were all put off want no
+//! engine: `answer_put_off` answers them in lanes while the engine is at those lines.
 //!
 //! Of a list at most a page is found, `PAGE` members. Whoever wants more asks for the page after the last member that it has, with
 //! `page_behind`: so no whole list is kept, however long it is.
@@ -31,6 +32,7 @@ mod lane;
 mod lanes;
 mod merging;
 mod own;
+mod own_lanes;
 mod pages;
 mod settle;
 mod work;
@@ -39,6 +41,7 @@ pub use alone::answer_alone;
 pub use asks::{Ask, Asked, Found};
 pub use batch::answer_batch;
 pub use own::{put_off, text_end};
+pub use own_lanes::answer_put_off;
 pub use pages::{PAGE, page_behind};
 pub use work::Work;
 

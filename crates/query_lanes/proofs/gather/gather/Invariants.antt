@@ -7,5 +7,5 @@ use Rattle.query_lanes.proofs.gather.gather.Given as goal
 abbrev pub invariant-loop-j : goal.invariant-loop-j
 invariant-loop-j l = record {
   answers : l.answers.items ≡ map (answer_in (version_text l.engine.version)) (take l.j l.asks);
-  trusted : AreTrusted l.asks l.engine l.works;
+  trusted : AreTrusted l.asks l.last (version_text l.engine.version) l.works;
 }
