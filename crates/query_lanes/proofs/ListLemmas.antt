@@ -1,7 +1,7 @@
 -- The members of lists that are put together.
 use Rattle.std.proofs.Common.{◌≡◌, ℕ, zero, suc, ◌+◌, ◌-◌, ◌≤◌, ◌<◌, ◌⊎◌, inl, inr, List, [], ◌∷◌, ◌++◌, length, map, take, slice_get, Some, refl, ap, subst, arith}
 
--- the member behind some others
+-- the member after some others
 pub get_behind : {A : Type 0} (xs : List A) (y : A) → slice_get (xs ++ y ∷ []) (length xs) ≡ Some y
 get_behind [] y = refl
 get_behind (x ∷ xs) y = get_behind xs y
@@ -33,7 +33,7 @@ map-take_one f [] k y lt is = absurd (omega arith)
 map-take_one f (x ∷ xs) zero y lt is = ap (λ z. z ∷ []) (is x refl)
 map-take_one f (x ∷ xs) (suc k) y lt is = ap (λ l. f x ∷ l) (map-take_one f xs k y (omega arith) is)
 
--- the images of the first members of a list, and the image of the one behind them
+-- the images of the first members of a list, and the image of the one after them
 pub map-take_more : {A B : Type 0} (f : A → B) (xs : List A) (k : ℕ) (y : B) → k < length xs → ((x : A) → slice_get xs k ≡ Some x → y ≡ f x)
     → map f (take k xs) ++ y ∷ [] ≡ map f (take (k + 1) xs)
 map-take_more f xs k y lt is =

@@ -1,4 +1,4 @@
--- What is behind a member of a list.
+-- What is after a member of a list.
 use Rattle.std.proofs.Common.{◌≡◌, ℕ, suc, zero, ◌+◌, ◌-◌, ◌<◌, ◌≤◌, leb, List, [], ◌∷◌, ◌++◌, length, take, drop, get_or, min, filter, inl, inr, refl, sym, ap, ◌∙◌, subst, arith, append_assoc}
 use Rattle.std.proofs.lemmas.List.{take_all, take_more, take-append-drop}
 use native.Mathlib.Numerals.{unary_clauses}
@@ -18,7 +18,7 @@ has_between : (before rest : List Extent) (a : Extent) → Has (before ++ a ∷ 
 has_between [] rest a = inl refl
 has_between (x ∷ before) rest a = inr (has_between before rest a)
 
--- those that start at an address or behind it
+-- those that start at an address or after it
 abbrev from_there : ℕ → List Extent → List Extent
 from_there k list = filter (λ a. leb k a.start) list
 
@@ -29,7 +29,7 @@ all_later k x (a ∷ list) ahead le =
     let later : x.start < a.start = ahead.0.0 in
     rw (le-leb k a.start (omega arith)) (ap (λ rest. a ∷ rest) (all_later k x list ahead.1 le))
 
--- of a rising list, those that start behind the start of a member are those behind it
+-- of a rising list, those that start after the start of a member are those after it
 from_behind : (before rest : List Extent) (a : Extent) → IsRising (before ++ a ∷ rest) → from_there (a.start + 1) (before ++ a ∷ rest) ≡ rest
 from_behind [] rest a r = rw (lt-leb (a.start + 1) a.start (omega arith)) (all_later (a.start + 1) a rest r.0 (omega arith))
 from_behind (x ∷ before) rest a r =
@@ -71,7 +71,7 @@ split_at_last list before page rest last parts some is =
     regroup : {X : Type 0} (before others : List X) (last : X) (rest : List X) → before ++ (others ++ last ∷ []) ++ rest ≡ (before ++ others) ++ last ∷ rest
     regroup before others last rest = simp append_assoc refl
 
--- what is taken behind a member is a part of the list
+-- what is taken after a member is a part of the list
 pub part_behind : {X : Type 0} (before rest : List X) (last : X) (most : ℕ) → before ++ last ∷ rest ≡ (before ++ last ∷ []) ++ take most rest ++ drop most rest
 part_behind before rest last most =
     sym (append_assoc (before ++ last ∷ []) (take most rest) (drop most rest) ∙ ap (λ l. (before ++ last ∷ []) ++ l) (take-append-drop most rest) ∙ append_assoc before (last ∷ []) rest)

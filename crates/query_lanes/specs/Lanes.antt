@@ -73,8 +73,8 @@ pub record AreSettled (history : List VersionContent) (before after : List Reade
   pub each : (i : ℕ) (d : ReaderContent) (e : Work) → i < length before
       → IsSettled history (slice_index_or before i d) (slice_index_or after i d) (slice_index_or works i e) (slice_index_or works' i e)
 
--- an answer on the query's own pass counts, and another where the lane's reader entered after the batch and the version is none behind the
--- engine's last one
+-- an answer on the query's own pass counts, and another where the lane's reader entered after the batch and the version is no later than
+-- the engine's last one
 abbrev pub Counts : Bool → ℕ → Option ℕ → Type 0
 Counts settled last None = ⊤
 Counts settled last (Some number) = (settled ≡ true) × (number ≤ last)

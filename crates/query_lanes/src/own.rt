@@ -25,7 +25,7 @@ pub fn put_off(engine: &Engine, ask: &mut Ask) -> Result<(), AllocError>
     Ok(())
 }
 
-/// The address behind the text that a query is asked over, by its own pass or else on the engine.
+/// The address after the text that a query is asked over, by its own pass or else on the engine.
 pub fn text_end(engine: &Engine, own: &Option<Pass>) -> u64
     ensures value { result ≡ (text_asked own.now (version_text engine.now.version)).next }
     ensures in_range { result ≤ address_end }

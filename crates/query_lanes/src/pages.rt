@@ -19,7 +19,7 @@ use std::alloc::{AllocError, Global};
 /// How many members of a list are found at once.
 pub const PAGE: u64 = 4_096;
 
-/// What are the first members of a concordance list over a pass that start at an address or behind it?
+/// What are the first members of a concordance list over a pass that start at an address or after it?
 #[derive(Clone, Copy)]
 struct MembersFrom<'a> {
     alloc: Global,
@@ -58,7 +58,7 @@ impl Question for MembersFrom<'_> {
     }
 }
 
-/// The first members of the list over a pass that start at an address or behind it.
+/// The first members of the list over a pass that start at an address or after it.
 fn page_on(
     alloc: Global,
     pass: &Pass,
@@ -106,7 +106,7 @@ fn page_from(
     Ok(page)
 }
 
-/// The address behind the start of a member: the next member starts there at the earliest.
+/// The address after the start of a member: the next member starts there at the earliest.
 fn next_start(engine: &Engine, own: &Option<Pass>, expr: &Expr, last: Interval) -> u64
     requires member { (before : List Extent) × (rest : List Extent) ×
         (concordance (text_asked own.now (version_text engine.now.version)) (form_of expr.now) ≡ before ++ last ∷ rest) }
@@ -118,11 +118,11 @@ fn next_start(engine: &Engine, own: &Option<Pass>, expr: &Expr, last: Interval) 
     last.start + 1
 }
 
-/// The members of a list behind one of them, and no more than `most` of these, on the query's own pass or else on the engine's. Each is
+/// The members of a list after one of them, and no more than `most` of these, on the query's own pass or else on the engine's. Each is
 /// found by leaping from there on, so a page takes the look-ups of its own members alone. At `Err` memory was wanted.
 ///
-/// Over `to be or not to be` from address 0 on, of the list of `"to"` behind the interval from 1 to 1 there is the one from 5 to 5, and
-/// behind this there is none.
+/// Over `to be or not to be` from address 0 on, of the list of `"to"` after the interval from 1 to 1 there is the one from 5 to 5, and
+/// after this there is none.
 pub fn page_behind(
     alloc: Global,
     engine: &Engine,
