@@ -291,19 +291,19 @@ goes_below Backward NotContaining a (Some b) next w is = let v : IsWithin b = w 
 goes_below Backward NotContainedIn a None next w is = let h : go_to next ≡ accept = is in absurd cc
 goes_below Backward NotContainedIn a (Some b) next w is = let v : IsWithin b = w in let x : b.start ≤ b.end = v.proper in let y : b.end < address_end = v.below in let g = (not_contained_in_back_goes a b next (sym is)).1 in omega arith
 
--- the bound: `first` and `second` look-ups a turn, `most` turns that go on, and two accesses more
-pub no_more_turns : (entry before first second turn most : ℕ) → before ≤ entry + first + turn * (first + second) → turn ≤ most → (new : ℕ) → new ≤ before + second → new ≤ entry + (most + 2) * (first + second)
+-- the bound: `first` and `second` look-ups a turn, `most` turns that go on, and two of each more
+pub no_more_turns : (entry before first second turn most : ℕ) → before ≤ entry + (first + second) + turn * (first + second) → turn ≤ most → (new : ℕ) → new ≤ before + second → new ≤ entry + (most + 2) * (first + second)
 no_more_turns entry before first second turn most cost le new last = omega (arith, mul-le-mul_left (first + second) le)
 
-pub first_alone : (entry first second most new : ℕ) → new ≤ entry + first → new ≤ entry + (most + 2) * (first + second)
+pub first_alone : (entry first second most new : ℕ) → new ≤ entry + (first + second) → new ≤ entry + (most + 2) * (first + second)
 first_alone entry first second most new le = let two : 2 ≤ most + 2 = omega arith in omega (arith, mul-le-mul_left (first + second) two)
 
 pub and_more : (m n x : ℕ) → m ≤ n → m ≤ n + x
 and_more m n x le = omega arith
 
-pub turns_end : (entry before first second turn most : ℕ) → before ≤ entry + first + turn * (first + second) → turn ≤ most → (new last : ℕ) → new ≤ before + second → last ≤ new + first → last ≤ entry + (most + 2) * (first + second)
+pub turns_end : (entry before first second turn most : ℕ) → before ≤ entry + (first + second) + turn * (first + second) → turn ≤ most → (new last : ℕ) → new ≤ before + second → last ≤ new + first → last ≤ entry + (most + 2) * (first + second)
 turns_end entry before first second turn most cost le new last asked gone = omega (arith, mul-le-mul_left (first + second) le)
 
-pub one_turn_more : (entry before first second turn next : ℕ) → before ≤ entry + first + turn * (first + second) → turn + 1 ≤ next → (new last : ℕ) → new ≤ before + second → last ≤ new + first →
-    last ≤ entry + first + next * (first + second)
+pub one_turn_more : (entry before first second turn next : ℕ) → before ≤ entry + (first + second) + turn * (first + second) → turn + 1 ≤ next → (new last : ℕ) → new ≤ before + second → last ≤ new + first →
+    last ≤ entry + (first + second) + next * (first + second)
 one_turn_more entry before first second turn next cost le new last asked gone = omega (arith, mul-le-mul_left (first + second) le)

@@ -57,14 +57,14 @@ module _ (containment : Containment) (text : Text) (e a b : Form) (is : e ≡ co
     within_cost : (new : ℕ) → new ≤ entry + (min (length (concordance text a)) (length (concordance text b)) + 2) * (cost text bound a + cost text bound b) → new ≤ entry + cost text bound e
     within_cost new le = subst (λ n. new ≤ entry + n) (sym (contain_cost containment e a b is text bound)) le
 
-    pub none_within : (new : ℕ) → new ≤ entry + cost text bound a → new ≤ entry + cost text bound e
+    pub none_within : (new : ℕ) → new ≤ entry + (cost text bound a + cost text bound b) → new ≤ entry + cost text bound e
     none_within new le = within_cost new (first_alone entry (cost text bound a) (cost text bound b) (min (length (concordance text a)) (length (concordance text b))) new le)
 
-    pub starts_within : (direction : Direction) (x : Extent) (new : ℕ) → new ≤ entry + cost text bound a → new ≤ entry + cost text bound a + turns direction containment (concordance text a) (concordance text b) x * (cost text bound a + cost text bound b)
-    starts_within direction x new le = and_more new (entry + cost text bound a) (turns direction containment (concordance text a) (concordance text b) x * (cost text bound a + cost text bound b)) le
+    pub starts_within : (direction : Direction) (x : Extent) (new : ℕ) → new ≤ entry + (cost text bound a + cost text bound b) → new ≤ entry + (cost text bound a + cost text bound b) + turns direction containment (concordance text a) (concordance text b) x * (cost text bound a + cost text bound b)
+    starts_within direction x new le = and_more new (entry + (cost text bound a + cost text bound b)) (turns direction containment (concordance text a) (concordance text b) x * (cost text bound a + cost text bound b)) le
 
     module _ (direction : Direction) (x : Extent) (before : ℕ)
-        (so_far : before ≤ entry + cost text bound a + turns direction containment (concordance text a) (concordance text b) x * (cost text bound a + cost text bound b)) where
+        (so_far : before ≤ entry + (cost text bound a + cost text bound b) + turns direction containment (concordance text a) (concordance text b) x * (cost text bound a + cost text bound b)) where
       pub stops_within : (new : ℕ) → new ≤ before + cost text bound b → new ≤ entry + cost text bound e
       stops_within new asked = within_cost new (no_more_turns entry before (cost text bound a) (cost text bound b) (turns direction containment (concordance text a) (concordance text b) x) (min (length (concordance text a)) (length (concordance text b)))
           so_far (turns_le direction containment (concordance text a) (concordance text b) x) new asked)
@@ -74,6 +74,6 @@ module _ (containment : Containment) (text : Text) (e a b : Form) (is : e ≡ co
           so_far (turns_le direction containment (concordance text a) (concordance text b) x) new last asked gone)
 
       pub goes_within : (y : Extent) → turns direction containment (concordance text a) (concordance text b) x + 1 ≤ turns direction containment (concordance text a) (concordance text b) y → (new last : ℕ) → new ≤ before + cost text bound b → last ≤ new + cost text bound a →
-          last ≤ entry + cost text bound a + turns direction containment (concordance text a) (concordance text b) y * (cost text bound a + cost text bound b)
+          last ≤ entry + (cost text bound a + cost text bound b) + turns direction containment (concordance text a) (concordance text b) y * (cost text bound a + cost text bound b)
       goes_within y more new last asked gone = one_turn_more entry before (cost text bound a) (cost text bound b) (turns direction containment (concordance text a) (concordance text b) x) (turns direction containment (concordance text a) (concordance text b) y)
           so_far more new last asked gone

@@ -12,15 +12,15 @@ use Rattle.gcl_model.specs.Forms.{Form, Forms, term, seq, no_forms, more_forms}
 use Rattle.gcl_model.specs.Meaning.{concordance}
 use Rattle.gcl_model.specs.Access.{last_end}
 use Rattle.gcl_model.specs.Directions.{near_access, far_access}
-use Rattle.gcl_model.specs.declared.direction.Direction.{Direction}
 use Rattle.gcl_model.specs.declared.direction.Direction.TheVariants.{Forward, Backward}
 use Rattle.gcl_model.proofs.Covers.{find_gives}
 use Rattle.gcl_model.proofs.Places.{point}
 use Rattle.gcl_order.specs.Walks.{address_before, walk_forward, walk_backward}
 use Rattle.gcl_eval.specs.declared.direction.Access.{Access}
+use Rattle.gcl_eval.specs.Operands.{element_form}
 use Rattle.gcl_eval.specs.Directions.{access_of, join, reaches, walk, next_past, on_again}
 use Rattle.gcl_model.specs.Limits.{address_end}
-use Rattle.gcl_eval.specs.declared.direction.Access.TheVariants.{FirstStart, FirstEnd, LastEnd, LastStart}
+use Rattle.gcl_eval.specs.declared.direction.Access.TheVariants.{FirstStart, FirstEnd, LastEnd}
 use Rattle.gcl_eval.proofs.Found.{access_within}
 use Rattle.gcl_eval.proofs.ChainRules.{near_access-seq, far_access-seq}
 use Rattle.gcl_eval.proofs.TermAccess.{term_found}
@@ -52,7 +52,7 @@ module _ (text : Text) (first second : List ℕ) (sound : IsText text) where
   end_above : (k end : ℕ) → Some end ≡ next_place text.words second k → k ≤ end
   end_above k end on = leb-true k end (find_gives (λ a. leb k a.start) seconds (point end) (sym (term_found FirstStart text second second k (Some end) sound refl on))).1
 
-  pub element_from-is : (k : ℕ) (element : Extent) → IsElementFrom text.words first second k element → Some element ≡ near_access Forward (concordance text (seq both_terms)) k
+  element_from-is : (k : ℕ) (element : Extent) → IsElementFrom text.words first second k element → Some element ≡ near_access Forward (concordance text (seq both_terms)) k
   element_from-is k element is =
       let above = end_above (is.at + 1) element.end is.on in
       ap (option_map (λ near. join Forward near (point element.end))) (back_from element.end element.start (omega arith) is.back)
@@ -60,7 +60,7 @@ module _ (text : Text) (first second : List ℕ) (sound : IsText text) where
       (on_from is.at element.end is.on ∙ ap (option_and_then (walk Forward (seconds ∷ []))) (term_found FirstStart text first first k (Some is.at) sound refl is.found))
       ∙ sym (near_access-seq Forward text both_terms firsts seconds (seconds ∷ []) (firsts ∷ []) refl refl k)
 
-  pub element_up_to-is : (k : ℕ) (element : Extent) → IsElementUpTo text.words first second k element → Some element ≡ far_access Forward (concordance text (seq both_terms)) k
+  element_up_to-is : (k : ℕ) (element : Extent) → IsElementUpTo text.words first second k element → Some element ≡ far_access Forward (concordance text (seq both_terms)) k
   element_up_to-is k element is =
       let node = concordance text (seq both_terms) in
       let near = point element.start in
@@ -72,39 +72,23 @@ module _ (text : Text) (first second : List ℕ) (sound : IsText text) where
       (term_found FirstEnd text second second k (Some is.at) sound refl is.found)
       ∙ sym (far_access-seq Forward text both_terms firsts seconds (seconds ∷ []) (firsts ∷ []) refl refl k)
 
--- what the leaves tell of the tokens of two operands
-module _ (direction : Direction) (text : Text) (sound : IsText text) (forms : Forms) (first second a b : List ℕ) (k : ℕ)
-    (forward : direction ≡ Forward) (two : forms ≡ more_forms (term first) (more_forms (term second) no_forms)) (a_is : a ≡ first) (b_is : b ≡ second) where
-  pub near_element : (o : Option Extent) → IfSome o (IsElementFrom text.words a b k) → IfSome o (λ element. Some element ≡ near_access direction (concordance text (seq forms)) k)
-  near_element None is = tt
-  near_element (Some element) is =
-      element_from-is text first second sound k element (subst (λ x. IsElementFrom text.words x second k element) a_is (subst (λ y. IsElementFrom text.words a y k element) b_is is))
-      ∙ ap (λ d. near_access d (concordance text (seq (more_forms (term first) (more_forms (term second) no_forms)))) k) (sym forward)
-      ∙ ap (λ fs. near_access direction (concordance text (seq fs)) k) (sym two)
+-- what the leaves have at hand for the tokens of an expression
+module _ (e : Expr) (text : Text) (sound : IsText text) (first second a b : List ℕ) (k : ℕ) (is : form_of e ≡ element_form first second) (a_is : a ≡ first) (b_is : b ≡ second)
+    (wanted : Access) where
+  pub from_at_hand : wanted ≡ FirstStart → (o : Option Extent) → IfSome o (IsElementFrom text.words a b k) → IfSome o (λ x. Some x ≡ access_of wanted (concordance text (form_of e)) k)
+  from_at_hand same None found = tt
+  from_at_hand same (Some x) found =
+      element_from-is text first second sound k x (subst (λ y. IsElementFrom text.words y second k x) a_is (subst (λ z. IsElementFrom text.words a z k x) b_is found))
+      ∙ ap (λ w. access_of w (concordance text (element_form first second)) k) (sym same) ∙ ap (λ f. access_of wanted (concordance text f) k) (sym is)
 
-  pub far_element : (o : Option Extent) → IfSome o (IsElementUpTo text.words a b k) → IfSome o (λ element. Some element ≡ far_access direction (concordance text (seq forms)) k)
-  far_element None is = tt
-  far_element (Some element) is =
-      element_up_to-is text first second sound k element (subst (λ x. IsElementUpTo text.words x second k element) a_is (subst (λ y. IsElementUpTo text.words a y k element) b_is is))
-      ∙ ap (λ d. far_access d (concordance text (seq (more_forms (term first) (more_forms (term second) no_forms)))) k) (sym forward)
-      ∙ ap (λ fs. far_access direction (concordance text (seq fs)) k) (sym two)
+  pub up_to_at_hand : wanted ≡ FirstEnd → (o : Option Extent) → IfSome o (IsElementUpTo text.words a b k) → IfSome o (λ x. Some x ≡ access_of wanted (concordance text (form_of e)) k)
+  up_to_at_hand same None found = tt
+  up_to_at_hand same (Some x) found =
+      element_up_to-is text first second sound k x (subst (λ y. IsElementUpTo text.words y second k x) a_is (subst (λ z. IsElementUpTo text.words a z k x) b_is found))
+      ∙ ap (λ w. access_of w (concordance text (element_form first second)) k) (sym same) ∙ ap (λ f. access_of wanted (concordance text f) k) (sym is)
 
--- what is at hand ends within the addresses
-pub near_ends_within : (direction : Direction) (text : Text) (form : Form) (k : ℕ) (o : Option Extent) → IsText text →
-    IfSome o (λ a. Some a ≡ near_access direction (concordance text form) k) → IfSome o (λ a. a.end < address_end)
-near_ends_within direction text form k None sound is = tt
-near_ends_within Forward text form k (Some a) sound is = access_within FirstStart text form k (Some a) sound is
-near_ends_within Backward text form k (Some a) sound is = access_within LastEnd text form k (Some a) sound is
-
-pub far_ends_within : (direction : Direction) (text : Text) (form : Form) (k : ℕ) (o : Option Extent) → IsText text →
-    IfSome o (λ a. Some a ≡ far_access direction (concordance text form) k) → IfSome o (λ a. a.end < address_end)
-far_ends_within direction text form k None sound is = tt
-far_ends_within Forward text form k (Some a) sound is = access_within FirstEnd text form k (Some a) sound is
-far_ends_within Backward text form k (Some a) sound is = access_within LastStart text form k (Some a) sound is
-
--- the answer for a form is that for an expression of the form
-pub as_access : (e : Expr) (form : Form) → form_of e ≡ form → (wanted access : Access) → wanted ≡ access → (text : Text) (k : ℕ) (o : Option Extent) →
-    IfSome o (λ a. Some a ≡ access_of access (concordance text form) k) → IfSome o (λ a. Some a ≡ access_of wanted (concordance text (form_of e)) k)
-as_access e form is wanted access same text k None found = tt
-as_access e form is wanted access same text k (Some a) found =
-    found ∙ ap (λ f. access_of access (concordance text f) k) (sym is) ∙ ap (λ w. access_of w (concordance text (form_of e)) k) (sym same)
+-- it ends within the addresses
+pub at_hand_within : (wanted : Access) (text : Text) (form : Form) (k : ℕ) (o : Option Extent) → IsText text → IfSome o (λ x. Some x ≡ access_of wanted (concordance text form) k) →
+    IfSome o (λ a. a.end < address_end)
+at_hand_within wanted text form k None sound is = tt
+at_hand_within wanted text form k (Some x) sound is = access_within wanted text form k (Some x) sound is

@@ -12,3 +12,4 @@ pub mod ContainLoops
 pub mod ContainForms
 pub mod ContainSteps
 pub mod ElementLemmas
+pub mod Beginnings

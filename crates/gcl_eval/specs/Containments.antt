@@ -1,6 +1,9 @@
 -- The containments: their forms, and the loop that answers their accesses in a direction.
-use Rattle.std.specs.Prelude.{ℕ, List, Option}
+use Rattle.std.specs.Prelude.{◌≡◌, ℕ, List, Option, Some}
 use Rattle.gcl_model.specs.Extents.{Extent}
+use Rattle.gcl_model.specs.Texts.{Text}
+use Rattle.gcl_model.specs.Access.{first_start, first_end}
+use Rattle.gcl_model.specs.Meaning.{concordance}
 use Rattle.gcl_model.specs.Forms.{Form, containing, contained_in, not_containing, not_contained_in}
 use Rattle.gcl_contain.specs.Kinds.{Kind, first_from, last_upto}
 use Rattle.gcl_contain.specs.Kinds as Kinds
@@ -46,3 +49,14 @@ asks Backward NotContainedIn = LastStart
 abbrev pub goes_by : Direction → Kind → List Extent → ℕ → Option Extent
 goes_by Forward = first_from
 goes_by Backward = last_upto
+
+-- the loop of "containing" may begin at this member of the first operand: by ends, the node has the same member from its end on as from k on by
+-- starts; beside (11, 11) of (1, 3), (4, 6) and (9, 12) at 2 that is (9, 12), and (4, 6), too
+pub record IsBeginning (members node : List Extent) (k : ℕ) (a : Extent) : Type 0 where
+  pub found : Some a ≡ first_end members a.end
+  pub answer : first_end node a.end ≡ first_start node k
+
+-- the access of this form is "containing" by starts, whose loop may begin at this member
+abbrev pub MayBegin : Access → Text → Form → ℕ → Extent → Type 0
+MayBegin FirstStart text (containing a b) k member = IsBeginning (concordance text a) (concordance text (containing a b)) k member
+MayBegin _ text form k member = ⊥

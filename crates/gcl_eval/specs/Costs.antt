@@ -1,7 +1,7 @@
 -- How many look-ups the accesses of a chain may make, each by itself.
-use Rattle.std.specs.Prelude.{ℕ, ◌*◌}
+use Rattle.std.specs.Prelude.{ℕ, ◌+◌, ◌-◌, ◌*◌}
 use Rattle.gcl_model.specs.Texts.{Text}
-use Rattle.gcl_model.specs.Forms.{Form, both, one, seq}
+use Rattle.gcl_model.specs.Forms.{Form, both, one, seq, containing}
 use Rattle.gcl_model.specs.Cost.{cost, costs}
 use Rattle.gcl_eval.specs.declared.direction.Access.{Access}
 use Rattle.gcl_eval.specs.declared.direction.Access.TheVariants.{FirstStart, FirstEnd, LastEnd, LastStart}
@@ -24,3 +24,9 @@ rounds FirstStart = 2
 rounds FirstEnd = 4
 rounds LastEnd = 2
 rounds LastStart = 4
+
+-- how many look-ups a containment may make to begin further on, so that these and an access of its first operand are no more than an access of
+-- each operand: of ("to".."be") > "not", where a look-up is one step, 5 by starts, since that access takes 4 of 8, and else none
+abbrev pub ahead_cost : Access → Text → ℕ → Form → ℕ
+ahead_cost FirstStart text most (containing a b) = (cost text most a - near_cost text most a) + cost text most b
+ahead_cost access text most form = 0

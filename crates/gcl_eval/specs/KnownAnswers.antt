@@ -1,5 +1,5 @@
 -- Answers that are known, and where they hold.
-use Rattle.std.specs.Prelude.{◌≡◌, ◌<◌, ℕ, nat_le, Bool, true, ◌&&◌, List, [], get_or, Option, None, Some, IfSome, if◌then◌else◌}
+use Rattle.std.specs.Prelude.{◌≡◌, ◌-◌, ◌<◌, ℕ, nat_le, nat_lt, Bool, true, false, ◌&&◌, List, [], get_or, Option, None, Some, IfSome, if◌then◌else◌}
 use Rattle.gcl_model.specs.Limits.{address_end}
 use Rattle.gcl_model.specs.Extents.{Extent}
 use Rattle.gcl_model.specs.Texts.{Text}
@@ -37,6 +37,11 @@ stays access (Some a) k = lies_beyond access k a
 abbrev pub told : Access → Option Known → ℕ → Option (Option Extent)
 told access None k = None
 told access (Some known) k = if goes_on access known.at k && stays access known.answer k then Some known.answer else None
+
+-- the answer that is known was asked for before the member that starts right before k: that at 2 was so at 6, and not at 3
+abbrev pub was_leap : Option Known → ℕ → Bool
+was_leap None k = false
+was_leap (Some known) k = nat_lt known.at (k - 1)
 
 -- the access of the list gave this answer where it was asked
 pub record IsAnswer (access : Access) (list : List Extent) (known : Known) : Type 0 where

@@ -3,7 +3,7 @@ use Rattle.std.specs.Prelude.{ℕ, ◌≤◌, List, map}
 use Rattle.gcl_model.specs.declared.expr.Expr.{Expr}
 use Rattle.gcl_model.specs.Extents.{Extent}
 use Rattle.gcl_model.specs.Texts.{Text}
-use Rattle.gcl_model.specs.Forms.{Form, Forms, both, one, seq, forms_count}
+use Rattle.gcl_model.specs.Forms.{Form, Forms, term, both, one, seq, no_forms, more_forms, forms_count}
 use Rattle.gcl_model.specs.FormOf.{form_of, forms_from}
 use Rattle.gcl_model.specs.Meaning.{operands}
 use Rattle.gcl_model.specs.Cost.{costs}
@@ -32,3 +32,7 @@ IsChain _ = ⊥
 pub record AreOperands (forms : Forms) : Type 0 where
   pub several : 2 ≤ forms_count forms
   pub each : AreWellFormed forms
+
+-- the form of "followed by" for two terms, whose members are elements: of "to" and "be" it is that of "to".."be"
+abbrev pub element_form : (first second : List ℕ) → Form
+element_form first second = seq (more_forms (term first) (more_forms (term second) no_forms))

@@ -20,14 +20,39 @@ ghost use Rattle.gcl_eval.specs.Directions.{access_of};
 use crate::chains::chain_access;
 use crate::containments::containment_access;
 use crate::direction::Access;
+use crate::elements::element_access;
 use crate::phrase::phrase_access;
 use crate::term::term_access;
 use crate::width::width_access;
 use gcl_model::{CountedLeaves, Expr, Interval};
 
-/// An access of an expression, by its operands' accesses.
+/// An access of an expression: the element that is at hand, else by its operands' accesses.
+#[inline(always)]
 #[cycle(access)]
 pub(crate) fn access<C: CountedLeaves>(
+    expr: &Expr,
+    wanted: Access,
+    source: &C,
+    k: u64,
+    counter: &mut C::Counter,
+) -> Option<Interval>
+    requires well_formed { IsWellFormed (form_of expr.now) }
+    requires below { k < far }
+    ensures answer { result ≡ access_of wanted (concordance (C.text source.now) (form_of expr.now)) k }
+    ensures within { IfSome result (λ a. a.end < address_end) }
+    ensures counted { C.count counter.old ≤ C.count counter.new }
+    ensures cost { C.count counter.new ≤ C.count counter.old + cost (C.text source.now) (C.most source.now) (form_of expr.now) }
+    ensures cost_by_access { C.count counter.new ≤ C.count counter.old + cost_in (rounds wanted) (C.text source.now) (C.most source.now) (form_of expr.now) }
+{
+    if let Some(element) = element_access(expr, wanted, source, k, counter) {
+        return Some(element);
+    }
+    access_by_operands(expr, wanted, source, k, counter)
+}
+
+/// An access of an expression, by its operands' accesses.
+#[cycle(access)]
+fn access_by_operands<C: CountedLeaves>(
     expr: &Expr,
     access: Access,
     source: &C,

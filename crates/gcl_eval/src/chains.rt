@@ -16,7 +16,6 @@ use crate::direction::{
     Access, access_by_far_sides, access_by_near_sides, better, between, beyond, farther, join,
     next_operand, opposite, outside, reaches, resume,
 };
-use crate::elements::{element_from, element_up_to};
 use gcl_model::{CountedLeaves, Direction, Expr, Interval};
 
 /// An access of a chain: by two rounds of its operands' near accesses at most, or by four.
@@ -217,9 +216,6 @@ fn followed_by<C: CountedLeaves>(
     ensures counted { C.count counter.old ≤ C.count counter.new }
     ensures cost { C.count counter.new ≤ C.count counter.old + 2 * operand_costs (C.text source.now) (C.most source.now) operands.now }
 {
-    if let Some(element) = element_from(operands, direction, source, k, counter) {
-        return Some(element);
-    }
     let (nearest, after_nearest) = next_operand(direction, operands)?;
     let (_, before_farthest) = next_operand(opposite(direction), operands)?;
     let found = access(nearest, access_by_near_sides(direction), source, k, counter)?;
@@ -244,9 +240,6 @@ fn followed_by_far_sides<C: CountedLeaves>(
     ensures counted { C.count counter.old ≤ C.count counter.new }
     ensures cost { C.count counter.new ≤ C.count counter.old + 4 * operand_costs (C.text source.now) (C.most source.now) operands.now }
 {
-    if let Some(element) = element_up_to(operands, direction, source, k, counter) {
-        return Some(element);
-    }
     let (_, after_nearest) = next_operand(direction, operands)?;
     let (farthest, before_farthest) = next_operand(opposite(direction), operands)?;
     let found = access(farthest, access_by_far_sides(direction), source, k, counter)?;

@@ -1,20 +1,23 @@
-ghost use Rattle.std.specs.Prelude.{◌≡◌, ◌+◌, ◌<◌, ◌≤◌, IfSome};
+ghost use Rattle.std.specs.Prelude.{◌≡◌, ◌+◌, ◌<◌, ◌≤◌, Some, IfSome, MatchOption};
 ghost use Rattle.gcl_model.specs.Limits.{address_end, far};
+ghost use Rattle.gcl_model.specs.Forms.{containing};
 ghost use Rattle.gcl_model.specs.FormOf.{form_of};
 ghost use Rattle.gcl_model.specs.Meaning.{concordance};
 ghost use Rattle.gcl_model.specs.Cost.{cost};
 ghost use Rattle.gcl_model.specs.WellFormed.{IsWellFormed};
-ghost use Rattle.gcl_eval.specs.Containments.{IsContainment};
-ghost use Rattle.gcl_eval.specs.KnownAnswers.{KnowsSecond};
+ghost use Rattle.gcl_eval.specs.Containments.{IsContainment, IsBeginning, MayBegin};
+ghost use Rattle.gcl_eval.specs.Costs.{cost_in, near_cost, ahead_cost, rounds};
+ghost use Rattle.gcl_eval.specs.KnownAnswers.{IsKnown, KnowsSecond};
+ghost use Rattle.gcl_eval.specs.declared.direction.Access.TheVariants.{FirstStart};
 ghost use Rattle.gcl_eval.specs.Directions.{access_of, direction_of};
 
 use crate::access::access;
 use crate::containment::{goes_by, operands, question, turn};
 use crate::direction::Access;
-use crate::elements::element_access;
-use crate::known::{Known, known_access};
+use crate::elements::{element_access, element_tokens};
+use crate::known::{Known, known_access, was_leap};
 use gcl_contain::Turn;
-use gcl_model::{CountedLeaves, Expr, Interval};
+use gcl_model::{Containment, CountedLeaves, Expr, Interval};
 
 /// An access of a containment: from member to member of the first operand, each with one access of the second, which is
 /// not asked again where its last answer still holds.
@@ -40,7 +43,8 @@ pub(crate) fn containment_access<C: CountedLeaves>(
     let (containment, first, second) = operands(expr);
     let direction = wanted.direction();
     let onward = goes_by(containment, direction);
-    let mut member = operand_access(first, wanted, source, k, counter)?;
+    let ahead = element_ahead(expr, wanted, source, k, known, counter);
+    let mut member = first_member(ahead, first, wanted, source, k, counter)?;
     loop {
         let (asked, at) = question(containment, direction, member);
         let answer = known_access(second, asked, source, at, known, counter);
@@ -48,31 +52,102 @@ pub(crate) fn containment_access<C: CountedLeaves>(
             Turn::Accept => return Some(member),
             Turn::Finish => return None,
             Turn::GoTo(next) => {
-                member = operand_access(first, onward, source, next, counter)?;
+                member = access(first, onward, source, next, counter)?;
             }
         }
     }
 }
 
-/// An access of the first operand: most often that is an element, which is taken at once where it is at hand.
+/// The member of the first operand at which the loop begins: the one ahead, else that of the access.
 #[inline(always)]
 #[cycle(access)]
-fn operand_access<C: CountedLeaves>(
-    expr: &Expr,
+fn first_member<C: CountedLeaves>(
+    ahead: Option<Interval>,
+    first: &Expr,
     wanted: Access,
     source: &C,
     k: u64,
     counter: &mut C::Counter,
 ) -> Option<Interval>
-    requires well_formed { IsWellFormed (form_of expr.now) }
+    requires well_formed { IsWellFormed (form_of first.now) }
     requires below { k < far }
-    ensures answer { result ≡ access_of wanted (concordance (C.text source.now) (form_of expr.now)) k }
+    requires within { IfSome ahead (λ a. a.end < address_end) }
+    ensures answer { MatchOption ahead (result ≡ access_of wanted (concordance (C.text source.now) (form_of first.now)) k) (λ a. result ≡ Some a) }
     ensures within { IfSome result (λ a. a.end < address_end) }
     ensures counted { C.count counter.old ≤ C.count counter.new }
-    ensures cost { C.count counter.new ≤ C.count counter.old + cost (C.text source.now) (C.most source.now) (form_of expr.now) }
+    ensures cost { C.count counter.new ≤ C.count counter.old + cost_in (rounds wanted) (C.text source.now) (C.most source.now) (form_of first.now) }
 {
-    if let Some(element) = element_access(expr, wanted, source, k, counter) {
-        return Some(element);
+    match ahead {
+        Some(member) => Some(member),
+        None => access(first, wanted, source, k, counter),
     }
-    access(expr, wanted, source, k, counter)
+}
+
+/// Where "containing" is asked by starts: an element at which its loop may begin, ahead of the first operand's next
+/// member. None is where that is not at hand, or where the way to the last member was no leap.
+#[inline(always)]
+#[cycle(access)]
+fn element_ahead<C: CountedLeaves>(
+    expr: &Expr,
+    wanted: Access,
+    source: &C,
+    k: u64,
+    known: &mut Option<Known>,
+    counter: &mut C::Counter,
+) -> Option<Interval>
+    requires containment { IsContainment (form_of expr.now) }
+    requires well_formed { IsWellFormed (form_of expr.now) }
+    requires below { k < far }
+    requires known { KnowsSecond (direction_of wanted) (C.text source.now) (form_of expr.now) known.old }
+    ensures begins { IfSome result (MayBegin wanted (C.text source.now) (form_of expr.now) k) }
+    ensures within { IfSome result (λ a. a.end < address_end) }
+    ensures known { KnowsSecond (direction_of wanted) (C.text source.now) (form_of expr.now) known.new }
+    ensures counted { C.count counter.old ≤ C.count counter.new }
+    ensures cost { C.count counter.new ≤ C.count counter.old + ahead_cost wanted (C.text source.now) (C.most source.now) (form_of expr.now) }
+{
+    let (containment, first, second) = operands(expr);
+    match (containment, wanted) {
+        (Containment::Containing, Access::FirstStart) => {
+            element_behind_answer(first, second, source, k, known, counter)
+        }
+        _ => None,
+    }
+}
+
+/// The first element that ends where an answer of the second operand does, or later: its first one from the next place
+/// of the element's first token on. Each member of "containing" from `k` on holds an answer from there on, so it ends
+/// there or later, too.
+#[inline]
+#[cycle(access)]
+fn element_behind_answer<C: CountedLeaves>(
+    first: &Expr,
+    second: &Expr,
+    source: &C,
+    k: u64,
+    known: &mut Option<Known>,
+    counter: &mut C::Counter,
+) -> Option<Interval>
+    requires well_formed { IsWellFormed (form_of second.now) }
+    requires below { k < far }
+    requires known { IsKnown FirstStart (concordance (C.text source.now) (form_of second.now)) known.old }
+    ensures begins { IfSome result (IsBeginning
+        (concordance (C.text source.now) (form_of first.now)) (concordance (C.text source.now) (containing (form_of first.now) (form_of second.now))) k) }
+    ensures within { IfSome result (λ a. a.end < address_end) }
+    ensures known { IsKnown FirstStart (concordance (C.text source.now) (form_of second.now)) known.new }
+    ensures counted { C.count counter.old ≤ C.count counter.new }
+    ensures cost { C.count counter.new + near_cost (C.text source.now) (C.most source.now) (form_of first.now) ≤ C.count counter.old +
+        cost (C.text source.now) (C.most source.now) (form_of first.now) + cost (C.text source.now) (C.most source.now) (form_of second.now) }
+{
+    if !was_leap(known, k) {
+        return None;
+    }
+    let (token, _) = element_tokens(first)?;
+    let from = source.next(token.as_slice(), k, counter)?;
+    let answer = known_access(second, Access::FirstStart, source, from, known, counter)?;
+    let element = element_access(first, Access::FirstEnd, source, answer.end, counter)?;
+    if k <= element.start {
+        Some(element)
+    } else {
+        None
+    }
 }

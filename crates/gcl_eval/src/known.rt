@@ -11,7 +11,7 @@ ghost use Rattle.gcl_model.specs.Meaning.{concordance};
 ghost use Rattle.gcl_model.specs.Cost.{cost};
 ghost use Rattle.gcl_model.specs.WellFormed.{IsWellFormed};
 ghost use Rattle.gcl_eval.specs.Directions.{access_of};
-ghost use Rattle.gcl_eval.specs.KnownAnswers.{goes_on, lies_beyond, stays, told, IsKnown};
+ghost use Rattle.gcl_eval.specs.KnownAnswers.{goes_on, lies_beyond, stays, told, was_leap, IsKnown};
 
 use crate::access::access;
 use crate::direction::Access;
@@ -80,6 +80,18 @@ fn asked_at(at: u64, answer: &Option<Interval>) -> Known
     Known {
         at,
         answer: *answer,
+    }
+}
+
+/// Whether the answer that is known was asked for before the member that starts right before `k`, as it is where others
+/// before that member were passed over.
+#[inline(always)]
+pub(crate) fn was_leap(known: &Option<Known>, k: u64) -> bool
+    ensures { result ≡ was_leap known.now k }
+{
+    match known {
+        Some(last) => last.at < k.saturating_sub(1),
+        None => false,
     }
 }
 

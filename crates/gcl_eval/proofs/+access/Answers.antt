@@ -1,7 +1,9 @@
-use Rattle.std.proofs.Common.{◌+◌, Some, None, is_some, drop, refl, ap, sym, ◌∙◌, subst, arith, rules}
+use Rattle.std.proofs.Common.{◌+◌, ◌≤◌, Some, None, drop, refl, ap, sym, ◌∙◌, subst, arith, rules}
 use Rattle.gcl_model.specs.Forms.{term, phrase, width, both, one, seq}
 use Rattle.gcl_model.specs.FormOf.{form_of}
 use Rattle.gcl_model.specs.Meaning.{concordance}
+use Rattle.gcl_model.specs.Extents.{Extent}
+use Rattle.gcl_model.specs.Access.{first_end}
 use Rattle.gcl_eval.specs.Operands.{operand_forms, operand_lists}
 use Rattle.gcl_combine.specs.Directions.{farthest, best}
 use Rattle.gcl_eval.specs.Directions.{access_of, walk, join}
@@ -15,26 +17,27 @@ use Rattle.gcl_eval.specs.KnownAnswers.{IsKnown}
 use Rattle.gcl_eval.proofs.KnownLemmas.{told_is, asked_second, kept_second}
 use Rattle.gcl_eval.proofs.ContainLoops.{goes_below}
 use Rattle.gcl_eval.proofs.ContainForms.{both_operands, access_spans, spans_below}
-use Rattle.gcl_eval.proofs.ContainSteps.{node_enters, node_enters_none, node_accepts, node_finishes, node_ends, node_goes_on, node_more_turns, fewer_left, none_within, starts_within, stops_within, ends_within, goes_within}
+use Rattle.gcl_eval.proofs.ContainSteps.{node_accepts, node_finishes, node_ends, node_goes_on, node_more_turns, fewer_left, none_within, starts_within, stops_within, ends_within, goes_within}
+use Rattle.gcl_eval.proofs.Beginnings.{place_below, element_begins, node_begins, node_begins_none, begins_within}
 use Rattle.gcl_eval.proofs.+access.Goals as goal
 
 -- an access of any expression lies within the addresses
-pub access::access-returns-in-Term-clause-within : goal.access::access-returns-in-Term-clause-within
-access::access-returns-in-Term-clause-within g t c =
+pub access::access_by_operands-returns-in-Term-clause-within : goal.access::access_by_operands-returns-in-Term-clause-within
+access::access_by_operands-returns-in-Term-clause-within g t c =
     access_within c.args.access (g.C.CountedLeaves.text c.args.source.now) (term c.in-Term.token) c.args.k c.term_access.result c.span-span.ensures.sound c.term_access.ensures.answer
 
-pub access::access-returns-in-Phrase-clause-within : goal.access::access-returns-in-Phrase-clause-within
-access::access-returns-in-Phrase-clause-within g t c =
+pub access::access_by_operands-returns-in-Phrase-clause-within : goal.access::access_by_operands-returns-in-Phrase-clause-within
+access::access_by_operands-returns-in-Phrase-clause-within g t c =
     access_within c.args.access (g.C.CountedLeaves.text c.args.source.now) (phrase c.in-Phrase.tokens) c.args.k c.phrase_access.result c.span-span.ensures.sound c.phrase_access.ensures.answer
 
-pub access::access-returns-in-Width-clause-within : goal.access::access-returns-in-Width-clause-within
-access::access-returns-in-Width-clause-within g t c =
+pub access::access_by_operands-returns-in-Width-clause-within : goal.access::access_by_operands-returns-in-Width-clause-within
+access::access_by_operands-returns-in-Width-clause-within g t c =
     let text = g.C.CountedLeaves.text c.args.source.now in
     access_within c.args.access text (width c.in-Width.width) c.args.k c.width_access.result c.span-span.ensures.sound
     (c.width_access.ensures text record { first_is = sym c.span-span.ensures.first; next_is = sym c.span-span.ensures.next })
 
-pub access::access-returns-in-Both-clause-within : goal.access::access-returns-in-Both-clause-within
-access::access-returns-in-Both-clause-within g t c =
+pub access::access_by_operands-returns-in-Both-clause-within : goal.access::access_by_operands-returns-in-Both-clause-within
+access::access_by_operands-returns-in-Both-clause-within g t c =
     access_within c.args.access (g.C.CountedLeaves.text c.args.source.now) (form_of c.args.expr.now) c.args.k c.chain_access.result c.span-span.ensures.sound c.chain_access.ensures.answer
 
 -- the access by the far sides
@@ -174,8 +177,7 @@ chains::followed_by-returns-in_err-found-clause-answer g t c =
 pub chains::followed_by-returns-in_err-found-clause-cost : goal.chains::followed_by-returns-in_err-found-clause-cost
 chains::followed_by-returns-in_err-found-clause-cost g t c =
     let costs = costs_beside c.args.direction (g.C.CountedLeaves.text c.args.source.now) (g.C.CountedLeaves.most c.args.source.now) c.args.operands.now c.in_ok-nearest.nearest.now c.in_ok-nearest.after_nearest.now c.in_ok-nearest.ensures in
-    let none = c.element_from.ensures.none (ap is_some c.in_default.is) in
-    omega (arith, none, c.access.ensures.cost)
+    omega (arith, c.access.ensures.cost)
 
 pub chains::followed_by-returns-in_err-far-clause-answer : goal.chains::followed_by-returns-in_err-far-clause-answer
 chains::followed_by-returns-in_err-far-clause-answer g t c =
@@ -188,8 +190,7 @@ chains::followed_by-returns-in_err-far-clause-answer g t c =
 pub chains::followed_by-returns-in_err-far-clause-cost : goal.chains::followed_by-returns-in_err-far-clause-cost
 chains::followed_by-returns-in_err-far-clause-cost g t c =
     let costs = costs_beside c.args.direction (g.C.CountedLeaves.text c.args.source.now) (g.C.CountedLeaves.most c.args.source.now) c.args.operands.now c.in_ok-nearest.nearest.now c.in_ok-nearest.after_nearest.now c.in_ok-nearest.ensures in
-    let none = c.element_from.ensures.none (ap is_some c.in_default.is) in
-    omega (arith, none, c.access.ensures.cost, c.walk.ensures.cost)
+    omega (arith, c.access.ensures.cost, c.walk.ensures.cost)
 
 pub chains::followed_by-returns-in_err-near-clause-answer : goal.chains::followed_by-returns-in_err-near-clause-answer
 chains::followed_by-returns-in_err-near-clause-answer g t c =
@@ -204,15 +205,13 @@ pub chains::followed_by-returns-in_err-near-clause-cost : goal.chains::followed_
 chains::followed_by-returns-in_err-near-clause-cost g t c =
     let near_costs = costs_beside c.args.direction (g.C.CountedLeaves.text c.args.source.now) (g.C.CountedLeaves.most c.args.source.now) c.args.operands.now c.in_ok-nearest.nearest.now c.in_ok-nearest.after_nearest.now c.in_ok-nearest.ensures in
     let far_costs = costs_beside c.opposite.result (g.C.CountedLeaves.text c.args.source.now) (g.C.CountedLeaves.most c.args.source.now) c.args.operands.now c.in_ok-before_farthest.field-0-0.now c.in_ok-before_farthest.before_farthest.now c.in_ok-before_farthest.ensures in
-    let none = c.element_from.ensures.none (ap is_some c.in_default.is) in
-    omega (arith, none, c.access.ensures.cost, c.walk.ensures.cost, c.walk-2.ensures.cost)
+    omega (arith, c.access.ensures.cost, c.walk.ensures.cost, c.walk-2.ensures.cost)
 
 pub chains::followed_by-returns-clause-cost : goal.chains::followed_by-returns-clause-cost
 chains::followed_by-returns-clause-cost g t c =
     let near_costs = costs_beside c.args.direction (g.C.CountedLeaves.text c.args.source.now) (g.C.CountedLeaves.most c.args.source.now) c.args.operands.now c.in_ok-nearest.nearest.now c.in_ok-nearest.after_nearest.now c.in_ok-nearest.ensures in
     let far_costs = costs_beside c.opposite.result (g.C.CountedLeaves.text c.args.source.now) (g.C.CountedLeaves.most c.args.source.now) c.args.operands.now c.in_ok-before_farthest.field-0-0.now c.in_ok-before_farthest.before_farthest.now c.in_ok-before_farthest.ensures in
-    let none = c.element_from.ensures.none (ap is_some c.in_default.is) in
-    omega (arith, none, c.access.ensures.cost, c.walk.ensures.cost, c.walk-2.ensures.cost)
+    omega (arith, c.access.ensures.cost, c.walk.ensures.cost, c.walk-2.ensures.cost)
 
 pub chains::followed_by-join-requires : goal.chains::followed_by-join-requires
 chains::followed_by-join-requires g t c =
@@ -269,29 +268,32 @@ chains::walk-loop-operand-preserved g t c =
     }
 
 -- a containment: in, one turn more, and out
-pub containments::containment_access-operand_access-requires : goal.containments::containment_access-operand_access-requires
-containments::containment_access-operand_access-requires g t c =
+pub containments::containment_access-first_member-requires : goal.containments::containment_access-first_member-requires
+containments::containment_access-first_member-requires g t c =
     let parts = both_operands c.operands-containment.result.0 (form_of c.args.expr.now) (form_of c.operands-containment.result.1.now) (form_of c.operands-containment.result.2.now) c.operands-containment.ensures.form c.requires.well_formed in
+    let within = c.element_ahead-ahead.ensures.within in
     search rules
 
 pub containments::containment_access-returns-in_err-member-clause-answer : goal.containments::containment_access-returns-in_err-member-clause-answer
 containments::containment_access-returns-in_err-member-clause-answer g t c =
-    let r = node_enters_none c.operands-containment.result.0 (g.C.CountedLeaves.text c.args.source.now) (form_of c.args.expr.now) (form_of c.operands-containment.result.1.now) (form_of c.operands-containment.result.2.now) c.operands-containment.ensures.form c.args.wanted c.args.k c.in_err-member.ensures.answer in
+    let r = node_begins_none c.operands-containment.result.0 (g.C.CountedLeaves.text c.args.source.now) (form_of c.args.expr.now) (form_of c.operands-containment.result.1.now) (form_of c.operands-containment.result.2.now) c.operands-containment.ensures.form c.args.wanted c.args.k c.element_ahead-ahead.result c.in_err-member.ensures.answer in
     search rules
 
 pub containments::containment_access-returns-in_err-member-clause-cost : goal.containments::containment_access-returns-in_err-member-clause-cost
 containments::containment_access-returns-in_err-member-clause-cost g t c =
-    let r = none_within c.operands-containment.result.0 (g.C.CountedLeaves.text c.args.source.now) (form_of c.args.expr.now) (form_of c.operands-containment.result.1.now) (form_of c.operands-containment.result.2.now) c.operands-containment.ensures.form (g.C.CountedLeaves.most c.args.source.now) (g.C.CountedLeaves.count c.args.counter.now) (g.C.CountedLeaves.count c.operand_access.new.counter) c.operand_access.ensures.cost in
+    let begins = begins_within c.operands-containment.result.0 (g.C.CountedLeaves.text c.args.source.now) (form_of c.args.expr.now) (form_of c.operands-containment.result.1.now) (form_of c.operands-containment.result.2.now) c.operands-containment.ensures.form c.args.wanted (g.C.CountedLeaves.most c.args.source.now) (g.C.CountedLeaves.count c.args.counter.now) (g.C.CountedLeaves.count c.element_ahead-ahead.new.counter) (g.C.CountedLeaves.count c.first_member.new.counter) c.element_ahead-ahead.ensures.cost c.first_member.ensures.cost in
+    let r = none_within c.operands-containment.result.0 (g.C.CountedLeaves.text c.args.source.now) (form_of c.args.expr.now) (form_of c.operands-containment.result.1.now) (form_of c.operands-containment.result.2.now) c.operands-containment.ensures.form (g.C.CountedLeaves.most c.args.source.now) (g.C.CountedLeaves.count c.args.counter.now) (g.C.CountedLeaves.count c.first_member.new.counter) begins in
     search rules
 
 pub containments::containment_access-loop-next-init : goal.containments::containment_access-loop-next-init
 containments::containment_access-loop-next-init g t c =
+    let begins = begins_within c.operands-containment.result.0 (g.C.CountedLeaves.text c.args.source.now) (form_of c.args.expr.now) (form_of c.operands-containment.result.1.now) (form_of c.operands-containment.result.2.now) c.operands-containment.ensures.form c.args.wanted (g.C.CountedLeaves.most c.args.source.now) (g.C.CountedLeaves.count c.args.counter.now) (g.C.CountedLeaves.count c.element_ahead-ahead.new.counter) (g.C.CountedLeaves.count c.first_member.new.counter) c.element_ahead-ahead.ensures.cost c.first_member.ensures.cost in
     record {
-      reached = node_enters c.operands-containment.result.0 (g.C.CountedLeaves.text c.args.source.now) (form_of c.args.expr.now) (form_of c.operands-containment.result.1.now) (form_of c.operands-containment.result.2.now) c.operands-containment.ensures.form c.args.wanted c.direction-direction.result c.direction-direction.ensures c.args.k c.in_ok-member.member c.in_ok-member.ensures.answer;
+      reached = node_begins c.operands-containment.result.0 (g.C.CountedLeaves.text c.args.source.now) (form_of c.args.expr.now) (form_of c.operands-containment.result.1.now) (form_of c.operands-containment.result.2.now) c.operands-containment.ensures.form c.args.wanted c.args.k c.direction-direction.result c.direction-direction.ensures c.element_ahead-ahead.result c.element_ahead-ahead.ensures.begins c.in_ok-member.member c.in_ok-member.ensures.answer;
       within = c.in_ok-member.ensures.within;
-      known = asked_second c.direction-direction.result c.args.wanted c.direction-direction.ensures c.operands-containment.result.0 (g.C.CountedLeaves.text c.args.source.now) (form_of c.args.expr.now) (form_of c.operands-containment.result.1.now) (form_of c.operands-containment.result.2.now) c.operands-containment.ensures.form c.args.known.now c.requires.known;
-      counted = c.operand_access.ensures.counted;
-      cost = starts_within c.operands-containment.result.0 (g.C.CountedLeaves.text c.args.source.now) (form_of c.args.expr.now) (form_of c.operands-containment.result.1.now) (form_of c.operands-containment.result.2.now) c.operands-containment.ensures.form (g.C.CountedLeaves.most c.args.source.now) (g.C.CountedLeaves.count c.args.counter.now) c.direction-direction.result c.in_ok-member.member (g.C.CountedLeaves.count c.operand_access.new.counter) c.operand_access.ensures.cost;
+      known = asked_second c.direction-direction.result c.args.wanted c.direction-direction.ensures c.operands-containment.result.0 (g.C.CountedLeaves.text c.args.source.now) (form_of c.args.expr.now) (form_of c.operands-containment.result.1.now) (form_of c.operands-containment.result.2.now) c.operands-containment.ensures.form c.element_ahead-ahead.new.known c.element_ahead-ahead.ensures.known;
+      counted = omega (arith, c.element_ahead-ahead.ensures.counted, c.first_member.ensures.counted);
+      cost = starts_within c.operands-containment.result.0 (g.C.CountedLeaves.text c.args.source.now) (form_of c.args.expr.now) (form_of c.operands-containment.result.1.now) (form_of c.operands-containment.result.2.now) c.operands-containment.ensures.form (g.C.CountedLeaves.most c.args.source.now) (g.C.CountedLeaves.count c.args.counter.now) c.direction-direction.result c.in_ok-member.member (g.C.CountedLeaves.count c.first_member.new.counter) begins;
     }
 
 pub containments::containment_access-known_access-answer-requires : goal.containments::containment_access-known_access-answer-requires
@@ -323,8 +325,8 @@ pub containments::containment_access-returns-in-Finish-clause-cost : goal.contai
 containments::containment_access-returns-in-Finish-clause-cost g t c =
     stops_within c.operands-containment.result.0 (g.C.CountedLeaves.text c.args.source.now) (form_of c.args.expr.now) (form_of c.operands-containment.result.1.now) (form_of c.operands-containment.result.2.now) c.operands-containment.ensures.form (g.C.CountedLeaves.most c.args.source.now) (g.C.CountedLeaves.count c.args.counter.now) c.direction-direction.result c.loop-next.member (g.C.CountedLeaves.count c.loop-next.counter) c.loop-next.invariant.cost (g.C.CountedLeaves.count c.known_access-answer.new.counter) c.known_access-answer.ensures.cost
 
-pub containments::containment_access-operand_access-requires-in-GoTo : goal.containments::containment_access-operand_access-requires-in-GoTo
-containments::containment_access-operand_access-requires-in-GoTo g t c =
+pub containments::containment_access-access-requires : goal.containments::containment_access-access-requires
+containments::containment_access-access-requires g t c =
     let parts = both_operands c.operands-containment.result.0 (form_of c.args.expr.now) (form_of c.operands-containment.result.1.now) (form_of c.operands-containment.result.2.now) c.operands-containment.ensures.form c.requires.well_formed in
     let spans = access_spans c.question-asked.result.0 (g.C.CountedLeaves.text c.args.source.now) (form_of c.operands-containment.result.2.now) c.question-asked.result.1 c.known_access-answer.result c.known_access-answer.ensures.within c.known_access-answer.ensures.answer in
     let below = goes_below c.direction-direction.result c.operands-containment.result.0 c.loop-next.member c.known_access-answer.result c.in-GoTo.next spans c.in-GoTo.ensures in
@@ -338,7 +340,7 @@ containments::containment_access-returns-in_err-member-in-GoTo-clause-answer g t
 
 pub containments::containment_access-returns-in_err-member-in-GoTo-clause-cost : goal.containments::containment_access-returns-in_err-member-in-GoTo-clause-cost
 containments::containment_access-returns-in_err-member-in-GoTo-clause-cost g t c =
-    let r = ends_within c.operands-containment.result.0 (g.C.CountedLeaves.text c.args.source.now) (form_of c.args.expr.now) (form_of c.operands-containment.result.1.now) (form_of c.operands-containment.result.2.now) c.operands-containment.ensures.form (g.C.CountedLeaves.most c.args.source.now) (g.C.CountedLeaves.count c.args.counter.now) c.direction-direction.result c.loop-next.member (g.C.CountedLeaves.count c.loop-next.counter) c.loop-next.invariant.cost (g.C.CountedLeaves.count c.known_access-answer.new.counter) (g.C.CountedLeaves.count c.operand_access-in-GoTo.new.counter) c.known_access-answer.ensures.cost c.operand_access-in-GoTo.ensures.cost in
+    let r = ends_within c.operands-containment.result.0 (g.C.CountedLeaves.text c.args.source.now) (form_of c.args.expr.now) (form_of c.operands-containment.result.1.now) (form_of c.operands-containment.result.2.now) c.operands-containment.ensures.form (g.C.CountedLeaves.most c.args.source.now) (g.C.CountedLeaves.count c.args.counter.now) c.direction-direction.result c.loop-next.member (g.C.CountedLeaves.count c.loop-next.counter) c.loop-next.invariant.cost (g.C.CountedLeaves.count c.known_access-answer.new.counter) (g.C.CountedLeaves.count c.access.new.counter) c.known_access-answer.ensures.cost c.access.ensures.cost in
     search rules
 
 pub containments::containment_access-loop-next-smaller : goal.containments::containment_access-loop-next-smaller
@@ -353,8 +355,8 @@ containments::containment_access-loop-next-preserved g t c =
       reached = node_goes_on c.operands-containment.result.0 (g.C.CountedLeaves.text c.args.source.now) (form_of c.args.expr.now) (form_of c.operands-containment.result.1.now) (form_of c.operands-containment.result.2.now) c.operands-containment.ensures.form c.direction-direction.result (access_of c.args.wanted (concordance (g.C.CountedLeaves.text c.args.source.now) (form_of c.args.expr.now)) c.args.k) c.loop-next.member c.loop-next.invariant.reached c.question-asked.result.0 c.question-asked.result.1 c.question-asked.ensures.asks c.known_access-answer.result c.known_access-answer.ensures.answer c.in-GoTo.next c.in-GoTo.ensures c.in_ok-member-in-GoTo.member from;
       within = c.in_ok-member-in-GoTo.ensures.within;
       known = subst (λ asked. IsKnown asked (concordance (g.C.CountedLeaves.text c.args.source.now) (form_of c.operands-containment.result.2.now)) c.known_access-answer.new.known) c.question-asked.ensures.access c.known_access-answer.ensures.known;
-      counted = omega (arith, c.loop-next.invariant.counted, c.known_access-answer.ensures.counted, c.operand_access-in-GoTo.ensures.counted);
-      cost = goes_within c.operands-containment.result.0 (g.C.CountedLeaves.text c.args.source.now) (form_of c.args.expr.now) (form_of c.operands-containment.result.1.now) (form_of c.operands-containment.result.2.now) c.operands-containment.ensures.form (g.C.CountedLeaves.most c.args.source.now) (g.C.CountedLeaves.count c.args.counter.now) c.direction-direction.result c.loop-next.member (g.C.CountedLeaves.count c.loop-next.counter) c.loop-next.invariant.cost c.in_ok-member-in-GoTo.member (node_more_turns c.operands-containment.result.0 (g.C.CountedLeaves.text c.args.source.now) (form_of c.args.expr.now) (form_of c.operands-containment.result.1.now) (form_of c.operands-containment.result.2.now) c.operands-containment.ensures.form c.direction-direction.result (access_of c.args.wanted (concordance (g.C.CountedLeaves.text c.args.source.now) (form_of c.args.expr.now)) c.args.k) c.loop-next.member c.loop-next.invariant.reached c.question-asked.result.0 c.question-asked.result.1 c.question-asked.ensures.asks c.known_access-answer.result c.known_access-answer.ensures.answer c.in-GoTo.next c.in-GoTo.ensures c.in_ok-member-in-GoTo.member from) (g.C.CountedLeaves.count c.known_access-answer.new.counter) (g.C.CountedLeaves.count c.operand_access-in-GoTo.new.counter) c.known_access-answer.ensures.cost c.operand_access-in-GoTo.ensures.cost;
+      counted = omega (arith, c.loop-next.invariant.counted, c.known_access-answer.ensures.counted, c.access.ensures.counted);
+      cost = goes_within c.operands-containment.result.0 (g.C.CountedLeaves.text c.args.source.now) (form_of c.args.expr.now) (form_of c.operands-containment.result.1.now) (form_of c.operands-containment.result.2.now) c.operands-containment.ensures.form (g.C.CountedLeaves.most c.args.source.now) (g.C.CountedLeaves.count c.args.counter.now) c.direction-direction.result c.loop-next.member (g.C.CountedLeaves.count c.loop-next.counter) c.loop-next.invariant.cost c.in_ok-member-in-GoTo.member (node_more_turns c.operands-containment.result.0 (g.C.CountedLeaves.text c.args.source.now) (form_of c.args.expr.now) (form_of c.operands-containment.result.1.now) (form_of c.operands-containment.result.2.now) c.operands-containment.ensures.form c.direction-direction.result (access_of c.args.wanted (concordance (g.C.CountedLeaves.text c.args.source.now) (form_of c.args.expr.now)) c.args.k) c.loop-next.member c.loop-next.invariant.reached c.question-asked.result.0 c.question-asked.result.1 c.question-asked.ensures.asks c.known_access-answer.result c.known_access-answer.ensures.answer c.in-GoTo.next c.in-GoTo.ensures c.in_ok-member-in-GoTo.member from) (g.C.CountedLeaves.count c.known_access-answer.new.counter) (g.C.CountedLeaves.count c.access.new.counter) c.known_access-answer.ensures.cost c.access.ensures.cost;
     }
 
 -- what is known of the second operand
@@ -384,9 +386,9 @@ chains::followed_by_far_sides-walk-requires g t c =
     let depth = depth_beside c.opposite.result c.args.operands.now c.in_ok-farthest.farthest.now c.in_ok-farthest.before_farthest.now c.in_ok-farthest.ensures in
     search rules
 
-pub chains::followed_by_far_sides-walk-requires-in-Some-walk : goal.chains::followed_by_far_sides-walk-requires-in-Some-walk
-chains::followed_by_far_sides-walk-requires-in-Some-walk g t c =
-    let within = c.in-Some-walk.ensures.within in
+pub chains::followed_by_far_sides-walk-requires-in-Some : goal.chains::followed_by_far_sides-walk-requires-in-Some
+chains::followed_by_far_sides-walk-requires-in-Some g t c =
+    let within = c.in-Some.ensures.within in
     let parts = parts_beside c.args.direction c.args.operands.now c.in_ok-after_nearest.field-0-0.now c.in_ok-after_nearest.after_nearest.now c.in_ok-after_nearest.ensures c.requires.operands.each in
     let depth = depth_beside c.args.direction c.args.operands.now c.in_ok-after_nearest.field-0-0.now c.in_ok-after_nearest.after_nearest.now c.in_ok-after_nearest.ensures in
     search rules
@@ -401,8 +403,7 @@ chains::followed_by_far_sides-returns-in_err-found-clause-answer g t c =
 pub chains::followed_by_far_sides-returns-in_err-found-clause-cost : goal.chains::followed_by_far_sides-returns-in_err-found-clause-cost
 chains::followed_by_far_sides-returns-in_err-found-clause-cost g t c =
     let far_costs = costs_beside c.opposite.result (g.C.CountedLeaves.text c.args.source.now) (g.C.CountedLeaves.most c.args.source.now) c.args.operands.now c.in_ok-farthest.farthest.now c.in_ok-farthest.before_farthest.now c.in_ok-farthest.ensures in
-    let none = c.element_up_to.ensures.none (ap is_some c.in_default.is) in
-    omega (arith, none, c.access.ensures.cost)
+    omega (arith, c.access.ensures.cost)
 
 pub chains::followed_by_far_sides-returns-in-None-clause-answer : goal.chains::followed_by_far_sides-returns-in-None-clause-answer
 chains::followed_by_far_sides-returns-in-None-clause-answer g t c =
@@ -414,59 +415,55 @@ chains::followed_by_far_sides-returns-in-None-clause-answer g t c =
 pub chains::followed_by_far_sides-returns-in-None-clause-cost : goal.chains::followed_by_far_sides-returns-in-None-clause-cost
 chains::followed_by_far_sides-returns-in-None-clause-cost g t c =
     let far_costs = costs_beside c.opposite.result (g.C.CountedLeaves.text c.args.source.now) (g.C.CountedLeaves.most c.args.source.now) c.args.operands.now c.in_ok-farthest.farthest.now c.in_ok-farthest.before_farthest.now c.in_ok-farthest.ensures in
-    let none = c.element_up_to.ensures.none (ap is_some c.in_default.is) in
-    omega (arith, none, c.access.ensures.cost, c.walk.ensures.cost, c.next_past.ensures.cost)
+    omega (arith, c.access.ensures.cost, c.walk.ensures.cost, c.next_past.ensures.cost)
 
-pub chains::followed_by_far_sides-returns-in_err-far-in-Some-walk-clause-answer : goal.chains::followed_by_far_sides-returns-in_err-far-in-Some-walk-clause-answer
-chains::followed_by_far_sides-returns-in_err-far-in-Some-walk-clause-answer g t c =
+pub chains::followed_by_far_sides-returns-in_err-far-in-Some-clause-answer : goal.chains::followed_by_far_sides-returns-in_err-far-in-Some-clause-answer
+chains::followed_by_far_sides-returns-in_err-far-in-Some-clause-answer g t c =
     let far_is = rw c.opposite.ensures at c.in_ok-farthest.ensures in
     let found = rw c.access_by_far_sides.ensures at c.in_ok-found.ensures.answer in
-    let back = rw c.opposite-2.ensures at c.in-Some-walk.ensures.answer in
-    let r = far_on c.args.direction (g.C.CountedLeaves.text c.args.source.now) c.args.operands.now c.in_ok-after_nearest.after_nearest.now c.in_ok-farthest.before_farthest.now c.in_ok-after_nearest.field-0-0.now c.in_ok-farthest.farthest.now c.in_ok-after_nearest.ensures far_is c.args.k c.in_ok-found.found c.in-Some-walk.near found back None c.in_err-far-in-Some-walk.ensures.answer in
+    let back = rw c.opposite-2.ensures at c.in-Some.ensures.answer in
+    let r = far_on c.args.direction (g.C.CountedLeaves.text c.args.source.now) c.args.operands.now c.in_ok-after_nearest.after_nearest.now c.in_ok-farthest.before_farthest.now c.in_ok-after_nearest.field-0-0.now c.in_ok-farthest.farthest.now c.in_ok-after_nearest.ensures far_is c.args.k c.in_ok-found.found c.in-Some.near found back None c.in_err-far-in-Some.ensures.answer in
     search rules
 
-pub chains::followed_by_far_sides-returns-in_err-far-in-Some-walk-clause-cost : goal.chains::followed_by_far_sides-returns-in_err-far-in-Some-walk-clause-cost
-chains::followed_by_far_sides-returns-in_err-far-in-Some-walk-clause-cost g t c =
+pub chains::followed_by_far_sides-returns-in_err-far-in-Some-clause-cost : goal.chains::followed_by_far_sides-returns-in_err-far-in-Some-clause-cost
+chains::followed_by_far_sides-returns-in_err-far-in-Some-clause-cost g t c =
     let far_costs = costs_beside c.opposite.result (g.C.CountedLeaves.text c.args.source.now) (g.C.CountedLeaves.most c.args.source.now) c.args.operands.now c.in_ok-farthest.farthest.now c.in_ok-farthest.before_farthest.now c.in_ok-farthest.ensures in
     let near_costs = costs_beside c.args.direction (g.C.CountedLeaves.text c.args.source.now) (g.C.CountedLeaves.most c.args.source.now) c.args.operands.now c.in_ok-after_nearest.field-0-0.now c.in_ok-after_nearest.after_nearest.now c.in_ok-after_nearest.ensures in
-    let none = c.element_up_to.ensures.none (ap is_some c.in_default.is) in
-    omega (arith, none, c.access.ensures.cost, c.walk.ensures.cost, c.walk-in-Some-walk.ensures.cost)
+    omega (arith, c.access.ensures.cost, c.walk.ensures.cost, c.walk-in-Some.ensures.cost)
 
 pub chains::followed_by_far_sides-join-requires : goal.chains::followed_by_far_sides-join-requires
 chains::followed_by_far_sides-join-requires g t c =
     let far_is = rw c.opposite.ensures at c.in_ok-farthest.ensures in
     let found = rw c.access_by_far_sides.ensures at c.in_ok-found.ensures.answer in
-    let back = rw c.opposite-2.ensures at c.in-Some-walk.ensures.answer in
-    joins_far c.args.direction (g.C.CountedLeaves.text c.args.source.now) (seq (operand_forms c.args.operands.now)) c.args.k c.in-Some-walk.near c.in_ok-far-in-Some-walk.far
-    (far_reached c.args.direction (g.C.CountedLeaves.text c.args.source.now) c.args.operands.now c.in_ok-after_nearest.after_nearest.now c.in_ok-farthest.before_farthest.now c.in_ok-after_nearest.field-0-0.now c.in_ok-farthest.farthest.now c.in_ok-after_nearest.ensures far_is c.args.k c.in_ok-found.found c.in-Some-walk.near found back c.in_ok-far-in-Some-walk.far c.in_ok-far-in-Some-walk.ensures.answer (sym c.reaches.ensures ∙ c.if-reaches.true) (join c.args.direction c.in-Some-walk.near c.in_ok-far-in-Some-walk.far) refl)
+    let back = rw c.opposite-2.ensures at c.in-Some.ensures.answer in
+    joins_far c.args.direction (g.C.CountedLeaves.text c.args.source.now) (seq (operand_forms c.args.operands.now)) c.args.k c.in-Some.near c.in_ok-far-in-Some.far
+    (far_reached c.args.direction (g.C.CountedLeaves.text c.args.source.now) c.args.operands.now c.in_ok-after_nearest.after_nearest.now c.in_ok-farthest.before_farthest.now c.in_ok-after_nearest.field-0-0.now c.in_ok-farthest.farthest.now c.in_ok-after_nearest.ensures far_is c.args.k c.in_ok-found.found c.in-Some.near found back c.in_ok-far-in-Some.far c.in_ok-far-in-Some.ensures.answer (sym c.reaches.ensures ∙ c.if-reaches.true) (join c.args.direction c.in-Some.near c.in_ok-far-in-Some.far) refl)
 
 pub chains::followed_by_far_sides-returns-then-reaches-clause-answer : goal.chains::followed_by_far_sides-returns-then-reaches-clause-answer
 chains::followed_by_far_sides-returns-then-reaches-clause-answer g t c =
     let far_is = rw c.opposite.ensures at c.in_ok-farthest.ensures in
     let found = rw c.access_by_far_sides.ensures at c.in_ok-found.ensures.answer in
-    let back = rw c.opposite-2.ensures at c.in-Some-walk.ensures.answer in
-    far_reached c.args.direction (g.C.CountedLeaves.text c.args.source.now) c.args.operands.now c.in_ok-after_nearest.after_nearest.now c.in_ok-farthest.before_farthest.now c.in_ok-after_nearest.field-0-0.now c.in_ok-farthest.farthest.now c.in_ok-after_nearest.ensures far_is c.args.k c.in_ok-found.found c.in-Some-walk.near found back c.in_ok-far-in-Some-walk.far c.in_ok-far-in-Some-walk.ensures.answer (sym c.reaches.ensures ∙ c.if-reaches.true) c.join.result c.join.ensures
+    let back = rw c.opposite-2.ensures at c.in-Some.ensures.answer in
+    far_reached c.args.direction (g.C.CountedLeaves.text c.args.source.now) c.args.operands.now c.in_ok-after_nearest.after_nearest.now c.in_ok-farthest.before_farthest.now c.in_ok-after_nearest.field-0-0.now c.in_ok-farthest.farthest.now c.in_ok-after_nearest.ensures far_is c.args.k c.in_ok-found.found c.in-Some.near found back c.in_ok-far-in-Some.far c.in_ok-far-in-Some.ensures.answer (sym c.reaches.ensures ∙ c.if-reaches.true) c.join.result c.join.ensures
 
 pub chains::followed_by_far_sides-returns-then-reaches-clause-cost : goal.chains::followed_by_far_sides-returns-then-reaches-clause-cost
 chains::followed_by_far_sides-returns-then-reaches-clause-cost g t c =
     let far_costs = costs_beside c.opposite.result (g.C.CountedLeaves.text c.args.source.now) (g.C.CountedLeaves.most c.args.source.now) c.args.operands.now c.in_ok-farthest.farthest.now c.in_ok-farthest.before_farthest.now c.in_ok-farthest.ensures in
     let near_costs = costs_beside c.args.direction (g.C.CountedLeaves.text c.args.source.now) (g.C.CountedLeaves.most c.args.source.now) c.args.operands.now c.in_ok-after_nearest.field-0-0.now c.in_ok-after_nearest.after_nearest.now c.in_ok-after_nearest.ensures in
-    let none = c.element_up_to.ensures.none (ap is_some c.in_default.is) in
-    omega (arith, none, c.access.ensures.cost, c.walk.ensures.cost, c.walk-in-Some-walk.ensures.cost)
+    omega (arith, c.access.ensures.cost, c.walk.ensures.cost, c.walk-in-Some.ensures.cost)
 
 pub chains::followed_by_far_sides-returns-else-reaches-clause-answer : goal.chains::followed_by_far_sides-returns-else-reaches-clause-answer
 chains::followed_by_far_sides-returns-else-reaches-clause-answer g t c =
     let far_is = rw c.opposite.ensures at c.in_ok-farthest.ensures in
     let found = rw c.access_by_far_sides.ensures at c.in_ok-found.ensures.answer in
-    let back = rw c.opposite-2.ensures at c.in-Some-walk.ensures.answer in
-    far_short c.args.direction (g.C.CountedLeaves.text c.args.source.now) c.args.operands.now c.in_ok-after_nearest.after_nearest.now c.in_ok-farthest.before_farthest.now c.in_ok-after_nearest.field-0-0.now c.in_ok-farthest.farthest.now c.in_ok-after_nearest.ensures far_is c.args.k c.in_ok-found.found c.in-Some-walk.near found back c.in_ok-far-in-Some-walk.far c.in_ok-far-in-Some-walk.ensures.answer (sym c.reaches.ensures ∙ c.if-reaches.false) c.next_past-else-reaches.result c.next_past-else-reaches.ensures.answer
+    let back = rw c.opposite-2.ensures at c.in-Some.ensures.answer in
+    far_short c.args.direction (g.C.CountedLeaves.text c.args.source.now) c.args.operands.now c.in_ok-after_nearest.after_nearest.now c.in_ok-farthest.before_farthest.now c.in_ok-after_nearest.field-0-0.now c.in_ok-farthest.farthest.now c.in_ok-after_nearest.ensures far_is c.args.k c.in_ok-found.found c.in-Some.near found back c.in_ok-far-in-Some.far c.in_ok-far-in-Some.ensures.answer (sym c.reaches.ensures ∙ c.if-reaches.false) c.next_past-else-reaches.result c.next_past-else-reaches.ensures.answer
 
 pub chains::followed_by_far_sides-returns-else-reaches-clause-cost : goal.chains::followed_by_far_sides-returns-else-reaches-clause-cost
 chains::followed_by_far_sides-returns-else-reaches-clause-cost g t c =
     let far_costs = costs_beside c.opposite.result (g.C.CountedLeaves.text c.args.source.now) (g.C.CountedLeaves.most c.args.source.now) c.args.operands.now c.in_ok-farthest.farthest.now c.in_ok-farthest.before_farthest.now c.in_ok-farthest.ensures in
     let near_costs = costs_beside c.args.direction (g.C.CountedLeaves.text c.args.source.now) (g.C.CountedLeaves.most c.args.source.now) c.args.operands.now c.in_ok-after_nearest.field-0-0.now c.in_ok-after_nearest.after_nearest.now c.in_ok-after_nearest.ensures in
-    let none = c.element_up_to.ensures.none (ap is_some c.in_default.is) in
-    omega (arith, none, c.access.ensures.cost, c.walk.ensures.cost, c.walk-in-Some-walk.ensures.cost, c.next_past-else-reaches.ensures.cost)
+    omega (arith, c.access.ensures.cost, c.walk.ensures.cost, c.walk-in-Some.ensures.cost, c.next_past-else-reaches.ensures.cost)
 
 -- an answer that is known
 pub known::known_access-returns-in-Some-clause-answer : goal.known::known_access-returns-in-Some-clause-answer
@@ -476,3 +473,19 @@ known::known_access-returns-in-Some-clause-answer g t c =
 pub known::known_access-returns-in-Some-clause-within : goal.known::known_access-returns-in-Some-clause-within
 known::known_access-returns-in-Some-clause-within g t c =
     (told_is c.args.wanted (concordance (g.C.CountedLeaves.text c.args.source.now) (form_of c.args.expr.now)) c.args.known.now c.requires.known c.args.k c.in-Some.answer c.in-Some.ensures).1
+
+-- where "containing" may begin
+pub containments::element_behind_answer-known_access-requires : goal.containments::element_behind_answer-known_access-requires
+containments::element_behind_answer-known_access-requires g t c =
+    let within = place_below (g.C.CountedLeaves.text c.args.source.now) c.next.ensures.sound c.as_slice.result.now c.args.k c.in_ok-from.from c.in_ok-from.ensures.answer in
+    search rules
+
+pub containments::element_behind_answer-returns-then-k-element-clause-begins : goal.containments::element_behind_answer-returns-then-k-element-clause-begins
+containments::element_behind_answer-returns-then-k-element-clause-begins g t c =
+    let text = g.C.CountedLeaves.text c.args.source.now in
+    let behind = c.in_ok-element.ensures.answer ∙ ap (λ (a : Extent). first_end (concordance text (form_of c.args.first.now)) a.end) c.answer.view_is in
+    let at = ap (λ (a : Extent). a.start) c.element.view_is in
+    let from = c.if-k-element.true in
+    let low : c.args.k ≤ c.in_ok-element.element.start = omega arith in
+    element_begins text c.next.ensures.sound (form_of c.args.first.now) (form_of c.args.second.now) c.in_ok-token.token.now c.in_ok-token.field-0-1.now c.as_slice.result.now
+    c.in_ok-token.ensures c.as_slice.ensures c.args.k c.in_ok-from.from c.in_ok-from.ensures.answer c.in_ok-answer.answer c.in_ok-answer.ensures.answer c.in_ok-element.element behind low

@@ -71,7 +71,7 @@ invariant-containments::containment_access-loop-next g l =
       within : l.member.end < address_end;
       known : IsKnown (asks l.direction l.containment) others l.known;
       counted : g.C.CountedLeaves.count l.fn.counter ≤ g.C.CountedLeaves.count l.counter;
-      cost : g.C.CountedLeaves.count l.counter ≤ g.C.CountedLeaves.count l.fn.counter + first + turns l.direction l.containment members others l.member * (first + second);
+      cost : g.C.CountedLeaves.count l.counter ≤ g.C.CountedLeaves.count l.fn.counter + (first + second) + turns l.direction l.containment members others l.member * (first + second);
     }
 
 -- the turns that are left
@@ -83,50 +83,59 @@ decreases-containments::containment_access-loop-next g l =
 
 -- the depth, and at one depth the caller above those that it calls
 abbrev pub decreases-access::access : goal.decreases-access::access
-decreases-access::access g l = 8 * size-Expr l.expr.now + 5
+decreases-access::access g l = 16 * size-Expr l.expr.now + 13
 
-abbrev pub decreases-containments::operand_access : goal.decreases-containments::operand_access
-decreases-containments::operand_access g l = 8 * size-Expr l.expr.now + 6
+abbrev pub decreases-access::access_by_operands : goal.decreases-access::access_by_operands
+decreases-access::access_by_operands g l = 16 * size-Expr l.expr.now + 12
 
 abbrev pub decreases-known::known_access : goal.decreases-known::known_access
-decreases-known::known_access g l = 8 * size-Expr l.expr.now + 6
+decreases-known::known_access g l = 16 * size-Expr l.expr.now + 14
 
 abbrev pub decreases-containments::containment_access : goal.decreases-containments::containment_access
-decreases-containments::containment_access g l = 8 * size-Expr l.expr.now + 1
+decreases-containments::containment_access g l = 16 * size-Expr l.expr.now + 5
+
+abbrev pub decreases-containments::element_ahead : goal.decreases-containments::element_ahead
+decreases-containments::element_ahead g l = 16 * size-Expr l.expr.now + 4
+
+abbrev pub decreases-containments::element_behind_answer : goal.decreases-containments::element_behind_answer
+decreases-containments::element_behind_answer g l = 16 * size-Expr l.second.now + 15
+
+abbrev pub decreases-containments::first_member : goal.decreases-containments::first_member
+decreases-containments::first_member g l = 16 * size-Expr l.first.now + 14
 
 abbrev pub decreases-chains::chain_access : goal.decreases-chains::chain_access
-decreases-chains::chain_access g l = 8 * size-Expr l.expr.now + 4
+decreases-chains::chain_access g l = 16 * size-Expr l.expr.now + 10
 
 abbrev pub decreases-chains::far_access : goal.decreases-chains::far_access
-decreases-chains::far_access g l = 8 * size-Expr l.expr.now + 3
+decreases-chains::far_access g l = 16 * size-Expr l.expr.now + 9
 
 abbrev pub decreases-chains::past_passed : goal.decreases-chains::past_passed
-decreases-chains::past_passed g l = 8 * size-Expr l.expr.now + 2
+decreases-chains::past_passed g l = 16 * size-Expr l.expr.now + 8
 
 abbrev pub decreases-chains::passed_member : goal.decreases-chains::passed_member
-decreases-chains::passed_member g l = 8 * size-Expr l.expr.now + 1
+decreases-chains::passed_member g l = 16 * size-Expr l.expr.now + 7
 
 abbrev pub decreases-chains::near_access : goal.decreases-chains::near_access
-decreases-chains::near_access g l = 8 * size-Expr l.expr.now
+decreases-chains::near_access g l = 16 * size-Expr l.expr.now + 6
 
 -- an operand is smaller than the expression
 abbrev pub decreases-chains::both_of : goal.decreases-chains::both_of
-decreases-chains::both_of g l = 8 * most size-Expr l.operands.now + 7
+decreases-chains::both_of g l = 16 * most size-Expr l.operands.now + 15
 
 abbrev pub decreases-chains::one_of : goal.decreases-chains::one_of
-decreases-chains::one_of g l = 8 * most size-Expr l.operands.now + 7
+decreases-chains::one_of g l = 16 * most size-Expr l.operands.now + 15
 
 abbrev pub decreases-chains::followed_by : goal.decreases-chains::followed_by
-decreases-chains::followed_by g l = 8 * most size-Expr l.operands.now + 7
+decreases-chains::followed_by g l = 16 * most size-Expr l.operands.now + 15
 
 abbrev pub decreases-chains::next_past : goal.decreases-chains::next_past
-decreases-chains::next_past g l = 8 * most size-Expr l.operands.now + 8
+decreases-chains::next_past g l = 16 * most size-Expr l.operands.now + 16
 
 abbrev pub decreases-chains::followed_by_far_sides : goal.decreases-chains::followed_by_far_sides
-decreases-chains::followed_by_far_sides g l = 8 * most size-Expr l.operands.now + 9
+decreases-chains::followed_by_far_sides g l = 16 * most size-Expr l.operands.now + 17
 
 abbrev pub decreases-chains::farthest : goal.decreases-chains::farthest
-decreases-chains::farthest g l = 8 * most size-Expr l.operands.now + 6
+decreases-chains::farthest g l = 16 * most size-Expr l.operands.now + 14
 
 abbrev pub decreases-chains::walk : goal.decreases-chains::walk
-decreases-chains::walk g l = 8 * most size-Expr l.operands.now + 6
+decreases-chains::walk g l = 16 * most size-Expr l.operands.now + 14

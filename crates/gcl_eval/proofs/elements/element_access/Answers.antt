@@ -1,16 +1,21 @@
-use Rattle.gcl_model.specs.Forms.{seq}
-use Rattle.gcl_eval.specs.Operands.{operand_forms}
-use Rattle.gcl_eval.specs.declared.direction.Access.TheVariants.{FirstStart, FirstEnd}
-use Rattle.gcl_eval.proofs.OperandLemmas.{form-Seq}
-use Rattle.gcl_eval.proofs.ElementLemmas.{as_access}
+use Rattle.gcl_model.specs.FormOf.{form_of}
+use Rattle.gcl_eval.proofs.ElementLemmas.{from_at_hand, up_to_at_hand, at_hand_within}
 use Rattle.gcl_eval.proofs.elements.element_access.Goals as goal
 
-pub returns-in-Seq-FirstStart-clause-answer : goal.returns-in-Seq-FirstStart-clause-answer
-returns-in-Seq-FirstStart-clause-answer g c =
-    as_access c.args.expr.now (seq (operand_forms c.deref.result.now)) (form-Seq c.args.expr.now c.in-Seq-FirstStart.operands c.deref.result.now c.in-Seq-FirstStart.is-0 c.deref.ensures.value)
-    c.args.wanted FirstStart c.in-Seq-FirstStart.is-1 (g.C.CountedLeaves.text c.args.source.now) c.args.k c.element_from.result c.element_from.ensures.answer
+pub returns-in-FirstStart-clause-answer : goal.returns-in-FirstStart-clause-answer
+returns-in-FirstStart-clause-answer g c =
+    from_at_hand c.args.expr.now (g.C.CountedLeaves.text c.args.source.now) c.span-span.ensures.sound c.in_ok-first.first.now c.in_ok-first.second.now c.as_slice.result.now c.as_slice-in-FirstStart.result.now c.args.k
+    c.in_ok-first.ensures c.as_slice.ensures c.as_slice-in-FirstStart.ensures c.args.wanted c.in-FirstStart.is c.element_from.result c.element_from.ensures.answer
 
-pub returns-in-Seq-FirstEnd-clause-answer : goal.returns-in-Seq-FirstEnd-clause-answer
-returns-in-Seq-FirstEnd-clause-answer g c =
-    as_access c.args.expr.now (seq (operand_forms c.deref-in-Seq-FirstEnd.result.now)) (form-Seq c.args.expr.now c.in-Seq-FirstEnd.operands c.deref-in-Seq-FirstEnd.result.now c.in-Seq-FirstEnd.is-0 c.deref-in-Seq-FirstEnd.ensures.value)
-    c.args.wanted FirstEnd c.in-Seq-FirstEnd.is-1 (g.C.CountedLeaves.text c.args.source.now) c.args.k c.element_up_to.result c.element_up_to.ensures.answer
+pub returns-in-FirstStart-clause-within : goal.returns-in-FirstStart-clause-within
+returns-in-FirstStart-clause-within g c =
+    at_hand_within c.args.wanted (g.C.CountedLeaves.text c.args.source.now) (form_of c.args.expr.now) c.args.k c.element_from.result c.span-span.ensures.sound (returns-in-FirstStart-clause-answer g c)
+
+pub returns-in-FirstEnd-clause-answer : goal.returns-in-FirstEnd-clause-answer
+returns-in-FirstEnd-clause-answer g c =
+    up_to_at_hand c.args.expr.now (g.C.CountedLeaves.text c.args.source.now) c.span-span.ensures.sound c.in_ok-first.first.now c.in_ok-first.second.now c.as_slice-in-FirstEnd.result.now c.as_slice-in-FirstEnd-2.result.now c.args.k
+    c.in_ok-first.ensures c.as_slice-in-FirstEnd.ensures c.as_slice-in-FirstEnd-2.ensures c.args.wanted c.in-FirstEnd.is c.element_up_to.result c.element_up_to.ensures.answer
+
+pub returns-in-FirstEnd-clause-within : goal.returns-in-FirstEnd-clause-within
+returns-in-FirstEnd-clause-within g c =
+    at_hand_within c.args.wanted (g.C.CountedLeaves.text c.args.source.now) (form_of c.args.expr.now) c.args.k c.element_up_to.result c.span-span.ensures.sound (returns-in-FirstEnd-clause-answer g c)
