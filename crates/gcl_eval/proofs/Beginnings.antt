@@ -1,4 +1,4 @@
--- Where the loop of "containing" may begin: at an element behind the second operand's first answer.
+-- Where the loop of "containing" may begin: at an element after the second operand's first answer.
 use Rattle.std.proofs.Common.{◌≡◌, ℕ, ◌+◌, ◌≤◌, ◌<◌, Bool, true, ◌&&◌, leb, eqb, List, [], ◌∷◌, Option, Some, None, IfSome, MatchOption, inl, inr, refl, sym, ap, ◌∙◌, subst, arith, filter}
 use Rattle.std.specs.List.{list_any}
 use Rattle.std.proofs.lemmas.Bool.{true≢false, or_cases, and_parts, leb-true, le-leb, eqb-true}

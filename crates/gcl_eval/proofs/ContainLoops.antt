@@ -48,7 +48,7 @@ backward_right ContainedIn = contained_in_back_is_right
 backward_right NotContaining = not_containing_back_is_right
 backward_right NotContainedIn = not_contained_in_back_is_right
 
--- a turn of the plain kinds goes to the place of its b, and one of the others behind it
+-- a turn of the plain kinds goes to the place of its b, and one of the others after it
 abbrev pub slack : Containment → ℕ
 slack Containing = 1
 slack ContainedIn = 1
@@ -268,7 +268,7 @@ module _ (containment : Containment) (members others node : List Extent) (r : Is
         turns_backward_rise place (slack containment) members others (place a) (place b) a here.member (le_refl (place a)) (omega arith)
         record { by = used.by; member = used.member; near = used.near; far = omega arith }
 
--- the place where the loop goes on is an address, or the one behind the last
+-- the place where the loop goes on is an address, or the one after the last
 pub record IsWithin (b : Extent) : Type 0 where
   pub proper : b.start ≤ b.end
   pub below : b.end < address_end
