@@ -21,8 +21,3 @@ mod laws;
 pub use engine::{Added, Engine, Opened};
 pub use faults::{AddFault, AdoptFault, DeleteFault, OpenFault};
 pub use laws::calls_reach;
-
-#[cfg(test)]
-mod script_tests;
-#[cfg(test)]
-mod tests;

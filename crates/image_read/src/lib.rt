@@ -23,6 +23,3 @@ mod terms;
 
 pub use fault::ImageFault;
 pub use read::read_image;
-
-#[cfg(test)]
-mod tests;

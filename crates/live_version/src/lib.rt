@@ -36,10 +36,3 @@ pub use look_up::LookUp;
 pub use slot::Slot;
 pub use terms::earlier_term;
 pub use version::Version;
-
-#[cfg(test)]
-mod change_tests;
-#[cfg(test)]
-mod count_tests;
-#[cfg(test)]
-mod tests;

@@ -35,6 +35,3 @@ pub use laws::{
 pub use pass::{Pass, Receipt};
 pub use publisher::Publisher;
 pub use reader::{EnterFault, Reader};
-
-#[cfg(test)]
-mod tests;

@@ -20,10 +20,3 @@ mod tokens;
 pub use slow::slow_list;
 pub use text::PlainText;
 pub use tokens::of_tokens;
-
-#[cfg(test)]
-mod examples;
-#[cfg(test)]
-mod leaves_tests;
-#[cfg(test)]
-mod slow_tests;

@@ -16,6 +16,3 @@ mod counted;
 mod fingered;
 
 pub use answers::{pass_count, pass_list, pass_list_from};
-
-#[cfg(test)]
-mod tests;

@@ -22,6 +22,3 @@ mod source;
 pub use building::{build, build_from, build_text};
 pub use names::Names;
 pub use source::Tokens;
-
-#[cfg(test)]
-mod tests;

@@ -1,7 +1,7 @@
 -- What stands between the dead ranges of rising postings.
-use Rattle.std.proofs.Common.{◌≡◌, ℕ, zero, suc, ◌+◌, ◌-◌, ◌*◌, ◌^◌, ◌<◌, ◌≤◌, true, false, not, cond, List, [], ◌∷◌, ◌++◌, length, length-append, length-drop, take, drop, get_or, append_assoc, ltb, refl, sym, ap, inl, inr, ◌∙◌, subst, arith}
+use Rattle.std.proofs.Common.{◌≡◌, ℕ, zero, suc, ◌+◌, ◌-◌, ◌*◌, ◌^◌, ◌<◌, ◌≤◌, true, false, not, cond, List, [], ◌∷◌, ◌++◌, length, length-append, length-drop, take, drop, get_or, append_assoc, ltb, refl, sym, ap, ◌∙◌, subst, arith}
 use Rattle.std.specs.List.{prefix_len}
-use Rattle.std.proofs.lemmas.Bool.{cases_Bool, or_from}
+use Rattle.std.proofs.lemmas.Bool.{or_from}
 use Rattle.std.proofs.lemmas.List.{drop_more, take-append-drop, take_all}
 use Rattle.std.proofs.lemmas.List.Elements.{filter-append}
 use Rattle.std.proofs.Math.ListN.{drop_of_length-le}
@@ -9,7 +9,7 @@ use Rattle.gcl_model.specs.Limits.{address_end}
 use Rattle.gcl_model.specs.Slots.{SlotRange, slot_range, AreRangesWithin}
 use Rattle.posting_code.specs.Postings.{RiseWithin, ArePostings, block_of}
 use Rattle.posting_code.specs.Packed.{last_of}
-use Rattle.posting_code.proofs.Rising.{rise_wider, rise_front}
+use Rattle.posting_code.proofs.Rising.{rise_front}
 use Rattle.posting_code.proofs.Cuts.{rise_to_last}
 use Rattle.delete_mask.specs.Masks.{is_within, is_dead, IsApart}
 use Rattle.delete_mask.proofs.Halving.{AreRangesWithin-before}
@@ -201,17 +201,3 @@ block_more_rises mask list out put b was rising =
     let whole : out ++ alive mask list ≡ (out ++ alive mask (take n list)) ++ alive mask (drop n list) =
     ap (λ l. out ++ alive mask l) (sym (take-append-drop n list)) ∙ ap (λ l. out ++ l) (filter-append (is_alive mask) (take n list) (drop n list)) ∙ sym (append_assoc out (alive mask (take n list)) (alive mask (drop n list))) in
     subst ArePostings (sym more) (front_rises (out ++ alive mask (take n list)) (alive mask (drop n list)) (subst ArePostings whole rising))
-
--- what is alive of rising postings rises
-alive_within : (mask : List SlotRange) (low end : ℕ) (xs : List ℕ) → RiseWithin low end xs → RiseWithin low end (alive mask xs)
-alive_within mask low end [] r = tt
-alive_within mask low end (x ∷ xs) r =
-    let at = r.0 in
-    let rest = alive_within mask (x + 1) end xs r.2 in
-    elim (cases_Bool (is_dead mask x)) [
-      | inl h ↦ rw h (rise_wider (x + 1) low end end (alive mask xs) rest (omega (arith, at)) (omega arith))
-      | inr h ↦ rw h (r.0, r.1, rest)
-    ]
-
-pub alive_rises : (mask : List SlotRange) (xs : List ℕ) → ArePostings xs → ArePostings (alive mask xs)
-alive_rises mask xs r = alive_within mask 0 (2 ^ 56) xs r

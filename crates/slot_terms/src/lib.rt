@@ -16,6 +16,3 @@ mod part;
 mod terms;
 
 pub use terms::SlotTerms;
-
-#[cfg(test)]
-mod tests;

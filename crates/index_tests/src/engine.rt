@@ -1,0 +1,350 @@
+ghost use Rattle.std.specs.Prelude.{◌≡◌, IfOk};
+ghost use Rattle.collection.specs.Changes.{IsOpened};
+
+use crate::fixtures::opened;
+use address_space::{FileId, is_name};
+use collection::{AddFault, AdoptFault, DeleteFault, Engine, OpenFault};
+use gcl_model::ADDRESS_END;
+use live_version::Version;
+use manifest_publish::Reader;
+use outside::{FreeGate, Gate};
+use std::alloc::{AllocError, Global};
+use std::cell::Cell;
+use std::process::Abort;
+use std::sync::Wait;
+use std::test::*;
+
+/// No test goes on from a greater number.
+const MOST: u64 = 1 << 61;
+
+/// Adds a file: it gives the id, and the first and last address.
+fn added<R: Wait>(rt: &R, engine: &mut Engine, bytes: &[u8]) -> Result<(FileId, u64, u64), AddFault>
+    ensures { engine.new.publisher ≡ engine.old.publisher }
+{
+    if !is_name(b"b") {
+        return Err(AddFault::NoMemory);
+    }
+    let added = engine.add(rt, b"b", bytes)?;
+    Ok((added.id, added.first, added.last))
+}
+
+/// An add of these bytes answers so.
+fn adds<R: Wait + Abort>(
+    rt: &R,
+    engine: &mut Engine,
+    bytes: &[u8],
+    want: Result<(FileId, u64, u64), AddFault>,
+) {
+    assert_eq!(rt; added(rt, engine, bytes), want);
+}
+
+/// Merges, where numbers are left for it. It says whether it did.
+fn merged<R: Wait, G: Gate>(rt: &R, engine: &mut Engine, gate: &G) -> bool {
+    engine.version().number() < MOST && engine.merge_all(rt, gate).is_ok()
+}
+
+/// The number, the edition, the first and the next address, the next id and the deletions.
+fn numbers(engine: &Engine) -> [u64; 6] {
+    let version = engine.version();
+    [
+        version.number(),
+        version.edition(),
+        version.first(),
+        version.next(),
+        version.next_id(),
+        version.dels(),
+    ]
+}
+
+/// The numbers are these.
+fn has_numbers<R: Abort>(rt: &R, engine: &Engine, want: [u64; 6]) {
+    assert_eq!(rt; numbers(engine), want);
+}
+
+/// How many addresses each slot has.
+fn widths(alloc: Global, version: &Version) -> Result<Vec<u64>, AllocError> {
+    let mut widths = Vec::new(alloc);
+    for slot in version.slots() {
+        let range = slot.range();
+        widths.push(range.last - range.first + 1)?;
+    }
+    Ok(widths)
+}
+
+/// The slots have so many addresses each.
+fn has_widths<R: Abort>(rt: &R, alloc: Global, engine: &Engine, want: &[u64]) {
+    match widths(alloc, engine.version()) {
+        Ok(widths) => assert_eq!(rt; widths.as_slice(), want),
+        Err(_) => assert!(rt; false, "memory is spent"),
+    }
+}
+
+#[test]
+fn an_engine_opens_up_to_the_end_of_addresses(rt: HostRuntime) -> Result<(), Fail> {
+    match opened(&rt, rt.alloc(), ADDRESS_END + 1, 1) {
+        Err(fault) => assert_eq!(rt; fault, OpenFault::BadFirst(72_057_594_037_927_937)),
+        Ok((engine, _readers)) => {
+            engine.end(&rt);
+            assert!(rt; false, "an engine above the end of addresses");
+        }
+    }
+    Ok(())
+}
+
+/// A refusal for want of two addresses.
+fn spent(next: u64) -> Result<(FileId, u64, u64), AddFault> {
+    Err(AddFault::AddressesSpent { next, need: 2 })
+}
+
+#[test]
+fn no_address_is_left_at_the_end(rt: HostRuntime) -> Result<(), Fail> {
+    let (mut engine, _readers) = opened(&rt, rt.alloc(), ADDRESS_END, 1)?;
+    adds(&rt, &mut engine, b"", spent(72_057_594_037_927_936));
+    has_numbers(&rt, &engine, [0, 0, ADDRESS_END, ADDRESS_END, 0, 0]);
+    engine.end(&rt);
+    Ok(())
+}
+
+#[test]
+fn the_last_addresses_are_given(rt: HostRuntime) -> Result<(), Fail> {
+    let (mut engine, _readers) = opened(&rt, rt.alloc(), ADDRESS_END - 8, 1)?;
+    let whole = (FileId(0), ADDRESS_END - 8, ADDRESS_END - 1);
+    adds(&rt, &mut engine, b"to be or not to be", Ok(whole));
+    adds(&rt, &mut engine, b"", spent(ADDRESS_END));
+    engine.end(&rt);
+    Ok(())
+}
+
+/// After so many adds of a file without words each slot has so many addresses, and each add was published once.
+fn grows<R: Wait + Abort>(
+    rt: &R,
+    alloc: Global,
+    adds: u64,
+    next: u64,
+    want: &[u64],
+) -> Result<(), OpenFault> {
+    let (mut engine, _readers) = opened(rt, alloc, 0, 1)?;
+    for _ in 0..adds {
+        let _ = added(rt, &mut engine, b"");
+    }
+    has_widths(rt, alloc, &engine, want);
+    has_numbers(rt, &engine, [adds, adds, 0, next, adds, 0]);
+    engine.end(rt);
+    Ok(())
+}
+
+#[test]
+fn the_last_slots_are_made_one_and_each_add_publishes_once(rt: HostRuntime) -> Result<(), Fail> {
+    let cases: [(u64, u64, &[u64]); 7] = [
+        (0, 0, &[]),
+        (1, 2, &[2]),
+        (2, 4, &[4]),
+        (5, 10, &[10]),
+        (6, 12, &[10, 2]),
+        (7, 14, &[14]),
+        (33, 66, &[62, 4]),
+    ];
+    for (adds, next, want) in cases {
+        grows(&rt, rt.alloc(), adds, next, want)?;
+    }
+    Ok(())
+}
+
+/// What a gate was told: before a publication, and after one.
+#[derive(Drop)]
+struct Told {
+    before: Cell<Option<u64>>,
+    after: Cell<Option<u64>>,
+    in_order: Cell<bool>,
+}
+
+impl Gate for Told {
+    fn before_query(&self, _n: u64) {}
+
+    fn after_query(&self, _n: u64, _version: u64) {}
+
+    fn before_publish(&self, n: u64) {
+        self.in_order.set(self.after.get().is_none());
+        self.before.set(Some(n));
+    }
+
+    fn after_publish(&self, n: u64) {
+        self.in_order
+            .set(self.in_order.get() && self.before.get() == Some(n));
+        self.after.set(Some(n));
+    }
+}
+
+/// What a gate was told of the merge that is made now: None where it was told out of order.
+fn told_of_merge<R: Wait>(rt: &R, engine: &mut Engine) -> Option<u64> {
+    let gate = Told {
+        before: Cell::new(None),
+        after: Cell::new(None),
+        in_order: Cell::new(false),
+    };
+    merged(rt, engine, &gate);
+    if gate.in_order.get() {
+        gate.after.get()
+    } else {
+        None
+    }
+}
+
+/// Adds these files, and deletes so many of the first ones.
+fn filled<R: Wait>(rt: &R, engine: &mut Engine, files: &[&[u8]], deletions: u64) {
+    for bytes in files {
+        let _ = added(rt, engine, bytes);
+    }
+    for id in 0..deletions {
+        let _ = engine.delete(rt, FileId(id));
+    }
+}
+
+/// After these files, so many deletions and a merge the slots and the numbers are these, and the gate was told.
+fn merges<R: Wait + Abort>(
+    rt: &R,
+    alloc: Global,
+    changes: (&[&[u8]], u64),
+    want: (&[u64], [u64; 6]),
+) -> Result<(), OpenFault> {
+    let (mut engine, _readers) = opened(rt, alloc, 5, 1)?;
+    filled(rt, &mut engine, changes.0, changes.1);
+    assert_eq!(rt; told_of_merge(rt, &mut engine), Some(want.1[0]));
+    has_widths(rt, alloc, &engine, want.0);
+    has_numbers(rt, &engine, want.1);
+    engine.end(rt);
+    Ok(())
+}
+
+#[test]
+fn a_merge_leaves_one_slot_or_none_and_tells_the_gate(rt: HostRuntime) -> Result<(), Fail> {
+    let long: &[u8] = b"to be or not to be";
+    let cases: [(&[&[u8]], u64, &[u64], [u64; 6]); 6] = [
+        (&[], 0, &[], [1, 0, 5, 5, 0, 0]),
+        (&[long], 0, &[8], [2, 1, 5, 13, 1, 0]),
+        (&[long], 1, &[], [3, 2, 5, 13, 1, 1]),
+        (&[long, b"", b""], 0, &[12], [4, 3, 5, 17, 3, 0]),
+        (&[long, b"", b""], 1, &[12], [5, 4, 5, 17, 3, 1]),
+        (&[long, b"", b""], 3, &[], [7, 6, 5, 17, 3, 3]),
+    ];
+    for (files, deletions, widths, numbers) in cases {
+        merges(&rt, rt.alloc(), (files, deletions), (widths, numbers))?;
+    }
+    Ok(())
+}
+
+/// The numbers of the next pass.
+fn entered(reader: &mut Reader) -> Option<[u64; 3]> {
+    let pass = reader.enter().ok()?;
+    let version = pass.version();
+    Some([version.number(), version.edition(), version.next()])
+}
+
+/// The next pass is the first version, with one file.
+fn enters<R: Abort>(rt: &R, reader: &mut Reader) {
+    assert_eq!(rt; entered(reader), Some([1, 1, 8]));
+}
+
+/// A file is added. The first reader learns the receipt and enters, then the second one enters, which learnt nothing.
+fn both_enter<R: Wait + Abort>(rt: &R, engine: &mut Engine, first: &mut Reader, second: &mut Reader)
+    requires { first.old.publisher ≡ engine.old.publisher }
+{
+    let _ = added(rt, engine, b"to be or not to be");
+    first.learn(engine.receipt());
+    enters(rt, first);
+    enters(rt, second);
+}
+
+/// The receipt and the pass are of the first version, with one file.
+fn shows_one_file<R: Abort>(rt: &R, engine: &Engine) -> Result<(), AllocError> {
+    let receipt = engine.receipt();
+    assert_eq!(rt; (receipt.number, receipt.edition), (1, 1));
+    assert_eq!(rt; engine.pass()?.version().next(), 8);
+    Ok(())
+}
+
+#[test]
+fn readers_see_what_was_published_whether_they_learn_it_or_not(
+    rt: HostRuntime,
+) -> Result<(), Fail> {
+    let (mut engine, mut readers) = opened(&rt, rt.alloc(), 0, 2)?;
+    assert_eq!(rt; readers.len(), 2);
+    if let (Some(mut first), Some(mut second)) = (readers.pop(), readers.pop()) {
+        both_enter(&rt, &mut engine, &mut first, &mut second);
+    }
+    let shown = shows_one_file(&rt, &engine);
+    engine.end(&rt);
+    shown?;
+    Ok(())
+}
+
+/// A deletion answers so, and leaves these numbers.
+fn deletes<R: Wait + Abort>(
+    rt: &R,
+    engine: &mut Engine,
+    id: u64,
+    want: Result<u64, DeleteFault>,
+    after: [u64; 6],
+) {
+    let answer = engine.delete(rt, FileId(id)).map(|receipt| receipt.number);
+    assert_eq!(rt; answer, want, "{id}");
+    has_numbers(rt, engine, after);
+}
+
+#[test]
+fn a_refusal_leaves_all_as_it_was(rt: HostRuntime) -> Result<(), Fail> {
+    let (mut engine, _readers) = opened(&rt, rt.alloc(), 3, 1)?;
+    let _ = added(&rt, &mut engine, b"to be");
+    has_numbers(&rt, &engine, [1, 1, 3, 7, 1, 0]);
+    let cases = [
+        (1, Err(DeleteFault::NotLive(FileId(1))), [1, 1, 3, 7, 1, 0]),
+        (0, Ok(2), [2, 2, 3, 7, 1, 1]),
+        (0, Err(DeleteFault::NotLive(FileId(0))), [2, 2, 3, 7, 1, 1]),
+    ];
+    for (id, want, after) in cases {
+        deletes(&rt, &mut engine, id, want, after);
+    }
+    engine.end(&rt);
+    Ok(())
+}
+
+/// A version of no file, from which two were deleted before it was saved.
+fn image(alloc: Global) -> Result<Version, AllocError>
+    ensures { IfOk result IsOpened }
+{
+    let version = Version::of_slot(alloc, 7, 12, 2, None)?;
+    Ok(version)
+}
+
+/// Puts the image in the place of what is there, where numbers are left for it.
+fn adopted<R: Wait>(rt: &R, alloc: Global, engine: &mut Engine) -> Result<u64, AdoptFault> {
+    let version = image(alloc)?;
+    if MOST <= engine.version().number() {
+        return Err(AdoptFault::NoMemory);
+    }
+    let receipt = engine.adopt(rt, version)?;
+    Ok(receipt.number)
+}
+
+/// Opening the image answers so.
+fn adopts<R: Wait + Abort>(
+    rt: &R,
+    alloc: Global,
+    engine: &mut Engine,
+    want: Result<u64, AdoptFault>,
+) {
+    assert_eq!(rt; adopted(rt, alloc, engine), want);
+}
+
+#[test]
+fn an_image_is_opened_where_there_never_was_a_file(rt: HostRuntime) -> Result<(), Fail> {
+    let (mut engine, _readers) = opened(&rt, rt.alloc(), 0, 1)?;
+    assert!(rt; merged(&rt, &mut engine, &FreeGate));
+    adopts(&rt, rt.alloc(), &mut engine, Ok(2));
+    has_numbers(&rt, &engine, [2, 1, 7, 12, 2, 0]);
+    adopts(&rt, rt.alloc(), &mut engine, Err(AdoptFault::NotEmpty(2)));
+    adds(&rt, &mut engine, b"", Ok((FileId(2), 12, 13)));
+    has_numbers(&rt, &engine, [3, 2, 7, 14, 3, 0]);
+    engine.end(&rt);
+    Ok(())
+}

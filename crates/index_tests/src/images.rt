@@ -1,0 +1,334 @@
+ghost use Rattle.std.specs.Prelude.{IfOk, IfSome};
+ghost use Rattle.image_file.specs.Images.{CanBeSaved};
+
+use gcl_model::Bytes;
+use image_file::image;
+use image_read::{ImageFault, read_image};
+use live_version::Version;
+use std::alloc::{AllocError, Global};
+use std::fmt::Debug;
+use std::process::Abort;
+use std::test::Fail;
+
+/// An image in three parts: the mark and the numbers, the files, and the terms.
+type Parts = [&'static [u8]; 3];
+
+// A file `a` with `to be or not to be` at 0 to 7.
+const HEAD_A: &[u8] = b"GCLIMG02\
+    \0\0\0\0\0\0\0\0\x08\0\0\0\0\0\0\0\
+    \x01\0\0\0\0\0\0\0\x01\0\0\0\0\0\0\0";
+
+const FILE_A: &[u8] = b"\0\0\x06\x01a";
+
+const TERMS_A: &[u8] = b"\x06\0\0\0\0\0\0\0\
+    \x08</file!>\0\x07\x07<file!>\0\0\x02be\x01\x02\x04\x03not\0\x04\x02or\0\x03\x02to\x01\x01\x04";
+
+// The empty file `b` at 8 and 9, behind a file that is gone.
+const HEAD_B: &[u8] = b"GCLIMG02\
+    \0\0\0\0\0\0\0\0\x0a\0\0\0\0\0\0\0\
+    \x02\0\0\0\0\0\0\0\x01\0\0\0\0\0\0\0";
+
+const FILE_B: &[u8] = b"\x01\x08\0\x01b";
+
+const TERMS_B: &[u8] = b"\x02\0\0\0\0\0\0\0\
+    \x08</file!>\0\x09\x07<file!>\0\x08";
+
+// The same in version 1.
+const OLD_HEAD_B: &[u8] = b"GCLIMG01\
+    \0\0\0\0\0\0\0\0\x0a\0\0\0\0\0\0\0\
+    \x02\0\0\0\0\0\0\0\x01\0\0\0\0\0\0\0";
+
+const OLD_FILE_B: &[u8] = b"\x01\0\0\0\0\0\0\0\x08\0\0\0\0\0\0\0\x02\0\0\0\0\0\0\0\
+    \x01\0\0\0b";
+
+const OLD_TERMS_B: &[u8] = b"\x02\0\0\0\0\0\0\0\
+    \x08\0\0\0</file!>\x01\0\0\0\0\0\0\0\x09\x07\0\0\0<file!>\x01\0\0\0\0\0\0\0\x08";
+
+// Two empty files, at 0 and 2, in version 1.
+const HEAD_TWO: &[u8] = b"GCLIMG01\
+    \0\0\0\0\0\0\0\0\x04\0\0\0\0\0\0\0\
+    \x02\0\0\0\0\0\0\0\x02\0\0\0\0\0\0\0";
+
+const FILES_TWO: &[u8] = b"\0\0\0\0\0\0\0\0\0\0\0\0\0\0\0\0\x02\0\0\0\0\0\0\0\x01\0\0\0x\
+    \x01\0\0\0\0\0\0\0\x02\0\0\0\0\0\0\0\x02\0\0\0\0\0\0\0\x01\0\0\0y";
+
+const TERMS_TWO: &[u8] = b"\x02\0\0\0\0\0\0\0\
+    \x08\0\0\0</file!>\x02\0\0\0\0\0\0\0\x01\x02\x07\0\0\0<file!>\x02\0\0\0\0\0\0\0\0\x02";
+
+const SAME_ADDRESS: &[u8] = b"\0\0\0\0\0\0\0\0\0\0\0\0\0\0\0\0\x02\0\0\0\0\0\0\0\x01\0\0\0x\
+    \x01\0\0\0\0\0\0\0\x01\0\0\0\0\0\0\0\x02\0\0\0\0\0\0\0\x01\0\0\0y";
+
+const SAME_ID: &[u8] = b"\0\0\0\0\0\0\0\0\0\0\0\0\0\0\0\0\x02\0\0\0\0\0\0\0\x01\0\0\0x\
+    \0\0\0\0\0\0\0\0\x02\0\0\0\0\0\0\0\x02\0\0\0\0\0\0\0\x01\0\0\0y";
+
+// An image without files has no terms.
+const NO_TERMS: &[u8] = b"\0\0\0\0\0\0\0\0";
+
+const EMPTY: &[u8] = b"GCLIMG02\
+    \x0a\0\0\0\0\0\0\0\x0a\0\0\0\0\0\0\0\
+    \0\0\0\0\0\0\0\0\0\0\0\0\0\0\0\0";
+
+const AT_END: &[u8] = b"GCLIMG02\
+    \0\0\0\0\0\0\0\x01\0\0\0\0\0\0\0\x01\
+    \0\0\0\0\0\0\0\0\0\0\0\0\0\0\0\0";
+
+const BEYOND: &[u8] = b"GCLIMG02\
+    \x01\0\0\0\0\0\0\x01\x01\0\0\0\0\0\0\x01\
+    \0\0\0\0\0\0\0\0\0\0\0\0\0\0\0\0";
+
+const OLD_AT_END: &[u8] = b"GCLIMG01\
+    \0\0\0\0\0\0\x01\0\0\0\0\0\0\0\x01\0\
+    \0\0\0\0\0\0\0\0\0\0\0\0\0\0\0\0";
+
+const NEW_AT_OLD_END: &[u8] = b"GCLIMG02\
+    \0\0\0\0\0\0\x01\0\0\0\0\0\0\0\x01\0\
+    \0\0\0\0\0\0\0\0\0\0\0\0\0\0\0\0";
+
+const OLD_BEYOND: &[u8] = b"GCLIMG01\
+    \x01\0\0\0\0\0\x01\0\x01\0\0\0\0\0\x01\0\
+    \0\0\0\0\0\0\0\0\0\0\0\0\0\0\0\0";
+
+const TURNED: &[u8] = b"GCLIMG02\
+    \x0a\0\0\0\0\0\0\0\x04\0\0\0\0\0\0\0\
+    \0\0\0\0\0\0\0\0\0\0\0\0\0\0\0\0";
+
+const UNMARKED: &[u8] = b"GCLIMG03\
+    \x0a\0\0\0\0\0\0\0\x0a\0\0\0\0\0\0\0\
+    \0\0\0\0\0\0\0\0\0\0\0\0\0\0\0\0";
+
+// As many as eight bytes say, and as many addresses as there are.
+const MANY_FILES: &[u8] = b"GCLIMG02\
+    \0\0\0\0\0\0\0\0\x0a\0\0\0\0\0\0\0\
+    \x02\0\0\0\0\0\0\0\xff\xff\xff\xff\xff\xff\xff\xff";
+
+const MANY_TERMS: &[u8] = b"\xff\xff\xff\xff\xff\xff\xff\xff\
+    \x08</file!>\0\x09\x07<file!>\0\x08";
+
+const HEAD_WIDE: &[u8] = b"GCLIMG02\
+    \0\0\0\0\0\0\0\0\0\0\0\0\0\0\0\x01\
+    \x02\0\0\0\0\0\0\0\x01\0\0\0\0\0\0\0";
+
+const FILE_WIDE: &[u8] = b"\x01\x08\xf6\xff\xff\xff\xff\xff\xff\x7f\x01b";
+
+// `b` with one token, which is none.
+const HEAD_WITH_BE: &[u8] = b"GCLIMG02\
+    \0\0\0\0\0\0\0\0\x0b\0\0\0\0\0\0\0\
+    \x02\0\0\0\0\0\0\0\x01\0\0\0\0\0\0\0";
+
+const FILE_WITH_BE: &[u8] = b"\x01\x08\x01\x01b";
+
+const TERMS_WITH_BE: &[u8] = b"\x03\0\0\0\0\0\0\0\
+    \x08</file!>\0\x0a\x07<file!>\0\x08\x02Be\0\x09";
+
+// Of two ids and an unused hole, and of none where there is a hole.
+const ONE_ID: &[u8] = b"GCLIMG02\
+    \0\0\0\0\0\0\0\0\x0a\0\0\0\0\0\0\0\
+    \x01\0\0\0\0\0\0\0\x01\0\0\0\0\0\0\0";
+
+const TWO_IDS: &[u8] = b"GCLIMG02\
+    \0\0\0\0\0\0\0\0\x02\0\0\0\0\0\0\0\
+    \x02\0\0\0\0\0\0\0\x01\0\0\0\0\0\0\0";
+
+const AT_START: &[u8] = b"\x02\0\0\0\0\0\0\0\
+    \x08</file!>\0\x01\x07<file!>\0\0";
+
+// The terms of `b` with a fault each.
+const LONGER: &[u8] = b"\x02\0\0\0\0\0\0\0\
+    \x08</file!>\0\x09\x07<file!>\0\x08\0";
+
+const FALLING: &[u8] = b"\x02\0\0\0\0\0\0\0\
+    \x07<file!>\0\x08\x08</file!>\0\x09";
+
+const WITHOUT_START: &[u8] = b"\x01\0\0\0\0\0\0\0\
+    \x08</file!>\0\x09";
+
+const TWICE: &[u8] = b"\x02\0\0\0\0\0\0\0\
+    \x08</file!>\x01\x09\0\x07<file!>\0\x08";
+
+const OUTSIDE: &[u8] = b"\x02\0\0\0\0\0\0\0\
+    \x08</file!>\x01\x01\x08\x07<file!>\0\x08";
+
+const OTHER_ROLE: &[u8] = b"\x02\0\0\0\0\0\0\0\
+    \x08</file!>\0\x09\x02be\0\x08";
+
+fn joined(alloc: Global, parts: Parts) -> Result<Vec<u8>, AllocError> {
+    let mut out = Vec::new(alloc);
+    for part in parts {
+        out.extend_from_slice(part)?;
+    }
+    Ok(out)
+}
+
+/// The version that the bytes are an image of, and none where they are no image.
+fn read(alloc: Global, bytes: &[u8]) -> Result<Option<Version>, AllocError>
+    ensures { IfOk result (λ found. IfSome found CanBeSaved) }
+{
+    match read_image(alloc, bytes) {
+        Ok(version) => Ok(Some(version)),
+        Err(ImageFault::NotImage) => Ok(None),
+        Err(ImageFault::NoMemory) => Err(AllocError),
+    }
+}
+
+/// Whether the bytes are an image.
+fn is_image(alloc: Global, bytes: &[u8]) -> Result<bool, AllocError> {
+    Ok(read(alloc, bytes)?.is_some())
+}
+
+/// What the version is saved as that the bytes are an image of.
+fn written_back(alloc: Global, bytes: &[u8]) -> Result<Option<Bytes>, AllocError> {
+    match read(alloc, bytes)? {
+        Some(version) => Ok(Some(image(alloc, &version)?)),
+        None => Ok(None),
+    }
+}
+
+/// These bytes, and no others, were written.
+fn is_written<R: Abort, C: Debug>(rt: &R, case: &C, written: Option<Bytes>, want: &[u8]) {
+    match written {
+        Some(written) => assert_eq!(rt; written.as_slice(), want, "{case:?}"),
+        None => assert!(rt; false, "{case:?} is refused"),
+    }
+}
+
+/// The parts are an image of a version that is saved as these others, which are an image too.
+fn is_written_as<R: Abort>(
+    rt: &R,
+    alloc: Global,
+    case: &str,
+    parts: Parts,
+    want: Parts,
+) -> Result<(), AllocError> {
+    let want = joined(alloc, want)?;
+    is_written(
+        rt,
+        &case,
+        written_back(alloc, &joined(alloc, parts)?)?,
+        &want,
+    );
+    assert!(rt; is_image(alloc, &want)?, "{case}, written");
+    Ok(())
+}
+
+#[test]
+fn what_is_read_is_written_as_version_two(rt: HostRuntime) -> Result<(), Fail> {
+    let a = [HEAD_A, FILE_A, TERMS_A];
+    let b = [HEAD_B, FILE_B, TERMS_B];
+    let empty = [EMPTY, b"", NO_TERMS];
+    let at_end = [AT_END, b"", NO_TERMS];
+    let cases = [
+        ("one file", a, a),
+        ("a hole", b, b),
+        (
+            "a hole, in version 1",
+            [OLD_HEAD_B, OLD_FILE_B, OLD_TERMS_B],
+            b,
+        ),
+        ("no file", empty, empty),
+        ("no address left", at_end, at_end),
+        (
+            "no address left in version 1",
+            [OLD_AT_END, b"", NO_TERMS],
+            [NEW_AT_OLD_END, b"", NO_TERMS],
+        ),
+    ];
+    for (case, parts, want) in cases {
+        is_written_as(&rt, rt.alloc(), case, parts, want)?;
+    }
+    Ok(())
+}
+
+/// The parts are no image.
+fn is_refused<R: Abort>(rt: &R, alloc: Global, case: &str, parts: Parts) -> Result<(), AllocError> {
+    assert!(rt; !is_image(alloc, &joined(alloc, parts)?)?, "{case}");
+    Ok(())
+}
+
+#[test]
+fn what_is_laid_out_otherwise_is_no_image(rt: HostRuntime) -> Result<(), Fail> {
+    let cases = [
+        ("too many files", [MANY_FILES, FILE_B, TERMS_B]),
+        ("too many terms", [HEAD_B, FILE_B, MANY_TERMS]),
+        ("a file that is too wide", [HEAD_WIDE, FILE_WIDE, TERMS_B]),
+        ("a padded number", [HEAD_B, b"\x81\0\x08\0\x01b", TERMS_B]),
+        ("a byte behind the last term", [HEAD_B, FILE_B, LONGER]),
+        ("terms that fall", [HEAD_B, FILE_B, FALLING]),
+        ("an address without a term", [HEAD_B, FILE_B, WITHOUT_START]),
+        ("an address twice under a term", [HEAD_B, FILE_B, TWICE]),
+        ("an end that is none", [HEAD_B, FILE_B, OUTSIDE]),
+        ("a start that is a word", [HEAD_B, FILE_B, OTHER_ROLE]),
+        ("no token", [HEAD_WITH_BE, FILE_WITH_BE, TERMS_WITH_BE]),
+        ("no name", [HEAD_B, b"\x01\x08\0\x01\x0a", TERMS_B]),
+        ("a hole, but no id", [ONE_ID, b"\0\x08\0\x01b", TERMS_B]),
+        ("an id, but no hole", [TWO_IDS, b"\0\0\0\x01b", AT_START]),
+        ("two at one address", [HEAD_TWO, SAME_ADDRESS, TERMS_TWO]),
+        ("two with one id", [HEAD_TWO, SAME_ID, TERMS_TWO]),
+        ("a first address behind the next", [TURNED, b"", NO_TERMS]),
+        ("the end of version 1", [OLD_BEYOND, b"", NO_TERMS]),
+        ("the end of version 2", [BEYOND, b"", NO_TERMS]),
+        ("the mark of no version", [UNMARKED, b"", NO_TERMS]),
+    ];
+    for (case, parts) in cases {
+        is_refused(&rt, rt.alloc(), case, parts)?;
+    }
+    let two_files = joined(rt.alloc(), [HEAD_TWO, FILES_TWO, TERMS_TWO])?;
+    assert!(rt; is_image(rt.alloc(), &two_files)?);
+    Ok(())
+}
+
+/// No front part of the bytes is an image.
+fn has_no_image_in_front<R: Abort>(rt: &R, alloc: Global, bytes: &[u8]) -> Result<(), AllocError> {
+    for len in 0..bytes.len() {
+        let (front, _) = bytes.split_at(len);
+        assert!(rt; !is_image(alloc, front)?, "{len} of {}", bytes.len());
+    }
+    Ok(())
+}
+
+#[test]
+fn no_front_part_of_an_image_is_one(rt: HostRuntime) -> Result<(), Fail> {
+    let cases = [
+        [HEAD_A, FILE_A, TERMS_A],
+        [OLD_HEAD_B, OLD_FILE_B, OLD_TERMS_B],
+        [EMPTY, b"", NO_TERMS],
+    ];
+    for parts in cases {
+        has_no_image_in_front(&rt, rt.alloc(), &joined(rt.alloc(), parts)?)?;
+    }
+    Ok(())
+}
+
+/// Bytes whose byte at `i` was changed are written back as they are, where they are an image. It says whether they are one.
+fn is_kept<R: Abort>(rt: &R, alloc: Global, bytes: &[u8], i: usize) -> Result<bool, AllocError> {
+    let written = written_back(alloc, bytes)?;
+    let taken = written.is_some();
+    if taken {
+        is_written(rt, &i, written, bytes);
+    }
+    Ok(taken)
+}
+
+/// How many of these bytes can be made one greater so that an image is left, which is written back as it is.
+fn kept_changes<R: Abort>(rt: &R, alloc: Global, bytes: &mut [u8]) -> Result<u64, AllocError> {
+    let mut kept = 0u64;
+    for i in 0..bytes.len() {
+        let byte = bytes[i];
+        bytes[i] = byte.wrapping_add(1);
+        if is_kept(rt, alloc, bytes, i)? {
+            kept = kept.wrapping_add(1);
+        }
+        bytes[i] = byte;
+    }
+    Ok(kept)
+}
+
+#[test]
+fn a_changed_byte_is_refused_or_written_back(rt: HostRuntime) -> Result<(), Fail> {
+    let mut kept = 0u64;
+    for parts in [[HEAD_A, FILE_A, TERMS_A], [HEAD_B, FILE_B, TERMS_B]] {
+        let mut bytes = joined(rt.alloc(), parts)?;
+        kept = kept.wrapping_add(kept_changes(&rt, rt.alloc(), &mut bytes)?);
+    }
+    assert!(rt; 0 < kept, "no changed byte is taken");
+    Ok(())
+}

@@ -1,0 +1,309 @@
+ghost use Rattle.std.specs.Prelude.{◌≡◌, ◌≤◌, ◌++◌, ◌∷◌, [], IfOk, IfSome};
+ghost use Rattle.manifest_publish.specs.Histories.{IsLawful};
+
+use address_space::{FileId, FileRecord, is_name};
+use gcl_model::{ADDRESS_END, Bytes};
+use live_version::Version;
+use manifest_publish::{EnterFault, Publisher, Reader, Receipt};
+use shard_build::build;
+use std::alloc::{AllocError, Global};
+use std::marker::{Brand, PhantomData};
+use std::sync::{Arc, Mutex, Wait};
+use std::test::*;
+use std::thread::{Threads, join};
+use word_tokens::tokens;
+
+/// No test goes on from a greater number.
+const MOST: u64 = 1 << 62;
+
+pub(crate) fn shared(alloc: Global, version: Version) -> Result<Arc<Version>, AllocError>
+    ensures { IfOk result (λ shared. shared.value ≡ version) }
+{
+    match Arc::new(alloc, version) {
+        Ok(shared) => Ok(shared),
+        Err(_) => Err(AllocError),
+    }
+}
+
+/// The last version with one file more, of these bytes: None where numbers, addresses or slots are spent.
+pub(crate) fn added(
+    alloc: Global,
+    publisher: &Publisher,
+    bytes: &[u8],
+) -> Result<Option<Arc<Version>>, AllocError>
+    ensures { IfOk result (λ next. IfSome next (λ version. IsLawful (publisher.now.history ++ version.value ∷ []))) }
+{
+    let last: &Version = publisher.current();
+    let base = last.next();
+    let id = last.next_id();
+    let words = tokens(alloc, bytes)?;
+    let count = words.len() as u64;
+    if last.number() >= MOST
+        || id >= MOST
+        || last.slot_count() >= 32
+        || count >= ADDRESS_END - 2
+        || base > ADDRESS_END - 2 - count
+    {
+        return Ok(None);
+    }
+    if !is_name(b"a") {
+        return Ok(None);
+    }
+    let shard = build(alloc, base, &words)?;
+    let file = FileRecord {
+        id: FileId(id),
+        base,
+        len: count + 2,
+        name: Bytes::copy_of(alloc, b"a")?,
+    };
+    let version = last.with_file(file, shard)?;
+    Ok(Some(shared(alloc, version)?))
+}
+
+/// A version of the same collection: None where numbers are spent.
+fn merged(alloc: Global, publisher: &Publisher) -> Result<Option<Arc<Version>>, AllocError>
+    ensures { IfOk result (λ next. IfSome next (λ version. IsLawful (publisher.now.history ++ version.value ∷ []))) }
+{
+    let last: &Version = publisher.current();
+    if last.number() >= MOST {
+        return Ok(None);
+    }
+    let version = last.with_slot(0, 0, None)?;
+    Ok(Some(shared(alloc, version)?))
+}
+
+/// The number and the edition of the next version that a reader enters.
+fn entered(reader: &mut Reader) -> Result<(u64, u64), EnterFault>
+    ensures { reader.new.publisher ≡ reader.old.publisher }
+{
+    let pass = reader.enter()?;
+    Ok((pass.version().number(), pass.version().edition()))
+}
+
+/// One file is added. The first reader learns the receipt and enters, then the second one enters, which learnt nothing.
+fn both_enter<R: Wait>(
+    rt: &R,
+    alloc: Global,
+    publisher: &mut Publisher,
+    first: &mut Reader,
+    second: &mut Reader,
+) -> Option<[(u64, u64); 3]>
+    requires { first.old.publisher ≡ publisher.old.publisher }
+{
+    let version = added(alloc, publisher, b"").ok()??;
+    let receipt = publisher.publish(rt, version).ok()?;
+    let told = (receipt.number, receipt.edition);
+    first.learn(receipt);
+    Some([told, entered(first).ok()?, entered(second).ok()?])
+}
+
+#[test]
+fn a_reader_that_learnt_nothing_sees_what_is_published(rt: HostRuntime) -> Result<(), Fail> {
+    let opening = shared(rt.alloc(), Version::empty(rt.alloc(), 5))?;
+    let (mut publisher, mut readers) = Publisher::new(&rt, rt.alloc(), opening, 2)?;
+    let made = readers.len();
+    let numbers = match (readers.pop(), readers.pop()) {
+        (Some(mut first), Some(mut second)) => {
+            both_enter(&rt, rt.alloc(), &mut publisher, &mut first, &mut second)
+        }
+        _ => None,
+    };
+    let receipt = publisher.receipt();
+    let pass = publisher.pass();
+    publisher.end(&rt);
+    assert_eq!(rt; made, 2);
+    assert_eq!(rt; numbers, Some([(1, 1); 3]));
+    assert_eq!(rt; (receipt.number, receipt.edition), (1, 1));
+    assert_eq!(rt; pass?.version().next(), 7);
+    Ok(())
+}
+
+#[test]
+fn as_many_readers_are_made_as_are_asked_for(rt: HostRuntime) -> Result<(), Fail> {
+    for readers in [0, 1, 16] {
+        let opening = shared(rt.alloc(), Version::empty(rt.alloc(), 5))?;
+        let (publisher, made) = Publisher::new(&rt, rt.alloc(), opening, readers)?;
+        publisher.end(&rt);
+        assert_eq!(rt; made.len(), readers);
+    }
+    Ok(())
+}
+
+/// Publishes a version of the same collection, of which the reader is told.
+fn told<R: Wait>(
+    rt: &R,
+    alloc: Global,
+    publisher: &mut Publisher,
+    reader: &mut Reader,
+) -> Option<u64>
+    requires { reader.old.publisher ≡ publisher.old.publisher }
+    ensures { reader.new.publisher ≡ reader.old.publisher }
+{
+    let version = merged(alloc, publisher).ok()??;
+    let receipt = publisher.publish(rt, version).ok()?;
+    let number = receipt.number;
+    reader.learn(receipt);
+    Some(number)
+}
+
+#[test]
+fn once_the_publisher_has_ended_a_reader_gets_its_last_pass_or_is_owed_more(
+    rt: HostRuntime,
+) -> Result<(), Fail> {
+    let opening = shared(rt.alloc(), Version::empty(rt.alloc(), 5))?;
+    let (mut publisher, mut readers) = Publisher::new(&rt, rt.alloc(), opening, 2)?;
+    let ends = match (readers.pop(), readers.pop()) {
+        (Some(mut first), Some(second)) => {
+            let number = told(&rt, rt.alloc(), &mut publisher, &mut first);
+            Some((number, first, second))
+        }
+        _ => None,
+    };
+    publisher.end(&rt);
+    let (number, mut first, mut second) = ends.expect(&rt, "two readers");
+    assert_eq!(rt; number, Some(1));
+    assert_eq!(rt; entered(&mut first), Err(EnterFault::NoEntry(0)));
+    assert_eq!(rt; entered(&mut second), Ok((0, 0)));
+    Ok(())
+}
+
+/// Names one publisher.
+pub trait Named {
+    ghost use Rattle.logbook.specs.Pages.{Book};
+
+    ghost publisher: { Book };
+}
+
+impl Named for Brand {
+    ghost publisher = { record { number = 0; log_name = 0; cells_name = 0 } };
+}
+
+/// A receipt of the publisher of this name: what lies under a lock is known by its type alone.
+#[derive(Drop)]
+pub struct Posted<N: Named> {
+    receipt: Receipt,
+    of: PhantomData<N>,
+    ghost named: { receipt.publisher ≡ N.publisher },
+}
+
+/// Publishes so many versions, and posts the receipt of each. It gives how many it published.
+fn write_all<N: Named, R: Wait>(
+    rt: &R,
+    alloc: Global,
+    publisher: &mut Publisher,
+    post: &Mutex<Option<Posted<N>>>,
+    times: u64,
+) -> u64
+    requires { publisher.old.publisher ≡ N.publisher }
+{
+    for count in 0..times {
+        let Ok(Some(version)) = merged(alloc, publisher) else {
+            return count;
+        };
+        let Ok(receipt) = publisher.publish(rt, version) else {
+            return count;
+        };
+        let posted = Posted {
+            receipt,
+            of: PhantomData,
+        };
+        *post.lock(rt) = Some(posted);
+    }
+    times
+}
+
+/// Enters so many times, and learns the last receipt before, where there is one. It says whether each number was at least
+/// that of the receipt and that of the version before.
+fn read_all<N: Named, R: Wait>(
+    rt: &R,
+    reader: &mut Reader,
+    post: &Mutex<Option<Posted<N>>>,
+    times: u64,
+) -> bool
+    requires { reader.old.publisher ≡ N.publisher }
+{
+    let mut last = 0;
+    for _ in 0..times {
+        let mut least = last;
+        if let Some(posted) = post.lock(rt).take() {
+            let Posted { receipt, of: _of } = posted;
+            least = least.max(receipt.number);
+            reader.learn(receipt);
+        }
+        match entered(reader) {
+            Ok((number, _)) if least <= number => last = number,
+            _ => return false,
+        }
+    }
+    true
+}
+
+/// One thread publishes while the other reads.
+fn write_and_read<N: Named + Send + Sync, R: Threads + Wait + Sync>(
+    rt: &R,
+    alloc: Global,
+    publisher: &mut Publisher,
+    reader: &mut Reader,
+    writes: u64,
+    reads: u64,
+) -> (u64, bool)
+    requires publisher { publisher.old.publisher ≡ N.publisher }
+    requires reader { reader.old.publisher ≡ N.publisher }
+{
+    let post: Mutex<Option<Posted<N>>> = Mutex::new(None);
+    let lock = &post;
+    join(
+        rt,
+        move || -> u64
+            requires { publisher.now.publisher ≡ N.publisher }
+        { write_all(rt, alloc, publisher, lock, writes) },
+        move || -> bool
+            requires { reader.now.publisher ≡ N.publisher }
+        { read_all(rt, reader, lock, reads) },
+    )
+}
+
+fn beside<R: Threads + Wait + Sync>(
+    rt: &R,
+    alloc: Global,
+    publisher: &mut Publisher,
+    reader: &mut Reader,
+    writes: u64,
+    reads: u64,
+) -> (u64, bool)
+    requires { reader.old.publisher ≡ publisher.old.publisher }
+{
+    write_and_read::<Brand, R>(rt, alloc, publisher, reader, writes, reads)
+}
+
+/// So many publications beside so many enterings, and then one more entering. It gives how many were published, whether all
+/// numbers rose, and the last one.
+fn numbers_beside<R: Threads + Wait + Sync>(
+    rt: &R,
+    alloc: Global,
+    writes: u64,
+    reads: u64,
+) -> Result<Option<(u64, bool, u64)>, AllocError> {
+    let opening = shared(alloc, Version::empty(alloc, 5))?;
+    let (mut publisher, mut readers) = Publisher::new(rt, alloc, opening, 1)?;
+    let numbers = match readers.pop() {
+        Some(mut reader) => {
+            let (done, rises) = beside(rt, alloc, &mut publisher, &mut reader, writes, reads);
+            entered(&mut reader)
+                .ok()
+                .map(|(number, _)| (done, rises, number))
+        }
+        None => None,
+    };
+    publisher.end(rt);
+    Ok(numbers)
+}
+
+#[test]
+fn no_reader_goes_back_beside_a_publisher_that_runs(rt: HostRuntime) -> Result<(), Fail> {
+    for (writes, reads) in [(100, 100), (1_000, 10_000)] {
+        let numbers = numbers_beside(&rt, rt.alloc(), writes, reads)?;
+        assert_eq!(rt; numbers, Some((writes, true, writes)));
+    }
+    Ok(())
+}
