@@ -17,6 +17,3 @@ mod wrong;
 pub use options::{MOST_MADE, MOST_READERS, Made, Options};
 pub use reader::options_of;
 pub use wrong::wrong_word;
-
-#[cfg(test)]
-mod tests;

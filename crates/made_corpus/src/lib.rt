@@ -20,9 +20,7 @@ mod script;
 mod summary;
 mod taken;
 
+pub use draws::Draws;
 pub use files::MadeFiles;
 pub use script::{MadeScript, made_script};
 pub use summary::SummarySink;
-
-#[cfg(test)]
-mod tests;

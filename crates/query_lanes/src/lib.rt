@@ -48,10 +48,3 @@ pub use own::{put_off, text_end};
 pub use own_lanes::answer_put_off;
 pub use pages::{PAGE, page_behind};
 pub use work::Work;
-
-#[cfg(test)]
-mod own_tests;
-#[cfg(test)]
-mod page_tests;
-#[cfg(test)]
-mod tests;

@@ -34,6 +34,3 @@ pub use put::{
 };
 pub use refusals::Refusal;
 pub use taken::Taken;
-
-#[cfg(test)]
-mod tests;

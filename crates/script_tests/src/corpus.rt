@@ -1,6 +1,7 @@
-use crate::draws::Draws;
-use crate::{MadeFiles, SummarySink, made_script};
+use made_corpus::{Draws, MadeFiles, SummarySink, made_script};
 use outside::{Files, Loaded, Sink};
+use std::alloc::{AllocError, Global};
+use std::process::Abort;
 use std::test::Fail;
 
 #[test]
@@ -13,16 +14,25 @@ fn the_first_number_below_a_hundred_drawn_from_0_is_7(rt: HostRuntime) {
 const FIRST: &[u8] =
     b"w592 w164 w266 <s> w160 w110 w93 w133 w39 w11 w272 w306 w456 w64 w119 w224 w144 w205 w525 w448 w792 w30 w228 w748 w308 </s> w0";
 
-/// What a load through the bound gives.
-fn loaded<F: Files>(
-    rt: HostRuntime,
+/// A load through the bound gives all of the name's bytes or not, and these.
+fn loads<R: Abort, F: Files>(
+    rt: &R,
+    alloc: Global,
     files: &mut F,
-    name: &[u8],
-    most: u64,
-) -> Result<(bool, Vec<u8>), Fail> {
-    let mut out = Vec::from_slice(rt.alloc(), b"before")?;
-    let whole = files.load(name, most, &mut out)? == Loaded::Whole;
-    Ok((whole, out))
+    (name, most): (&[u8], u64),
+    (whole, content): (bool, &[u8]),
+) -> Result<(), Fail> {
+    let mut out = Vec::from_slice(alloc, b"before")?;
+    let is_whole = files.load(name, most, &mut out)? == Loaded::Whole;
+    assert_eq!(rt; is_whole, whole, "{name:?} {most}");
+    assert_eq!(rt; out.as_slice(), content, "{name:?} {most}");
+    Ok(())
+}
+
+/// So many files.
+fn made<R: Abort>(rt: &R, alloc: Global, start: u64, count: u64) -> MadeFiles {
+    assert!(rt; count <= 10_000);
+    MadeFiles::new(alloc, start, count)
 }
 
 #[test]
@@ -47,22 +57,16 @@ fn a_made_file_has_its_content_and_every_other_name_none(rt: HostRuntime) -> Res
         (0, 10, b"n0", 0, true, b""),
     ];
     for (start, count, name, most, whole, content) in cases {
-        assert!(rt; count <= 10_000);
-        let mut files = MadeFiles::new(rt.alloc(), start, count);
-        let got = loaded(rt, &mut files, name, most)?;
-        assert_eq!(rt; got.0, whole, "{start} {count} {name:?} {most}");
-        assert_eq!(rt;
-            got.1.as_slice(),
-            content,
-            "{start} {count} {name:?} {most}"
-        );
+        let mut files = made(&rt, rt.alloc(), start, count);
+        loads(&rt, rt.alloc(), &mut files, (name, most), (whole, content))?;
     }
     Ok(())
 }
 
 #[test]
 fn a_kept_name_has_its_bytes_and_every_other_name_what_it_had(rt: HostRuntime) -> Result<(), Fail> {
-    let mut files = MadeFiles::new(rt.alloc(), 0, 1);
+    let alloc = rt.alloc();
+    let mut files = MadeFiles::new(alloc, 0, 1);
     // what is kept, and what `m0` and `image` hold then
     let steps: [(&[u8], &[u8], &[u8], &[u8]); 4] = [
         (b"image", b"to be", FIRST, b"to be"),
@@ -72,14 +76,24 @@ fn a_kept_name_has_its_bytes_and_every_other_name_what_it_had(rt: HostRuntime) -
     ];
     for (name, bytes, made, image) in steps {
         files.keep(name, bytes)?;
-        let got = loaded(rt, &mut files, b"m0", 1000)?;
-        assert_eq!(rt; got.1.as_slice(), made, "m0 after {name:?}");
-        let got = loaded(rt, &mut files, b"image", 1000)?;
-        assert_eq!(rt; got.1.as_slice(), image, "image after {name:?}");
+        loads(&rt, alloc, &mut files, (b"m0", 1000), (true, made))?;
+        loads(&rt, alloc, &mut files, (b"image", 1000), (true, image))?;
     }
-    let (whole, out) = loaded(rt, &mut files, b"image", 3)?;
-    assert!(rt; !whole);
-    assert_eq!(rt; out.as_slice(), b"or n".as_slice());
+    loads(&rt, alloc, &mut files, (b"image", 3), (false, b"or n"))?;
+    Ok(())
+}
+
+/// The script over so many files is this.
+fn is_made<R: Abort>(
+    rt: &R,
+    alloc: Global,
+    start: u64,
+    count: u64,
+    script: &[u8],
+) -> Result<(), AllocError> {
+    assert!(rt; count <= 10_000);
+    let made = made_script(alloc, start, count)?;
+    assert_eq!(rt; made.text.as_slice(), script, "{start} {count}");
     Ok(())
 }
 
@@ -109,14 +123,26 @@ fn a_script_has_a_turn_for_each_file(rt: HostRuntime) -> Result<(), Fail> {
         ),
     ];
     for (start, count, script) in cases {
-        assert!(rt; count <= 10_000);
-        assert_eq!(rt;
-            made_script(rt.alloc(), start, count)?.text.as_slice(),
-            script,
-            "{start} {count}"
-        );
+        is_made(&rt, rt.alloc(), start, count, script)?;
     }
     Ok(())
+}
+
+/// A sink that was written these pieces.
+fn written<R: Abort>(rt: &R, pieces: &[&[u8]]) -> Result<SummarySink, Fail> {
+    let mut sink = SummarySink::new();
+    for piece in pieces {
+        assert_eq!(rt; sink.write(piece)?, piece.len());
+    }
+    Ok(sink)
+}
+
+/// The summary of a run of nine lines over two files made from 7.
+fn summary(alloc: Global, sink: &SummarySink) -> Result<Vec<u8>, AllocError> {
+    let script = made_script(alloc, 7, 2)?;
+    let mut out = Vec::new(alloc);
+    sink.put_summary(&mut out, 7, 2, script.lines)?;
+    Ok(out)
 }
 
 #[test]
@@ -133,16 +159,10 @@ fn a_summary_tells_refusals_bytes_and_their_sum(rt: HostRuntime) -> Result<(), F
         (&[b"\n", b"\n!"], b"refused 1\nbytes 3\nsum 53\n"),
     ];
     for (pieces, told) in cases {
-        let mut sink = SummarySink::new();
-        for piece in pieces {
-            assert_eq!(rt; sink.write(piece)?, piece.len());
-        }
-        let script = made_script(rt.alloc(), 7, 2)?;
-        let mut out = Vec::new(rt.alloc());
-        sink.put_summary(&mut out, 7, 2, script.lines)?;
+        let sink = written(&rt, pieces)?;
         let mut want = Vec::from_slice(rt.alloc(), b"made 7 2\nlines 9\n")?;
         want.extend_from_slice(told)?;
-        assert_eq!(rt; out.as_slice(), want.as_slice());
+        assert_eq!(rt; summary(rt.alloc(), &sink)?.as_slice(), want.as_slice());
     }
     Ok(())
 }

@@ -1,6 +1,7 @@
-use crate::{Made, Options, options_of, wrong_word};
+use command_words::{Made, Options, options_of, wrong_word};
 use gcl_model::Bytes;
 use std::alloc::{AllocError, Global};
+use std::process::Abort;
 use std::test::Fail;
 
 /// The words of a line that is cut at its bars: `a|b` is two words, and the empty line none.
@@ -20,6 +21,18 @@ fn words_of(alloc: Global, line: &[u8]) -> Result<Vec<Bytes>, AllocError> {
     }
     words.push(word)?;
     Ok(words)
+}
+
+/// The words of the line write these options, or none.
+fn writes<R: Abort>(
+    rt: &R,
+    alloc: Global,
+    line: &[u8],
+    want: Option<Options>,
+) -> Result<(), AllocError> {
+    let words = words_of(alloc, line)?;
+    assert_eq!(rt; options_of(alloc, words.as_slice())?, want, "{line:?}");
+    Ok(())
 }
 
 fn given(first: u64, readers: usize) -> Option<Options> {
@@ -74,8 +87,7 @@ fn options_stand_in_any_order_each_once_with_values_joined_or_behind(
         ),
     ];
     for (line, want) in cases {
-        let words = words_of(rt.alloc(), line)?;
-        assert_eq!(rt; options_of(rt.alloc(), words.as_slice())?, want, "{line:?}");
+        writes(&rt, rt.alloc(), line, want)?;
     }
     Ok(())
 }
@@ -150,8 +162,7 @@ static OUTSIDE: [&[u8]; 55] = [
 #[test]
 fn all_other_words_are_outside_the_grammar(rt: HostRuntime) -> Result<(), Fail> {
     for line in OUTSIDE {
-        let words = words_of(rt.alloc(), line)?;
-        assert_eq!(rt; options_of(rt.alloc(), words.as_slice())?, None, "{line:?}");
+        writes(&rt, rt.alloc(), line, None)?;
     }
     Ok(())
 }

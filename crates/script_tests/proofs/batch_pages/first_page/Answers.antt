@@ -7,7 +7,7 @@ use Rattle.query_lanes.specs.declared.asks.Asked.TheVariants.{All}
 use Rattle.query_lanes.specs.declared.asks.Found.TheVariants.{List as Members}
 use Rattle.manifest_publish.specs.Accounts.{Account}
 use Rattle.query_lanes.specs.Answers.{page_size, answer_by, text_asked}
-use Rattle.query_lanes.proofs.page_tests.first_page.Goals as goal
+use Rattle.script_tests.proofs.batch_pages.first_page.Goals as goal
 
 pub returns-in-List : goal.returns-in-List
 returns-in-List c = λ expr query.

@@ -7,11 +7,11 @@ ghost use Rattle.gcl_model.specs.declared.expr.Expr.{Expr as Expression};
 ghost use Rattle.live_version.specs.Contents.{version_text};
 ghost use Rattle.query_lanes.specs.declared.asks.Asked.TheVariants.{All};
 
-use crate::tests::{opened, query};
-use crate::{Ask, Asked, Found, PAGE, answer_alone, page_behind};
+use crate::batches::{opened, query};
 use address_space::is_name;
 use collection::{Engine, Opened};
 use gcl_model::{Expr, IntervalList};
+use query_lanes::{Ask, Asked, Found, PAGE, answer_alone, page_behind};
 use std::alloc::{AllocError, Global};
 use std::sync::Wait;
 use std::test::Fail;

@@ -4,7 +4,7 @@ use Rattle.gcl_model.specs.Meaning.{concordance}
 use Rattle.live_version.specs.Contents.{version_text}
 use Rattle.query_lanes.specs.Answers.{page_size}
 use Rattle.query_lanes.proofs.PageLemmas.{split_at_last, part_behind}
-use Rattle.query_lanes.proofs.page_tests.next_page.Goals as goal
+use Rattle.script_tests.proofs.batch_pages.next_page.Goals as goal
 
 pub page_behind-requires-clause-member : goal.page_behind-requires-clause-member
 page_behind-requires-clause-member c =

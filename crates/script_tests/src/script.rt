@@ -1,10 +1,10 @@
-use crate::{
+use address_space::{FileId, FileRecord};
+use gcl_model::{Bytes, Interval};
+use script_lang::{
     Command, LineCut, LineFeed, Refusal, Taken, command, line_at, put_file, put_gone, put_interval,
     put_merging, put_opened, put_record, put_refusal, put_saved, put_shards, put_total,
 };
-use address_space::{FileId, FileRecord};
-use gcl_model::{Bytes, Interval};
-use std::alloc::Global;
+use std::alloc::{AllocError, Global};
 use std::process::Abort;
 use std::test::Fail;
 
@@ -26,6 +26,12 @@ fn long_cut(at: usize, after: usize) -> Option<LineCut> {
     })
 }
 
+/// The line at a place is cut so.
+fn is_cut<R: Abort>(rt: &R, bytes: &[u8], at: usize, most: usize, want: Option<LineCut>) {
+    assert!(rt; at <= bytes.len());
+    assert_eq!(rt; line_at(bytes, at, most), want, "{bytes:?} from {at}");
+}
+
 #[test]
 fn lines_lose_a_return_and_outer_blanks_and_may_be_long(rt: HostRuntime) {
     let cases: [(&[u8], usize, usize, Option<LineCut>); 14] = [
@@ -45,8 +51,7 @@ fn lines_lose_a_return_and_outer_blanks_and_may_be_long(rt: HostRuntime) {
         (b" \ta b\t\r\n", 0, 6, long_cut(0, 8)),
     ];
     for (bytes, at, most, want) in cases {
-        assert!(rt; at <= bytes.len());
-        assert_eq!(rt; line_at(bytes, at, most), want, "{bytes:?} from {at}");
+        is_cut(&rt, bytes, at, most, want);
     }
 }
 
@@ -66,6 +71,18 @@ fn parts<'a>(command: &'a Command) -> (&'static str, u64, &'a [u8]) {
         Command::Load(name) => ("open", 0, name.as_slice()),
         Command::Wrong => ("wrong", 0, &[]),
     }
+}
+
+/// The line is the command of this word, number and bytes.
+fn is_command<R: Abort>(
+    rt: &R,
+    alloc: Global,
+    line: &[u8],
+    want: (&str, u64, &[u8]),
+) -> Result<(), AllocError> {
+    let command = command(alloc, line)?;
+    assert_eq!(rt; parts(&command), want, "{line:?}");
+    Ok(())
 }
 
 #[test]
@@ -110,11 +127,49 @@ fn each_command_takes_its_argument_and_no_other(rt: HostRuntime) -> Result<(), F
         (b"Files", "wrong", 0, b""),
     ];
     for (line, word, number, bytes) in cases {
-        let got = command(rt.alloc(), line)?;
-        let got = parts(&got);
-        assert_eq!(rt; got.0, word, "{line:?}");
-        assert_eq!(rt; got.1, number, "{line:?}");
-        assert_eq!(rt; got.2, bytes, "{line:?}");
+        is_command(&rt, rt.alloc(), line, (word, number, bytes))?;
+    }
+    Ok(())
+}
+
+/// What is answered where files come and go, and to queries.
+fn put_found(out: &mut Vec<u8>) -> Result<(), AllocError> {
+    put_file(out, 0, 0, 7)?;
+    put_gone(out, 12)?;
+    put_interval(out, Interval::new(1, 20))?;
+    put_total(out, 0)
+}
+
+fn put_named(alloc: Global, out: &mut Vec<u8>) -> Result<(), AllocError> {
+    let record = FileRecord {
+        id: FileId(2),
+        base: 10,
+        len: 2,
+        name: Bytes::copy_of(alloc, b"a b")?,
+    };
+    put_record(out, &record)
+}
+
+/// What is answered where slots are merged and counted, and images saved and opened.
+fn put_numbers(out: &mut Vec<u8>) -> Result<(), AllocError> {
+    put_merging(out)?;
+    put_shards(out, 2)?;
+    put_saved(out, 118)?;
+    put_opened(out, 0)
+}
+
+fn put_refusals(out: &mut Vec<u8>) -> Result<(), AllocError> {
+    let refusals = [
+        Refusal::Command,
+        Refusal::LongLine,
+        Refusal::NoFile(3),
+        Refusal::TooLong,
+        Refusal::NoAddresses,
+        Refusal::NotEmpty,
+        Refusal::NotImage,
+    ];
+    for refusal in &refusals {
+        put_refusal(out, refusal)?;
     }
     Ok(())
 }
@@ -122,30 +177,10 @@ fn each_command_takes_its_argument_and_no_other(rt: HostRuntime) -> Result<(), F
 #[test]
 fn each_answer_is_one_line(rt: HostRuntime) -> Result<(), Fail> {
     let mut out = Vec::new(rt.alloc());
-    put_file(&mut out, 0, 0, 7)?;
-    put_gone(&mut out, 12)?;
-    put_interval(&mut out, Interval::new(1, 20))?;
-    put_total(&mut out, 0)?;
-    put_record(
-        &mut out,
-        &FileRecord {
-            id: FileId(2),
-            base: 10,
-            len: 2,
-            name: Bytes::copy_of(rt.alloc(), b"a b")?,
-        },
-    )?;
-    put_merging(&mut out)?;
-    put_shards(&mut out, 2)?;
-    put_saved(&mut out, 118)?;
-    put_opened(&mut out, 0)?;
-    put_refusal(&mut out, &Refusal::Command)?;
-    put_refusal(&mut out, &Refusal::LongLine)?;
-    put_refusal(&mut out, &Refusal::NoFile(3))?;
-    put_refusal(&mut out, &Refusal::TooLong)?;
-    put_refusal(&mut out, &Refusal::NoAddresses)?;
-    put_refusal(&mut out, &Refusal::NotEmpty)?;
-    put_refusal(&mut out, &Refusal::NotImage)?;
+    put_found(&mut out)?;
+    put_named(rt.alloc(), &mut out)?;
+    put_numbers(&mut out)?;
+    put_refusals(&mut out)?;
     assert_eq!(rt;
         out.as_slice(),
         b"file 0 0 7\ngone 12\n1 20\n= 0\n2 10 11 a b\nmerging\nshards 2\nsaved 118\nopened 0\n! command\n! long line\n! no file 3\n! file too long\n! no addresses\n! not empty\n! not an image\n".as_slice()
@@ -244,6 +279,33 @@ fn whole_lines_of_pieces(
     Ok(out)
 }
 
+/// The text has these lines, cut anywhere in its first eight bytes, and in pieces of one length.
+fn has_lines<R: Abort>(
+    rt: &R,
+    alloc: Global,
+    text: &[u8],
+    most: u64,
+    want: &[u8],
+) -> Result<(), Fail> {
+    for cuts in 0..256u64 {
+        let got = lines_of_pieces(rt, alloc, text, most, cuts)?;
+        assert_eq!(rt;
+            got.as_slice(),
+            want,
+            "{text:?} at most {most}, cut by {cuts}"
+        );
+    }
+    for len in [1, 2, 3, 7] {
+        let got = whole_lines_of_pieces(rt, alloc, text, most, len)?;
+        assert_eq!(rt;
+            got.as_slice(),
+            want,
+            "{text:?} at most {most}, in pieces of {len}"
+        );
+    }
+    Ok(())
+}
+
 #[test]
 fn a_text_has_the_same_lines_however_it_is_cut(rt: HostRuntime) -> Result<(), Fail> {
     let cases: [(&[u8], u64, &[u8]); 14] = [
@@ -263,23 +325,25 @@ fn a_text_has_the_same_lines_however_it_is_cut(rt: HostRuntime) -> Result<(), Fa
         (b"abcdefghijklmnop", 3, b"!|"),
     ];
     for (text, most, want) in cases {
-        for cuts in 0..256u64 {
-            let got = lines_of_pieces(&rt, rt.alloc(), text, most, cuts)?;
-            assert_eq!(rt;
-                got.as_slice(),
-                want,
-                "{text:?} at most {most}, cut by {cuts}"
-            );
-        }
-        for len in [1, 2, 3, 7] {
-            let got = whole_lines_of_pieces(&rt, rt.alloc(), text, most, len)?;
-            assert_eq!(rt;
-                got.as_slice(),
-                want,
-                "{text:?} at most {most}, in pieces of {len}"
-            );
-        }
+        has_lines(&rt, rt.alloc(), text, most, want)?;
     }
+    Ok(())
+}
+
+/// Of a feed of lines of at most three bytes that was given a piece, these whole lines are lent, and this is left.
+fn lends<R: Abort>(
+    rt: &R,
+    alloc: Global,
+    piece: &[u8],
+    ready: &[u8],
+    rest: &[u8],
+) -> Result<(), AllocError> {
+    let mut feed = LineFeed::new(alloc, 3);
+    feed.push(piece)?;
+    assert_eq!(rt; feed.ready(), ready, "{piece:?}");
+    feed.take_ready();
+    assert_eq!(rt; feed.ready(), b"".as_slice(), "{piece:?}");
+    assert_eq!(rt; feed.rest(), rest, "{piece:?}");
     Ok(())
 }
 
@@ -294,12 +358,7 @@ fn whole_lines_are_lent_up_to_the_last_newline(rt: HostRuntime) -> Result<(), Fa
         (b"a\nabcdef", b"a\n", b"abcd"),
     ];
     for (piece, ready, rest) in cases {
-        let mut feed = LineFeed::new(rt.alloc(), 3);
-        feed.push(piece)?;
-        assert_eq!(rt; feed.ready(), ready, "{piece:?}");
-        feed.take_ready();
-        assert_eq!(rt; feed.ready(), b"".as_slice(), "{piece:?}");
-        assert_eq!(rt; feed.rest(), rest, "{piece:?}");
+        lends(&rt, rt.alloc(), piece, ready, rest)?;
     }
     Ok(())
 }

@@ -5,11 +5,11 @@ ghost use Rattle.gcl_model.specs.Limits.{most_readers};
 ghost use Rattle.query_lanes.specs.PutOff.{ArePutOff};
 ghost use Rattle.query_lanes.specs.Readers.{AreOf};
 
-use crate::tests::{MOST, TABLE, added, are_those_of_the_table, asks, opened, query};
-use crate::{Ask, Asked, Found, Work, answer_batch, answer_put_off, put_off};
+use crate::batches::{MOST, TABLE, added, are_those_of_the_table, asks, opened, query};
 use collection::{Engine, Opened};
 use manifest_publish::Reader;
 use outside::FreeGate;
+use query_lanes::{Ask, Asked, Found, Work, answer_batch, answer_put_off, put_off};
 use std::alloc::{AllocError, Global};
 use std::sync::Wait;
 use std::test::Fail;

@@ -4,13 +4,14 @@ ghost use Rattle.gcl_model.specs.Limits.{most_readers};
 ghost use Rattle.gcl_model.specs.WellFormed.{IsWellFormed};
 ghost use Rattle.query_lanes.specs.Readers.{AreOf};
 
-use crate::{Ask, Asked, Found, Work, answer_batch};
+pub(crate) use crate::fixtures::opened;
 use address_space::is_name;
 use collection::{Engine, Opened};
 use gcl_model::Expr;
 use gcl_parser::{ParseFault, QueryFault, parse};
 use manifest_publish::Reader;
 use outside::{FreeGate, Gate, TurnGate};
+use query_lanes::{Ask, Asked, Found, Work, answer_batch};
 use std::alloc::{AllocError, Global};
 use std::sync::Wait;
 use std::test::Fail;
@@ -70,18 +71,6 @@ fn numbers(alloc: Global, found: &Found) -> Result<Vec<u64>, AllocError> {
         Found::Refused(fault) => numbers.push(fault.at)?,
     }
     Ok(numbers)
-}
-
-/// An engine of no file, and so many readers.
-pub(crate) fn opened<R: Wait>(rt: &R, alloc: Global, readers: usize) -> Result<Opened, AllocError>
-    requires { readers ≤ most_readers }
-    ensures of { IfOk result (λ opened. AreOf opened.engine.publisher opened.readers.items) }
-    ensures few { IfOk result (λ opened. length opened.readers.items ≤ most_readers) }
-{
-    let Ok(opened) = Engine::open(rt, alloc, 0, readers) else {
-        return Err(AllocError);
-    };
-    Ok(opened)
 }
 
 pub(crate) fn added<R: Wait>(rt: &R, engine: &mut Engine) -> bool

@@ -1,7 +1,7 @@
 use Rattle.std.proofs.Common.{sym, ◌∙◌, subst}
 use Rattle.logbook.specs.Pages.{Book}
 use Rattle.query_lanes.specs.Readers.{AreOf}
-use Rattle.query_lanes.proofs.own_tests.answers_late.Goals as goal
+use Rattle.script_tests.proofs.put_off_queries.answers_late.Goals as goal
 
 pub answered-requires-clause-of : goal.answered-requires-clause-of
 answered-requires-clause-of g c =
