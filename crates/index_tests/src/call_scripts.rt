@@ -114,7 +114,7 @@ fn made_plainly(plain: &mut PlainFiles, call: Call) -> Result<bool, AllocError> 
     }
 }
 
-/// Whether each word is found, and behind it the next one of its term.
+/// Whether each word is found, and after it the next one of its term.
 fn finds_words<L: Ledger>(version: &Version, plain: &PlainFiles, steps: &mut Steps<L>) -> bool {
     for word in &plain.words {
         let term = word.token.as_bytes();

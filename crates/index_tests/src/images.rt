@@ -23,7 +23,7 @@ const FILE_A: &[u8] = b"\0\0\x06\x01a";
 const TERMS_A: &[u8] = b"\x06\0\0\0\0\0\0\0\
     \x08</file!>\0\x07\x07<file!>\0\0\x02be\x01\x02\x04\x03not\0\x04\x02or\0\x03\x02to\x01\x01\x04";
 
-// The empty file `b` at 8 and 9, behind a file that is gone.
+// The empty file `b` at 8 and 9, after a file that is gone.
 const HEAD_B: &[u8] = b"GCLIMG02\
     \0\0\0\0\0\0\0\0\x0a\0\0\0\0\0\0\0\
     \x02\0\0\0\0\0\0\0\x01\0\0\0\0\0\0\0";

@@ -232,7 +232,7 @@ fn a_count_is_of_the_words_that_survive(rt: HostRuntime) -> Result<(), Fail> {
     Ok(())
 }
 
-/// The least term from a bound on, or behind it, is this.
+/// The least term from a bound on, or after it, is this.
 fn has_term_from<R: Abort>(rt: &R, version: &Version, low: &str, strict: bool, want: Option<&str>) {
     let found = version.term_from(low.as_bytes(), strict);
     assert_eq!(rt;

@@ -217,7 +217,7 @@ pub(crate) const QUERIES: [(&[u8], &[u8]); 15] = [
     (b"[2] > \"to\" > \"be\"", b"1 2\n5 6\n= 2\n"),
 ];
 
-/// A line behind `add a`, in two parts, has this answer.
+/// A line after `add a`, in two parts, has this answer.
 fn is_answered_over_a<R: Threads + Wait + Sync + AllocGlobal + Abort>(
     rt: &R,
     line: (&[u8], &[u8]),

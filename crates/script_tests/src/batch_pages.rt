@@ -61,7 +61,7 @@ fn first_page(alloc: Global, engine: &Engine, ask: &Ask) -> Result<IntervalList,
     }
 }
 
-/// The page behind a page, or none where that has no member.
+/// The page after a page, or none where that has no member.
 fn next_page(
     alloc: Global,
     engine: &Engine,

@@ -77,7 +77,7 @@ fn answers_on_passes<R: Threads + Sync>(
 }
 
 /// Whether the table's queries, put off before a file comes once more, find what the table has, with no engine and with
-/// it, and the query behind them twice as many.
+/// it, and the query after them twice as many.
 fn answers_late<R: Threads + Wait + Sync>(
     rt: &R,
     alloc: Global,

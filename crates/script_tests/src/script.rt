@@ -215,7 +215,7 @@ fn feed_piece(
     Ok(())
 }
 
-/// The lines of a text that is cut behind each byte whose digit in `cuts` is 1, the first one's digit being the last.
+/// The lines of a text that is cut after each byte whose digit in `cuts` is 1, the first one's digit being the last.
 fn lines_of_pieces(
     rt: &impl Abort,
     alloc: Global,

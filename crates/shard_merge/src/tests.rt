@@ -20,7 +20,7 @@ enum Step<'a> {
     Merge(usize, usize),
 }
 
-/// Postings in two blocks, of which a file behind it leaves one as it is.
+/// Postings in two blocks, of which a file after it leaves one as it is.
 const LONG: &str =
     "a a a a a a a a a a a a a a a a a a a a a a a a a a a a a a a a a a a a a a a a \
      a a a a a a a a a a a a a a a a a a a a a a a a a a a a a a a a a a a a a a a a";
@@ -203,7 +203,7 @@ fn plain_words<'a>(alloc: Global, steps: &[Step<'a>]) -> Result<Vec<PlainWord<'a
     Ok(words)
 }
 
-/// Puts the words of a file behind the others, and gives the next address.
+/// Puts the words of a file after the others, and gives the next address.
 fn put_words<'a>(
     words: &mut Vec<PlainWord<'a>>,
     file: u64,

@@ -289,7 +289,7 @@ fn chance_slots<R: Abort>(rt: &R, alloc: Global) -> Result<Version, AllocError> 
     deleted(rt, &deleted(rt, &version, 1)?, 4)
 }
 
-/// Where the second word next stands right behind the first one from `k` on, by look-ups in the version.
+/// Where the second word next stands right after the first one from `k` on, by look-ups in the version.
 fn next_pair(version: &Version, first: &str, second: &str, k: u64) -> Option<u64> {
     let mut at = k;
     for _ in 0..10_000u32 {
