@@ -1,4 +1,4 @@
-use Rattle.std.proofs.Common.{◌≡◌, ◌+◌, ◌<◌, ◌≤◌, [], ◌∷◌, ◌++◌, length, arith}
+use Rattle.std.proofs.Common.{◌+◌, [], ◌∷◌, arith}
 use Rattle.std.proofs.lemmas.List.{length-append}
 use Rattle.posting_code.proofs.Rising.{rise_push, rise_wider}
 use Rattle.term_fingers.proofs.tests.every.Goals as goal
