@@ -4,7 +4,7 @@ use gcl_model::Expr;
 use std::alloc::{AllocError, Global};
 use std::test::Fail;
 
-/// Writes an expression with a bracket around each node: terms and widths as they are, and `_` after each term of a
+/// Writes an expression with a bracket around each node: terms and widths as they are, and `_` behind each term of a
 /// phrase.
 #[cycle(write)]
 fn write(out: &mut Vec<u8>, expr: &Expr) -> Result<(), AllocError> {

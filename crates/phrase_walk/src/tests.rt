@@ -118,7 +118,7 @@ fn each_turn_of_a_walk_looks_up_each_token_once(rt: HostRuntime) -> Result<(), F
     Ok(())
 }
 
-/// "the king" in `the a the king a the`: after the first `the` the one `king` leads on to 2, and once `the` stands there, `king` is
+/// "the king" in `the a the king a the`: behind the first `the` the one `king` leads on to 2, and once `the` stands there, `king` is
 /// not asked again. From 0 on that takes 3 look-ups for the first start and 3 for the first end; none ends or starts up to 0, which
 /// takes none and 1.
 #[test]

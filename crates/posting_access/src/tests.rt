@@ -193,7 +193,7 @@ fn each_reading_of_a_first_address_is_a_probe(rt: HostRuntime) -> Result<(), All
     let none = encode(rt.alloc(), &[])?;
     let none = none.as_postings();
     assert_eq!(rt; look_up(&none, 3).1, (0, 0));
-    // two blocks: after the first one and before the second, the first address of the second is read once more
+    // two blocks: behind the first one and before the second, the first address of the second is read once more
     let two = addresses(rt.alloc(), 65, 10)?;
     let two = encode(rt.alloc(), &two)?;
     let two = two.as_postings();

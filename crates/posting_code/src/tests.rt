@@ -32,7 +32,7 @@ fn plain_around(members: &[u64], k: u64) -> (Option<u64>, Option<u64>) {
     )
 }
 
-/// Puts the packed differences of three lists after other bytes.
+/// Puts the packed differences of three lists behind other bytes.
 fn put_three<'a>(
     packed: &mut Vec<u8>,
     front: &'a PostingList,
@@ -49,7 +49,7 @@ fn put_three<'a>(
     put_joined(packed, &lists)
 }
 
-/// The packed differences of a list after a byte, put as those of three: of the first members, of so many after them, and of the rest.
+/// The packed differences of a list behind a byte, put as those of three: of the first members, of so many behind them, and of the rest.
 fn put_in_three(
     alloc: Global,
     members: &[u64],
