@@ -23,6 +23,3 @@ mod width;
 
 pub use accesses::{first_end, first_start, last_end, last_start};
 pub use members::{count, list, list_from};
-
-#[cfg(test)]
-mod tests;

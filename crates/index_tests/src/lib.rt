@@ -4,7 +4,8 @@
 //! They stand apart from those crates, since a crate that has tests is proved twice. `shards` is of `shard_build`,
 //! `versions` and `version_changes` are of `live_version`, `live_postings` is of `slot_terms` and of what is
 //! counted and merged, `publications` of `manifest_publish`, `passes` of `reader_pass`, `engine` and `call_scripts`
-//! of `collection`, `images` of `image_read`, and `plain_lists` of `plain_text`.
+//! of `collection`, `images` of `image_read`, `plain_lists` of `plain_text`, `evaluation` of `gcl_eval`, and `fingers` of
+//! `term_fingers`.
 //!
 //! Beside them there are `fixtures`: what several tests begin with. Of an engine that was just opened from 5 on,
 //! with two readers, both have seen the empty version that begins at 5.
@@ -14,6 +15,10 @@
 mod call_scripts;
 #[cfg(test)]
 mod engine;
+#[cfg(test)]
+mod evaluation;
+#[cfg(test)]
+mod fingers;
 pub mod fixtures;
 #[cfg(test)]
 mod images;

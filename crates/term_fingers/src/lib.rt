@@ -30,6 +30,3 @@ mod words;
 
 pub use fingers::Fingers;
 pub use naming::Naming;
-
-#[cfg(test)]
-mod tests;

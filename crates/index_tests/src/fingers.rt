@@ -4,7 +4,6 @@ ghost use Rattle.gcl_model.specs.Limits.{address_end};
 ghost use Rattle.gcl_model.specs.Slots.{slot_range};
 ghost use Rattle.index_shard.specs.Tables.{ArePostingsIn, IsShard};
 
-use super::*;
 use address_space::{FileId, FileRecord, FileRun, Range};
 use gcl_model::{
     ADDRESS_END, Bytes, Direction, Interval, Leaves, Ledger, Pair, Question, Steps, TokenList,
@@ -17,6 +16,7 @@ use std::alloc::{AllocError, Global};
 use std::marker::Brand;
 use std::process::Abort;
 use std::test::Fail;
+use term_fingers::{Fingers, Naming};
 
 /// The address of a term that is nearest to `k` on one side.
 #[derive(Drop)]

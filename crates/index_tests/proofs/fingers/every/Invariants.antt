@@ -1,6 +1,6 @@
 use Rattle.std.proofs.Common.{◌+◌, ◌-◌, ◌<◌, ◌≤◌, length}
 use Rattle.index_shard.specs.Tables.{RiseWithin}
-use Rattle.term_fingers.proofs.tests.every.Given as goal
+use Rattle.index_tests.proofs.fingers.every.Given as goal
 
 abbrev pub invariant-loop-at : goal.invariant-loop-at
 invariant-loop-at l = record {

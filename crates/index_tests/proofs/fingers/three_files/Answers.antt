@@ -7,7 +7,7 @@ use Rattle.index_shard.proofs.ShardWords.{shard_words_rise}
 use Rattle.live_version.specs.Contents.{is_of_file, is_of_files}
 use Rattle.live_version.proofs.ChangeFiles.{is_of_file-inside}
 use Rattle.live_version.proofs.WordLemmas.{owned_by}
-use Rattle.term_fingers.proofs.tests.three_files.Goals as goal
+use Rattle.index_tests.proofs.fingers.three_files.Goals as goal
 
 three : (a b d : FileEntry) → a.base ≡ 0 → a.len ≡ 1000 → b.base ≡ 1000 → b.len ≡ 1000 → d.base ≡ 2000 → d.len ≡ 1000 → (p : ℕ) → p < 3000 → is_of_files (a ∷ b ∷ d ∷ []) p ≡ true
 three a b d a1 a2 b1 b2 d1 d2 p lt =

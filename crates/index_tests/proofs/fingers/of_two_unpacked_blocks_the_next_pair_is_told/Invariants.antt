@@ -1,4 +1,4 @@
-use Rattle.term_fingers.proofs.tests.of_two_unpacked_blocks_the_next_pair_is_told.Given as goal
+use Rattle.index_tests.proofs.fingers.of_two_unpacked_blocks_the_next_pair_is_told.Given as goal
 
 -- the version itself
 abbrev pub ghosts-ask_unpacked : goal.ghosts-ask_unpacked

@@ -1,7 +1,7 @@
 use Rattle.std.proofs.Common.{◌+◌, [], ◌∷◌, arith}
 use Rattle.std.proofs.lemmas.List.{length-append}
 use Rattle.posting_code.proofs.Rising.{rise_push, rise_wider}
-use Rattle.term_fingers.proofs.tests.every.Goals as goal
+use Rattle.index_tests.proofs.fingers.every.Goals as goal
 
 pub loop-at-preserved : goal.loop-at-preserved
 loop-at-preserved c =

@@ -1,4 +1,4 @@
-use Rattle.term_fingers.proofs.tests.no_pair_is_passed_over.Given as goal
+use Rattle.index_tests.proofs.fingers.no_pair_is_passed_over.Given as goal
 
 -- the version itself
 abbrev pub ghosts-ask_aside : goal.ghosts-ask_aside

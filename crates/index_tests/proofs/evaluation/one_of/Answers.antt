@@ -5,7 +5,7 @@ use Rattle.gcl_model.specs.FormOf.{form_of}
 use Rattle.gcl_model.specs.WellFormed.{IsWellFormed, AreWellFormed}
 use Rattle.gcl_model.proofs.FormLemmas.{count_of_operands}
 use Rattle.gcl_eval.specs.Operands.{operand_forms}
-use Rattle.gcl_eval.proofs.tests.one_of.Goals as goal
+use Rattle.index_tests.proofs.evaluation.one_of.Goals as goal
 
 -- one operand more
 one_more : (xs : List Expr) (x : Expr) → AreWellFormed (operand_forms xs) → IsWellFormed (form_of x) → AreWellFormed (operand_forms (xs ++ x ∷ []))
