@@ -1,5 +1,5 @@
 -- Where the loop of "containing" may begin: at an element after the second operand's first answer.
-use Rattle.std.proofs.Common.{◌≡◌, ℕ, ◌+◌, ◌≤◌, ◌<◌, Bool, true, ◌&&◌, leb, eqb, List, [], ◌∷◌, Option, Some, None, IfSome, MatchOption, inl, inr, refl, sym, ap, ◌∙◌, subst, arith, filter}
+use Rattle.std.proofs.Common.{◌≡◌, ℕ, ◌+◌, ◌≤◌, Bool, true, ◌&&◌, leb, eqb, List, [], ◌∷◌, Option, Some, None, IfSome, MatchOption, inl, inr, refl, sym, ap, ◌∙◌, subst, arith, filter}
 use Rattle.std.specs.List.{list_any}
 use Rattle.std.proofs.lemmas.Bool.{true≢false, or_cases, and_parts, leb-true, le-leb, eqb-true}
 use Rattle.gcl_model.specs.Extents.{Extent, covers, all_extents}
@@ -8,7 +8,6 @@ use Rattle.gcl_model.specs.Forms.{Form, term, containing}
 use Rattle.gcl_model.specs.FormOf.{containment_form}
 use Rattle.gcl_model.specs.Meaning.{concordance, denotes, ends_in_order}
 use Rattle.gcl_model.specs.Cost.{cost}
-use Rattle.gcl_model.specs.Limits.{address_end}
 use Rattle.gcl_model.specs.Access.{first_start, first_end}
 use Rattle.gcl_model.proofs.Covers.{Has, covered_tells, find_agree_on}
 use Rattle.gcl_model.proofs.Minimal.{has_filter, same_truth}
@@ -27,7 +26,6 @@ use Rattle.gcl_model.specs.declared.direction.Direction.{Direction}
 use Rattle.gcl_eval.specs.declared.direction.Access.{Access}
 use Rattle.gcl_eval.specs.declared.direction.Access.TheVariants.{FirstStart, FirstEnd, LastEnd, LastStart}
 use Rattle.gcl_eval.proofs.TermAccess.{term_found}
-use Rattle.gcl_eval.proofs.Found.{access_within}
 use Rattle.gcl_eval.proofs.CostLemmas.{cost_in_le}
 use Rattle.gcl_eval.proofs.ContainLoops.{IsAt}
 use Rattle.gcl_eval.proofs.ContainSteps.{node_enters, node_enters_none}
@@ -53,10 +51,6 @@ element_from_place text sound form first second bytes is same k p found c m le =
     let next = found_first (λ x. x.start) firsts (concordance_rises text (term first)) k (point p) (sym (term_found FirstStart text first bytes k (Some p) sound same found)) in
     let test = (has_filter (denotes text node) (all_extents text.first text.next) c (subst (λ f. Has (concordance text f) c) is m)).1 in
     from_first firsts (λ a. ends_in_order (concordance text (term second) ∷ []) (a.end + 1) c.end) k p c.start (λ d n ge. (next.first d n ge).0) (and_parts _ _ test).0 le
-
--- a place of a token lies within the addresses
-pub place_below : (text : Text) → IsText text → (token : List ℕ) (k p : ℕ) → Some p ≡ next_place text.words token k → p < address_end
-place_below text sound token k p found = access_within FirstStart text (term token) k (Some (point p)) sound (term_found FirstStart text token token k (Some p) sound refl found)
 
 -- each member of "containing" from k on holds an answer from p on, so it ends where the first of these does, or later
 pub element_begins : (text : Text) → IsText text → (a b : Form) (first second bytes : List ℕ) → a ≡ element_form first second → bytes ≡ first → (k p : ℕ) → Some p ≡ next_place text.words bytes k →

@@ -18,12 +18,16 @@ use Rattle.gcl_model.proofs.Places.{point}
 use Rattle.gcl_order.specs.Walks.{address_before, walk_forward, walk_backward}
 use Rattle.gcl_eval.specs.declared.direction.Access.{Access}
 use Rattle.gcl_eval.specs.Operands.{element_form}
-use Rattle.gcl_eval.specs.Directions.{access_of, join, reaches, walk, next_past, on_again}
+use Rattle.gcl_eval.specs.Directions.{access_of, place_of, join, reaches, walk, next_past, on_again}
 use Rattle.gcl_model.specs.Limits.{address_end}
 use Rattle.gcl_eval.specs.declared.direction.Access.TheVariants.{FirstStart, FirstEnd, LastEnd}
 use Rattle.gcl_eval.proofs.Found.{access_within}
 use Rattle.gcl_eval.proofs.ChainRules.{near_access-seq, far_access-seq}
 use Rattle.gcl_eval.proofs.TermAccess.{term_found}
+
+-- a place of a token lies within the addresses
+pub place_below : (access : Access) (text : Text) → IsText text → (token : List ℕ) (k p : ℕ) → Some p ≡ place_of access text.words token k → p < address_end
+place_below access text sound token k p found = access_within access text (term token) k (Some (point p)) sound (term_found access text token token k (Some p) sound refl found)
 
 address_before-positive : (n : ℕ) → 0 < n → Some (n - 1) ≡ address_before n
 address_before-positive zero lt = absurd (omega arith)
@@ -49,7 +53,7 @@ module _ (text : Text) (first second : List ℕ) (sound : IsText text) where
   on_from : (at end : ℕ) → Some end ≡ next_place text.words second (at + 1) → Some (point end) ≡ walk_forward (seconds ∷ []) (point at)
   on_from at end on = ap (option_and_then (walk_forward [])) (term_found FirstStart text second second (at + 1) (Some end) sound refl on)
 
-  end_above : (k end : ℕ) → Some end ≡ next_place text.words second k → k ≤ end
+  pub end_above : (k end : ℕ) → Some end ≡ next_place text.words second k → k ≤ end
   end_above k end on = leb-true k end (find_gives (λ a. leb k a.start) seconds (point end) (sym (term_found FirstStart text second second k (Some end) sound refl on))).1
 
   element_from-is : (k : ℕ) (element : Extent) → IsElementFrom text.words first second k element → Some element ≡ near_access Forward (concordance text (seq both_terms)) k

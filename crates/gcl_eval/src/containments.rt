@@ -14,7 +14,7 @@ ghost use Rattle.gcl_eval.specs.Directions.{access_of, direction_of};
 use crate::access::access;
 use crate::containment::{goes_by, operands, question, turn};
 use crate::direction::Access;
-use crate::elements::{element_access, element_tokens};
+use crate::elements::{element_tokens, element_up_to};
 use crate::known::{Known, known_access, was_leap};
 use gcl_contain::Turn;
 use gcl_model::{Containment, CountedLeaves, Expr, Interval};
@@ -84,7 +84,7 @@ fn first_member<C: CountedLeaves>(
 }
 
 /// Where "containing" is asked by starts: an element at which its loop may begin, ahead of the first operand's next
-/// member. None is where that is not at hand, or where the way to the last member was no leap.
+/// member. None is where three look-ups find none, or where the way to the last member was no leap.
 #[inline(always)]
 #[cycle(access)]
 fn element_ahead<C: CountedLeaves>(
@@ -144,7 +144,7 @@ fn element_behind_answer<C: CountedLeaves>(
     let (token, _) = element_tokens(first)?;
     let from = source.next(token.as_slice(), k, counter)?;
     let answer = known_access(second, Access::FirstStart, source, from, known, counter)?;
-    let element = element_access(first, Access::FirstEnd, source, answer.end, counter)?;
+    let element = element_up_to(first, source, answer.end, counter)?;
     if k <= element.start {
         Some(element)
     } else {

@@ -2,6 +2,9 @@
 
 ghost use Rattle.std.specs.Prelude.{◌≡◌, ◌+◌, ◌*◌, ◌<◌, ◌≤◌, Some, IfSome, IsNone};
 ghost use Rattle.gcl_model.specs.Forms.{term, no_forms, more_forms};
+ghost use Rattle.gcl_model.specs.Texts.{IsText};
+ghost use Rattle.gcl_model.specs.Elements.{IsElementUpTo};
+ghost use Rattle.gcl_model.specs.Access.{first_end};
 ghost use Rattle.gcl_model.specs.Meaning.{concordance};
 ghost use Rattle.gcl_model.specs.Limits.{address_end};
 ghost use Rattle.gcl_model.specs.FormOf.{form_of};
@@ -61,5 +64,51 @@ pub(crate) fn element_access<C: CountedLeaves>(
         Access::FirstStart => source.element_from(first.as_slice(), second.as_slice(), k, counter),
         Access::FirstEnd => source.element_up_to(first.as_slice(), second.as_slice(), k, counter),
         Access::LastEnd | Access::LastStart => None,
+    }
+}
+
+/// The first element that ends at or after `k`: the one at hand, else by its three look-ups. None is also where these lead
+/// to one that ends before `k`, and of any other expression.
+#[inline]
+pub(crate) fn element_up_to<C: CountedLeaves>(
+    expr: &Expr,
+    source: &C,
+    k: u64,
+    counter: &mut C::Counter,
+) -> Option<Interval>
+    ensures answer { IfSome result (λ a. Some a ≡ first_end (concordance (C.text source.now) (form_of expr.now)) k) }
+    ensures within { IfSome result (λ a. a.end < address_end) }
+    ensures counted { C.count counter.old ≤ C.count counter.new }
+    ensures steps { C.count counter.new ≤ C.count counter.old + 3 * C.most source.now }
+{
+    if let Some(element) = element_access(expr, Access::FirstEnd, source, k, counter) {
+        return Some(element);
+    }
+    let (first, second) = element_tokens(expr)?;
+    three_look_ups(first.as_slice(), second.as_slice(), source, k, counter)
+}
+
+/// The element from the last `first` before the next `second` that stands at or after `k`, up to the next `second` after
+/// that, where this one stands at or after `k`, too.
+fn three_look_ups<C: CountedLeaves>(
+    first: &[u8],
+    second: &[u8],
+    source: &C,
+    k: u64,
+    counter: &mut C::Counter,
+) -> Option<Interval>
+    ensures answer { IfSome result (IsElementUpTo (C.text source.now).words first.now second.now k) }
+    ensures sound { IsText (C.text source.now) }
+    ensures counted { C.count counter.old ≤ C.count counter.new }
+    ensures steps { C.count counter.new ≤ C.count counter.old + 3 * C.most source.now }
+{
+    let found = source.next(second, k, counter)?;
+    let behind = found.checked_sub(1)?;
+    let start = source.prev(first, behind, counter)?;
+    let end = source.next(second, start + 1, counter)?;
+    if k <= end {
+        Some(Interval::new(start, end))
+    } else {
+        None
     }
 }

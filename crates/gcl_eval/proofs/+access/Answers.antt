@@ -8,6 +8,7 @@ use Rattle.gcl_eval.specs.Operands.{operand_forms, operand_lists}
 use Rattle.gcl_combine.specs.Directions.{farthest, best}
 use Rattle.gcl_eval.specs.Directions.{access_of, walk, join}
 use Rattle.gcl_model.specs.declared.direction.Direction.TheVariants.{Forward}
+use Rattle.gcl_eval.specs.declared.direction.Access.TheVariants.{FirstStart}
 use Rattle.gcl_model.proofs.Lists.{drop_here}
 use Rattle.gcl_eval.proofs.Found.{access_within}
 use Rattle.gcl_eval.proofs.ChainRules.{back_is_as_far}
@@ -18,7 +19,8 @@ use Rattle.gcl_eval.proofs.KnownLemmas.{told_is, asked_second, kept_second}
 use Rattle.gcl_eval.proofs.ContainLoops.{goes_below}
 use Rattle.gcl_eval.proofs.ContainForms.{both_operands, access_spans, spans_below}
 use Rattle.gcl_eval.proofs.ContainSteps.{node_accepts, node_finishes, node_ends, node_goes_on, node_more_turns, fewer_left, none_within, starts_within, stops_within, ends_within, goes_within}
-use Rattle.gcl_eval.proofs.Beginnings.{place_below, element_begins, node_begins, node_begins_none, begins_within}
+use Rattle.gcl_eval.proofs.ElementLemmas.{place_below}
+use Rattle.gcl_eval.proofs.Beginnings.{element_begins, node_begins, node_begins_none, begins_within}
 use Rattle.gcl_eval.proofs.+access.Goals as goal
 
 -- an access of any expression lies within the addresses
@@ -477,7 +479,7 @@ known::known_access-returns-in-Some-clause-within g t c =
 -- where "containing" may begin
 pub containments::element_behind_answer-known_access-requires : goal.containments::element_behind_answer-known_access-requires
 containments::element_behind_answer-known_access-requires g t c =
-    let within = place_below (g.C.CountedLeaves.text c.args.source.now) c.next.ensures.sound c.as_slice.result.now c.args.k c.in_ok-from.from c.in_ok-from.ensures.answer in
+    let within = place_below FirstStart (g.C.CountedLeaves.text c.args.source.now) c.next.ensures.sound c.as_slice.result.now c.args.k c.in_ok-from.from c.in_ok-from.ensures.answer in
     search rules
 
 pub containments::element_behind_answer-returns-then-k-element-clause-begins : goal.containments::element_behind_answer-returns-then-k-element-clause-begins
