@@ -9,5 +9,6 @@ pub mod LineSteps
 pub mod PageLists
 pub mod PageSteps
 pub mod PutLemmas
+pub mod Turns
 pub mod WindowLemmas
 mod Worked

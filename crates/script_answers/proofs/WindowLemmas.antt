@@ -31,7 +31,7 @@ use Rattle.script_answers.specs.Batches.{AreAsked, Begins, ask_lines, expr_lines
 use Rattle.script_answers.specs.Pages.{Puts, PutsPart}
 use Rattle.script_answers.specs.Progress.{ComesOn, GoesOn, HasCome, IsAt, StopsFrom, WhoseLines, lines_of}
 use Rattle.script_answers.specs.Stopped.{GetsPart, IsStopped}
-use Rattle.script_answers.specs.Windows.{AnswersWindow, ComesOver, DoesOn, GoesOver, HaltsFrom, HaltsOver, HasDone, IsHalted, IsPaired, PutsOff, StopsOver, StopsWindow, ask_text, asks_refuse, asks_text, fronted, window_text}
+use Rattle.script_answers.specs.Windows.{AnswersWindow, ComesOver, DoesOn, GoesOver, HaltsFrom, HaltsOver, HaltsWriting, HasDone, IsHalted, IsPaired, PutsOff, PutsOffBehind, StopsOver, StopsWindow, WritesOn, ask_text, asks_refuse, asks_text, fronted, window_text}
 use Rattle.script_answers.specs.declared.limits.Limits.{Limits}
 use Rattle.script_answers.specs.declared.window.Window.{Window}
 use Rattle.script_answers.proofs.BatchLemmas.{batch_answered, batch_length, batch_lines, batch_read, batch_state}
@@ -203,29 +203,30 @@ module _ (limits : Limits) where
   pub over_does : (all batch rest : List Line) (line : Line) (asks : List Ask) (n m : ℕ) (held : Option Contents) (before after : EngineContent) (w w' a r : Bool) (window window' : Window) →
       drop n all ≡ batch ++ line ∷ rest → AreAsked asks batch → m ≡ n + length asks + 1 → names_kept_of_line line ≡ [] →
       ((s : State) → IsAt held before w s → IsRead s line → GoesOver limits s asks line after w' r window window') → DoesOn limits all n m held before after w w' a (a || r) window window'
-  over_does all batch rest line asks n m held before after w w' a r window window' cut are count unsaved step = λ start old now read off. λ text.
+  over_does all batch rest line asks n m held before after w w' a r window window' cut are count unsaved step = λ front start old now read off. λ text.
       let s : State = state_after limits start (take n all) in
       let d = off text in
       let go = step s d.at (read_over start n all batch rest line asks are cut read) in
       let lines : answers limits s (batch ++ line ∷ []) ≡ flat_map (ask_lines (text_of s.collection)) asks ++ go.reply.lines =
       over_lines s asks batch line are ∙ ap (λ l. flat_map (ask_lines (text_of s.collection)) asks ++ l) (reply_lines limits (answer limits s line) go.reply go.is) in
       let after_is : state_after limits s (batch ++ line ∷ []) ≡ go.reply.after = over_state s asks batch line are ∙ reply_after limits s (answer limits s line) go.reply go.is in
-      subst (λ (l : List Line). HasDone limits start l held after w' (a || r) (window_text text window') old now) (sym (upto_line n m all batch rest line asks are cut count))
-      (done_more start (take n all) (batch ++ line ∷ []) held held before after w w' a (a || r) (window_text text window) (window_text text window') old now d
+      subst (λ (l : List Line). HasDone limits start l held after w' (a || r) (front ++ window_text text window') old now) (sym (upto_line n m all batch rest line asks are cut count))
+      (done_more start (take n all) (batch ++ line ∷ []) held held before after w w' a (a || r) (front ++ window_text text window) (front ++ window_text text window') old now d
       (over_answered s asks batch line are (is_some limits (answer limits s line) go.reply go.is))
       (subst (IsAt held after w') (sym after_is) (record { files = unsaved_held limits s line held held before w unsaved d.at refl ∙ ap (λ (u : State). Some u.files) (reply_after limits s (answer limits s line) go.reply go.is); keeps = go.keeps }))
       (ap (λ (x : Bool). a || x) (go.refusal_is ∙ sym (list_any-append is_refusal (flat_map (ask_lines (text_of s.collection)) asks) go.reply.lines) ∙ ap (list_any is_refusal) (sym lines)))
-      (go.owes text ∙ append_assoc (window_text text window) (asks_text (text_of s.collection) asks) (text_of_lines go.reply.lines)
-      ∙ ap (λ l. window_text text window ++ l) (sym (flat_map-append _ (flat_map (ask_lines (text_of s.collection)) asks) go.reply.lines) ∙ ap text_of_lines (sym lines))))
+      (ap (λ l. front ++ l) (go.owes text ∙ append_assoc (window_text text window) (asks_text (text_of s.collection) asks) (text_of_lines go.reply.lines)
+      ∙ ap (λ l. window_text text window ++ l) (sym (flat_map-append _ (flat_map (ask_lines (text_of s.collection)) asks) go.reply.lines) ∙ ap text_of_lines (sym lines)))
+      ∙ sym (append_assoc front (window_text text window) (text_of_lines (answers limits s (batch ++ line ∷ []))))))
 
   -- it ended on the way
   pub over_halts : (all batch rest : List Line) (line : Line) (asks : List Ask) (n m : ℕ) (held : Option Contents) (before after : EngineContent) (w a : Bool) (window : Window) →
       n ≤ length all → drop n all ≡ batch ++ line ∷ rest → AreAsked asks batch → names_kept_of_line line ≡ [] →
       ((s : State) → IsAt held before w s → IsRead s line → StopsOver limits s asks line n m after) → HaltsOver limits all n m held before after w a window
-  over_halts all batch rest line asks n m held before after w a window within cut are unsaved stop = λ start old now read off.
+  over_halts all batch rest line asks n m held before after w a window within cut are unsaved stop = λ front start old now read off.
       let s : State = state_after limits start (take n all) in
       let d = off (text_of s.collection) in
-      by_case start old now off (stop s d.at (read_over start n all batch rest line asks are cut read))
+      by_case front start old now off (stop s d.at (read_over start n all batch rest line asks are cut read))
     where
       -- with the batch, and with the line behind it
       ends : n + length asks + 1 ≤ length all
@@ -240,19 +241,19 @@ module _ (limits : Limits) where
           ap (λ (k : ℕ). state_after limits start (take k all)) place ∙ ap (state_after limits start) (take_more n all batch (line ∷ rest) cut)
           ∙ state_after-append limits start (take n all) batch ∙ batch_state limits (state_after limits start (take n all)) asks batch are
 
-      by_case : (start : State) (old now : Option (List ℕ)) → PutsOff limits start (take n all) held before w a window old now → StopsOver limits (state_after limits start (take n all)) asks line n m after →
+      by_case : (front : List ℕ) (start : State) (old now : Option (List ℕ)) → PutsOffBehind front limits start (take n all) held before w a window old now → StopsOver limits (state_after limits start (take n all)) asks line n m after →
           IsHalted limits start all m after.version held old now
-      by_case start old now off (inl here) =
+      by_case front start old now off (inl here) =
           let d = off (text_of (state_after limits start (take n all)).collection) in
           subst (λ (k : ℕ). IsHalted limits start all k after.version held old now) (sym here.0)
           (halted_behind start all n n held held before after.version w a _ old now d (omega arith) within here.1 d.at.files)
-      by_case start old now off (inr (inl here)) =
+      by_case front start old now off (inr (inl here)) =
           let d = off (text_of (state_after limits start (take n all)).collection) in
           subst (λ (k : ℕ). IsHalted limits start all k after.version held old now) (sym here.0)
           (halted_behind start all n (n + length asks) held held before after.version w a _ old now d (omega arith) (omega (arith, ends))
           (subst (λ (u : State). StandsFor after.version u.collection) (sym (behind_batch start)) here.1)
           (d.at.files ∙ ap (λ (u : State). Some u.files) (sym (behind_batch start))))
-      by_case start old now off (inr (inr here)) =
+      by_case front start old now off (inr (inr here)) =
           let s : State = state_after limits start (take n all) in
           let d = off (text_of s.collection) in
           let now_is : state_after limits start (take m all) ≡ after_reply s (answer limits s line) =
@@ -264,38 +265,38 @@ module _ (limits : Limits) where
   -- it ended when as many lines were completed as were done
   pub does_halts : (all : List Line) (n m : ℕ) (held : Option Contents) (before after : EngineContent) (w w' a b : Bool) (window window' : Window) → m ≤ length all →
       DoesOn limits all n m held before after w w' a b window window' → HaltsOver limits all n m held before after w a window
-  does_halts all n m held before after w w' a b window window' within does = λ start old now read off.
-      halted_here start all m held after w' b _ old now within (does start old now read off (text_of start.collection))
+  does_halts all n m held before after w w' a b window window' within does = λ front start old now read off.
+      halted_here start all m held after w' b _ old now within (does front start old now read off (text_of start.collection))
 
   -- nothing is put off yet
   pub over_none : (ahead : List Line) (n : ℕ) (held : Option Contents) (engine : EngineContent) (w a : Bool) (mid : Option (List ℕ)) (window : Window) → ((text : Text) → window_text text window ≡ []) →
-      WhoseLines ahead n (λ all. ComesOver limits all n n held engine engine w w a a mid window)
+      WhoseLines ahead n (λ all. ComesOver limits all n n held engine engine w w a a mid mid window)
   over_none ahead n held engine w a mid window none = λ all rest within cut start old read come. none_owed start (take n all) held engine w a window old mid none come
 
-  module _ (ahead mid : List Line) (n k : ℕ) (held : Option Contents) (e f : EngineContent) (w x r s : Bool) (old : Option (List ℕ)) (window : Window) (goes : GoesOn ahead mid n k)
-      (come : WhoseLines ahead n (λ all. ComesOver limits all n k held e f w x r s old window)) where
+  module _ (ahead mid : List Line) (n k : ℕ) (held : Option Contents) (e f : EngineContent) (w x r s : Bool) (old now : Option (List ℕ)) (window : Window) (goes : GoesOn ahead mid n k)
+      (come : WhoseLines ahead n (λ all. ComesOver limits all n k held e f w x r s old now window)) where
     -- some lines more
-    pub over_more : (m : ℕ) (h : EngineContent) (y t : Bool) (window' : Window) → WhoseLines mid k (λ all. DoesOn limits all k m held f h x y s t window window') →
-        WhoseLines ahead n (λ all. ComesOver limits all n m held e h w y r t old window')
-    over_more m h y t window' step = λ all rest within cut start from read here.
+    pub over_more : (m : ℕ) (h : EngineContent) (y t : Bool) (window' : Window) (new : Option (List ℕ)) → WhoseLines mid k (λ all. WritesOn limits all k m held f h x y s t window window' now new) →
+        WhoseLines ahead n (λ all. ComesOver limits all n m held e h w y r t old new window')
+    over_more m h y t window' new step = λ all rest within cut start from read here.
         let there = behind ahead mid all rest n k goes within cut in
-        step all rest there.0 there.1 start from old read (come all rest within cut start from read here)
+        step all rest there.0 there.1 start from read (come all rest within cut start from read here)
 
     -- it ended among them
-    pub over_ends : (m : ℕ) (h : EngineContent) → WhoseLines mid k (λ all. HaltsOver limits all k m held f h x s window) → WhoseLines ahead n (λ all. HaltsFrom limits all n m held e h w r old old)
-    over_ends m h step = λ all rest within cut start from read here.
+    pub over_ends : (m : ℕ) (h : EngineContent) (new : Option (List ℕ)) → WhoseLines mid k (λ all. HaltsWriting limits all k m held f h x s window now new) → WhoseLines ahead n (λ all. HaltsFrom limits all n m held e h w r old new)
+    over_ends m h new step = λ all rest within cut start from read here.
         let there = behind ahead mid all rest n k goes within cut in
-        step all rest there.0 there.1 start from old read (come all rest within cut start from read here)
+        step all rest there.0 there.1 start from read (come all rest within cut start from read here)
 
     -- it ended before them
-    pub over_waits : WhoseLines ahead n (λ all. HaltsFrom limits all n k held e f w r old old)
+    pub over_waits : WhoseLines ahead n (λ all. HaltsFrom limits all n k held e f w r old now)
     over_waits = λ all rest within cut start from read here.
         let there = behind ahead mid all rest n k goes within cut in
-        halted_here start all k held f x s _ from old there.0 (come all rest within cut start from read here (text_of start.collection))
+        halted_here start all k held f x s _ from now there.0 (come all rest within cut start from read here (text_of start.collection))
 
     -- the window and the batch behind it are answered
     pub window_comes : (asks : List Ask) (left : List Line) (m : ℕ) (h : EngineContent) (y t : Bool) (new : Option (List ℕ)) → Begins asks mid left → m ≡ k + length asks →
-        AnswersWindow window asks f h x y t old new → WhoseLines ahead n (λ all. ComesOn limits all n m held held e h w y r (s || t) old new)
+        AnswersWindow window asks f h x y t now new → WhoseLines ahead n (λ all. ComesOn limits all n m held held e h w y r (s || t) old new)
     window_comes asks left m h y t new begins count answered = λ all rest within cut start from read here.
         let there = behind ahead mid all rest n k goes within cut in
         let split : drop k all ≡ begins.batch ++ (left ++ rest) = there.1 ∙ ap (λ l. l ++ rest) begins.whole ∙ append_assoc begins.batch left rest in
@@ -306,7 +307,7 @@ module _ (limits : Limits) where
 
     -- it ended while they were answered
     pub window_halts : (asks : List Ask) (left : List Line) (i m : ℕ) (h : EngineContent) (new : Option (List ℕ)) → Begins asks mid left → m ≡ k + i →
-        StopsWindow window asks i f h x old new → WhoseLines ahead n (λ all. HaltsFrom limits all n m held e h w r old new)
+        StopsWindow window asks i f h x now new → WhoseLines ahead n (λ all. HaltsFrom limits all n m held e h w r old new)
     window_halts asks left i m h new begins count stops = λ all rest within cut start from read here.
         let there = behind ahead mid all rest n k goes within cut in
         let split : drop k all ≡ begins.batch ++ (left ++ rest) = there.1 ∙ ap (λ l. l ++ rest) begins.whole ∙ append_assoc begins.batch left rest in

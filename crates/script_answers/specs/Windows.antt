@@ -1,21 +1,27 @@
 -- For proofs alone: queries that are put off while lines behind them are done. No clause of `serve` or `run` in `query_run` speaks of these.
-use Rattle.std.specs.Prelude.{◌≡◌, Bool, ℕ, ◌+◌, ◌||◌, ◌≤◌, ◌⊎◌, List, [], ◌∷◌, ◌++◌, length, take, flat_map, Option, Some}
+use Rattle.std.specs.Prelude.{◌≡◌, Bool, ℕ, ◌+◌, ◌||◌, ◌≤◌, ◌<◌, ◌⊎◌, List, [], ◌∷◌, ◌++◌, length, take, flat_map, Option, Some}
 use Rattle.std.specs.List.{list_any}
 use Rattle.outside.specs.Contents.{Contents}
 use Rattle.gcl_model.specs.Collections.{text_of}
 use Rattle.gcl_model.specs.Texts.{Text}
 use Rattle.live_version.specs.Contents.{VersionContent}
 use Rattle.live_version.specs.StandsFor.{StandsFor}
+use Rattle.image_file.specs.Images.{CanBeSaved}
 use Rattle.collection.specs.Engines.{EngineContent}
 use Rattle.script_lang.specs.Lines.{Line, text_of_lines}
 use Rattle.script_lang.specs.Answers.{is_refusal}
 use Rattle.query_lanes.specs.declared.asks.Ask.{Ask}
+use Rattle.logbook.specs.Pages.{Book}
+use Rattle.manifest_publish.specs.Accounts.{ReaderContent}
+use Rattle.query_lanes.specs.PutOff.{ArePutOff}
+use Rattle.query_lanes.specs.Readers.{AreOf}
 use Rattle.script_answers.specs.States.{State, Keeps}
 use Rattle.script_answers.specs.Answers.{Reply, answer, answers, state_after, AllAnswered, AreRead}
-use Rattle.script_answers.specs.Batches.{AreAsked, ask_lines}
+use Rattle.script_answers.specs.Batches.{AreAsked, BeginsAt, ask_lines}
 use Rattle.script_answers.specs.Pages.{IsPut}
-use Rattle.script_answers.specs.Progress.{HasCome, IsAt, Stand, StopsWithin, WhoseLines}
+use Rattle.script_answers.specs.Progress.{GoesBetween, HasCome, IsAt, Stand, StopsWithin, WhoseLines, wish}
 use Rattle.script_answers.specs.Stopped.{GetsPart}
+use Rattle.script_answers.specs.declared.batches.Batch.{Batch}
 use Rattle.script_answers.specs.declared.limits.Limits.{Limits}
 use Rattle.script_answers.specs.declared.window.Window.{Window}
 
@@ -56,19 +62,28 @@ pub record HasDone (limits : Limits) (start : State) (lines : List Line) (held :
   pub put : IsPut old now owed (text_of_lines (answers limits start lines))
   pub at : IsAt held engine wanted (state_after limits start lines)
 
--- the same where a window has what is not written yet: each of its queries has its own pass, so this is the same over every text
-abbrev pub PutsOff : Limits → State → List Line → Option Contents → EngineContent → Bool → Bool → Window → Option (List ℕ) → Option (List ℕ) → Type 0
-PutsOff limits start lines held engine wanted refusal window old now = (text : Text) → HasDone limits start lines held engine wanted refusal (window_text text window) old now
+-- the same where a window has what is not written yet, and this is owed in front of it: each of its queries has its own pass, so this is the same over every text
+abbrev pub PutsOffBehind : List ℕ → Limits → State → List Line → Option Contents → EngineContent → Bool → Bool → Window → Option (List ℕ) → Option (List ℕ) → Type 0
+PutsOffBehind front limits start lines held engine wanted refusal window old now = (text : Text) → HasDone limits start lines held engine wanted refusal (front ++ window_text text window) old now
 
--- where the first `n` lines of a script were done, the first `m` lines now are
+-- the same where nothing else is owed
+abbrev pub PutsOff : Limits → State → List Line → Option Contents → EngineContent → Bool → Bool → Window → Option (List ℕ) → Option (List ℕ) → Type 0
+PutsOff limits start lines held engine wanted refusal window old now = PutsOffBehind [] limits start lines held engine wanted refusal window old now
+
+-- where the first `n` lines of a script were done, the first `m` lines now are, whatever is owed in front
 abbrev pub DoesOn : Limits → List Line → ℕ → ℕ → Option Contents → EngineContent → EngineContent → Bool → Bool → Bool → Bool → Window → Window → Type 0
-DoesOn limits all n m held before after w w' a b window window' = (start : State) (old now : Option (List ℕ)) → AreRead limits start all → PutsOff limits start (take n all) held before w a window old now →
-    PutsOff limits start (take m all) held after w' b window' old now
+DoesOn limits all n m held before after w w' a b window window' = (front : List ℕ) (start : State) (old now : Option (List ℕ)) → AreRead limits start all → PutsOffBehind front limits start (take n all) held before w a window old now →
+    PutsOffBehind front limits start (take m all) held after w' b window' old now
+
+-- where the first `n` lines of a script were done, the first `m` lines now are, and what was written meanwhile is owed no more
+abbrev pub WritesOn : Limits → List Line → ℕ → ℕ → Option Contents → EngineContent → EngineContent → Bool → Bool → Bool → Bool → Window → Window → Option (List ℕ) → Option (List ℕ) → Type 0
+WritesOn limits all n m held before after w w' a b window window' mid new = (start : State) (old : Option (List ℕ)) → AreRead limits start all → PutsOff limits start (take n all) held before w a window old mid →
+    PutsOff limits start (take m all) held after w' b window' old new
 
 -- where the first `n` lines of a script were answered from the start on, the first `m` lines now are done
-abbrev pub ComesOver : Limits → List Line → ℕ → ℕ → Option Contents → EngineContent → EngineContent → Bool → Bool → Bool → Bool → Option (List ℕ) → Window → Type 0
-ComesOver limits all n m held before after w w' a b mid window = (start : State) (old : Option (List ℕ)) → AreRead limits start all → HasCome limits start (take n all) held before w a old mid →
-    PutsOff limits start (take m all) held after w' b window old mid
+abbrev pub ComesOver : Limits → List Line → ℕ → ℕ → Option Contents → EngineContent → EngineContent → Bool → Bool → Bool → Bool → Option (List ℕ) → Option (List ℕ) → Window → Type 0
+ComesOver limits all n m held before after w w' a b mid new window = (start : State) (old : Option (List ℕ)) → AreRead limits start all → HasCome limits start (take n all) held before w a old mid →
+    PutsOff limits start (take m all) held after w' b window old new
 
 -- the first so many lines are completed: the version stands for the collection after them, the sink got the beginning of the answers to them and
 -- the line after them, and the files hold exactly what they leave
@@ -80,8 +95,13 @@ pub record IsHalted (limits : Limits) (start : State) (script : List Line) (comp
 
 -- where the first `n` lines of a script were done, `m` of them are completed now, and no more was written
 abbrev pub HaltsOver : Limits → List Line → ℕ → ℕ → Option Contents → EngineContent → EngineContent → Bool → Bool → Window → Type 0
-HaltsOver limits all n m held before after w a window = (start : State) (old now : Option (List ℕ)) → AreRead limits start all → PutsOff limits start (take n all) held before w a window old now →
+HaltsOver limits all n m held before after w a window = (front : List ℕ) (start : State) (old now : Option (List ℕ)) → AreRead limits start all → PutsOffBehind front limits start (take n all) held before w a window old now →
     IsHalted limits start all m after.version held old now
+
+-- the same where more may have been written
+abbrev pub HaltsWriting : Limits → List Line → ℕ → ℕ → Option Contents → EngineContent → EngineContent → Bool → Bool → Window → Option (List ℕ) → Option (List ℕ) → Type 0
+HaltsWriting limits all n m held before after w a window mid new = (start : State) (old : Option (List ℕ)) → AreRead limits start all → PutsOff limits start (take n all) held before w a window old mid →
+    IsHalted limits start all m after.version held old new
 
 -- where the first `n` lines of a script were answered from the start on, `m` of them are completed now
 abbrev pub HaltsFrom : Limits → List Line → ℕ → ℕ → Option Contents → EngineContent → EngineContent → Bool → Bool → Option (List ℕ) → Option (List ℕ) → Type 0
@@ -99,11 +119,43 @@ abbrev pub HaltsAhead : Limits → List Line → Stand → Stand → Window → 
 HaltsAhead limits ahead before after window = WhoseLines ahead before.completed (λ all.
     HaltsOver limits all before.completed after.completed before.held before.engine after.engine before.wanted before.refused window)
 
+-- the two where something was written meanwhile
+abbrev pub WritesAhead : Limits → List Line → Stand → Stand → Window → Window → Option (List ℕ) → Option (List ℕ) → Type 0
+WritesAhead limits ahead before after window window' mid new = WhoseLines ahead before.completed (λ all.
+    WritesOn limits all before.completed after.completed before.held before.engine after.engine before.wanted after.wanted before.refused after.refused window window' mid new)
+
+abbrev pub HaltsWritingAhead : Limits → List Line → Stand → Stand → Window → Option (List ℕ) → Option (List ℕ) → Type 0
+HaltsWritingAhead limits ahead before after window mid new = WhoseLines ahead before.completed (λ all.
+    HaltsWriting limits all before.completed after.completed before.held before.engine after.engine before.wanted before.refused window mid new)
+
 -- Wherever some lines stand in a script: where those before them were answered and it stood so then, so many are completed now, and the
 -- files are as they were
 abbrev pub Halts : Limits → List Line → Stand → Stand → Option (List ℕ) → Option (List ℕ) → Type 0
 Halts limits ahead before after mid new = WhoseLines ahead before.completed (λ all.
     HaltsFrom limits all before.completed after.completed before.held before.engine after.engine before.wanted before.refused mid new)
+
+-- A run is ready to do the line behind a batch at hand: the batch begins at its place, each query of the window in front is put off, and
+-- the counts are in range
+pub record IsReady (limits : Limits) (script : List ℕ) (now : Stand) (at asked : ℕ) (window : Window) (batch : Batch) : Type 0 where
+  pub begins : BeginsAt limits.line script at batch
+  pub counts : at + length batch.asks.items ≤ batch.after
+  pub within : batch.after ≤ length script
+  pub paired : IsPaired window
+  pub own : ArePutOff window.asks.items
+  pub asked_is : asked ≤ now.completed
+  pub savable : CanBeSaved now.engine.version
+  pub numbers : now.engine.version.number + wish now.wanted ≤ now.completed
+
+-- readers that are all of one publisher are so still
+pub record KeepPublisher (before after : List ReaderContent) : Type 0 where
+  pub of : (publisher : Book) → AreOf publisher before → AreOf publisher after
+
+-- it has come to a later place, with the lines up to there, and is ready again
+pub record GoesFurther (limits : Limits) (script : List ℕ) (before after : Stand) (from to asked : ℕ) (window : Window) (batch : Batch) : Type 0 where
+  pub goes : GoesBetween limits.line script from to before.completed after.completed
+  pub further : from < to
+  pub counted : after.completed + from ≤ before.completed + to
+  pub ready : IsReady limits script after to asked window batch
 
 -- queries were put off and the line behind them was done, and what is written later has their answers and its reply
 pub record GoesOver (limits : Limits) (state : State) (asks : List Ask) (line : Line) (engine : EngineContent) (wanted refusal : Bool) (before after : Window) : Type 0 where

@@ -1,133 +1,27 @@
 //! Queries that were put off are answered, and those behind them.
-ghost use Rattle.std.specs.Prelude.{◌≡◌, ◌+◌, ◌-◌, ◌≤◌, ◌<◌, ◌++◌, [], ℕ, false, map, take, IfOk, IfSome, OnOk, length};
-ghost use Rattle.std.specs.Io.KnownBytes.{Appends};
+ghost use Rattle.std.specs.Prelude.{◌≡◌, ◌+◌, ◌-◌, ◌≤◌, ◌<◌, [], ℕ, IfOk, OnOk, length};
 ghost use Rattle.gcl_model.specs.Limits.{far, merge_end, most_readers, most_script};
 ghost use Rattle.image_file.specs.Images.{CanBeSaved};
-ghost use Rattle.live_version.specs.Contents.{version_text};
-ghost use Rattle.script_lang.specs.Lines.{line_of_cut, IsCut};
-ghost use Rattle.query_lanes.specs.Answers.{answer_in};
 ghost use Rattle.query_lanes.specs.Readers.{AreOf};
 ghost use Rattle.script_answers.specs.States.{AreLimits};
-ghost use Rattle.script_answers.specs.Answers.{names_kept_of_line, names_of};
-ghost use Rattle.script_answers.specs.Batches.{BeginsAt, asks_query};
-ghost use Rattle.script_answers.specs.Pages.{Puts, PutsPart};
-ghost use Rattle.script_answers.specs.Progress.{Advances, ComesNext, GoesBetween, HasCauses, lines_from, stand, wish};
-ghost use Rattle.script_answers.specs.Stopped.{GetsPart};
-ghost use Rattle.script_answers.specs.Windows.{AnswersWindow, Halts, IsPaired, StopsWindow, asks_refuse, asks_text, waiting_text};
+ghost use Rattle.script_answers.specs.Answers.{names_of};
+ghost use Rattle.script_answers.specs.Batches.{BeginsAt};
+ghost use Rattle.script_answers.specs.Progress.{Advances, GoesBetween, HasCauses, lines_from, stand, wish};
+ghost use Rattle.script_answers.specs.Windows.{AnswersWindow, Halts, IsPaired, StopsWindow};
 
 use crate::batches::Batch;
+use crate::beside::{go_further, is_gone_on};
 use crate::course::Course;
-use crate::over::{go_on, line_over};
-use crate::pages::put_answer;
+use crate::over::next_over;
+use crate::putting::write_answers;
 use crate::run_fault::RunFault;
 use crate::setting::Setting;
 use crate::window::Window;
-use crate::write::write_all;
-use collection::{Engine, Opened};
+use collection::Opened;
 use outside::{Files, Gate, Sink};
-use query_lanes::{Ask, Found, Work, answer_batch};
-use script_lang::LineCut;
-use std::alloc::{AllocError, Global};
+use query_lanes::{Ask, Work, answer_batch};
 use std::sync::Wait;
 use std::thread::Threads;
-
-/// Puts the answers to queries that were put off, each behind the text in front of it, and then the text behind the last. Their lines are
-/// completed already, and their refusals seen.
-fn put_window<K: Sink>(
-    alloc: Global,
-    out: &mut Vec<u8>,
-    sink: &mut K,
-    engine: &Engine,
-    window: &Window,
-    asks: &[Ask],
-    answers: Vec<Found>,
-) -> Result<(), RunFault>
-    requires answers { answers.items ≡ map (answer_in (version_text engine.now.version)) asks.now }
-    requires paired { length window.now.fronts.items ≡ length asks.now }
-    ensures puts { OnOk result (Puts (K.written sink.old) (K.written sink.new) out.old.items out.new.items
-        (waiting_text (version_text engine.now.version) window.now.fronts.items window.now.tail.items asks.now)) }
-    ensures part { PutsPart (K.written sink.old) (K.written sink.new) out.old.items
-        (waiting_text (version_text engine.now.version) window.now.fronts.items window.now.tail.items asks.now) }
-    ensures causes { (n : ℕ) → HasCauses (K.faults sink.old) (K.faults sink.new) n n result }
-    ensures calm { OnOk result (K.faults sink.new ≡ K.faults sink.old) }
-{
-    let mut i = 0;
-    for found in answers {
-        out.extend_from_slice(window.fronts[i].as_slice())?;
-        let _refused = put_answer(alloc, out, sink, engine, &asks[i], found)?;
-        i += 1;
-    }
-    out.extend_from_slice(window.tail.as_slice())?;
-    Ok(())
-}
-
-/// Puts the answers to a batch in the order of its queries, and says whether a refusal is among them. Each line is completed once its answer is put.
-fn put_answers<K: Sink>(
-    alloc: Global,
-    out: &mut Vec<u8>,
-    sink: &mut K,
-    engine: &Engine,
-    completed: &mut u64,
-    asks: &[Ask],
-    answers: Vec<Found>,
-) -> Result<bool, RunFault>
-    requires answers { answers.items ≡ map (answer_in (version_text engine.now.version)) asks.now }
-    requires room { completed.old + length asks.now ≤ far }
-    ensures puts { OnOk result (Puts (K.written sink.old) (K.written sink.new) out.old.items out.new.items
-        (asks_text (version_text engine.now.version) asks.now)) }
-    ensures part { PutsPart (K.written sink.old) (K.written sink.new) out.old.items
-        (asks_text (version_text engine.now.version) (take (completed.new - completed.old + 1) asks.now)) }
-    ensures refusal { IfOk result (λ refusal. refusal ≡ asks_refuse (version_text engine.now.version) asks.now) }
-    ensures completed { OnOk result (completed.new ≡ completed.old + length asks.now) }
-    ensures counted { (completed.old ≤ completed.new) × (completed.new ≤ completed.old + length asks.now) }
-    ensures causes { (n : ℕ) → HasCauses (K.faults sink.old) (K.faults sink.new) n n result }
-    ensures calm { OnOk result (K.faults sink.new ≡ K.faults sink.old) }
-{
-    let mut refused = false;
-    let mut i = 0;
-    for found in answers {
-        refused |= put_answer(alloc, out, sink, engine, &asks[i], found)?;
-        i += 1;
-        *completed += 1;
-    }
-    Ok(refused)
-}
-
-/// Writes the answers to the queries of a window, and then those to the batch behind it; says whether a refusal is among the latter.
-fn write_answers<K: Sink>(
-    alloc: Global,
-    out: &mut Vec<u8>,
-    sink: &mut K,
-    engine: &Engine,
-    completed: &mut u64,
-    window: &Window,
-    put_off: &[Ask],
-    asks: &[Ask],
-    answers: Vec<Found>,
-) -> Result<bool, RunFault>
-    requires answers { answers.items ≡ map (answer_in (version_text engine.now.version)) (put_off.now ++ asks.now) }
-    requires paired { length window.now.fronts.items ≡ length put_off.now }
-    requires room { completed.old + length asks.now ≤ far }
-    ensures written { OnOk result (Appends (K.written sink.old) (K.written sink.new)
-        (waiting_text (version_text engine.now.version) window.now.fronts.items window.now.tail.items put_off.now
-        ++ asks_text (version_text engine.now.version) asks.now)) }
-    ensures part { GetsPart (K.written sink.old) (K.written sink.new)
-        (waiting_text (version_text engine.now.version) window.now.fronts.items window.now.tail.items put_off.now
-        ++ asks_text (version_text engine.now.version) (take (completed.new - completed.old + 1) asks.now)) }
-    ensures refusal { IfOk result (λ refusal. refusal ≡ asks_refuse (version_text engine.now.version) asks.now) }
-    ensures completed { OnOk result (completed.new ≡ completed.old + length asks.now) }
-    ensures counted { (completed.old ≤ completed.new) × (completed.new ≤ completed.old + length asks.now) }
-    ensures causes { (n : ℕ) → HasCauses (K.faults sink.old) (K.faults sink.new) n n result }
-    ensures calm { OnOk result (K.faults sink.new ≡ K.faults sink.old) }
-{
-    let mut answers = answers;
-    let later = answers.split_off(put_off.len())?;
-    out.clear();
-    put_window(alloc, out, sink, engine, window, put_off, answers)?;
-    let refused = put_answers(alloc, out, sink, engine, completed, asks, later)?;
-    write_all(sink, out.as_slice())?;
-    Ok(refused)
-}
 
 /// Answers the queries of a window and those behind it, beside the merge that is wanted, if one is, and writes all that is to be written.
 fn serve_window<R: Threads + Wait + Sync, K: Sink, G: Gate + Sync>(
@@ -191,29 +85,6 @@ fn serve_window<R: Threads + Wait + Sync, K: Sink, G: Gate + Sync>(
     Ok(refused)
 }
 
-/// The line behind some queries at hand, where it may be done before they are answered, and there is room for that.
-fn next_over<R, G>(
-    setting: &Setting<R, G>,
-    script: &[u8],
-    engine: &Engine,
-    wanted: bool,
-    window: &Window,
-    batch: &Batch,
-) -> Result<Option<LineCut>, AllocError>
-    requires { batch.now.after ≤ length script.now }
-    ensures places { IfOk result (λ some. IfSome some (IsCut script.now batch.now.after)) }
-    ensures line { IfOk result (λ some. IfSome some (ComesNext setting.now.limits.line script.now batch.now.after)) }
-    ensures unasked { IfOk result (λ some. IfSome some (λ cut. asks_query (line_of_cut script.now cut) ≡ false)) }
-    ensures unsaved { IfOk result (λ some. IfSome some (λ cut. names_kept_of_line (line_of_cut script.now cut) ≡ [])) }
-{
-    let count = window.asks.len().saturating_add(batch.asks.len());
-    if count >= setting.limits.batch as usize || !window.has_room(engine.version(), wanted) {
-        return Ok(None);
-    }
-    let cut = line_over(setting.alloc, script, batch.after, &setting.limits)?;
-    Ok(cut)
-}
-
 /// Answers a batch that begins at the line at hand. Lines behind it that ask nothing are done first, where the queries can be put off, and those
 /// behind these are answered together with them.
 pub(crate) fn serve_queries<R: Threads + Wait + Sync, F: Files, K: Sink, G: Gate + Sync>(
@@ -258,24 +129,23 @@ pub(crate) fn serve_queries<R: Threads + Wait + Sync, F: Files, K: Sink, G: Gate
     ensures files_calm { OnOk result (F.faults files.new ≡ F.faults files.old) }
     ensures unkept { F.unkept files.new ≡ F.unkept files.old }
 {
-    let mut window = Window::new(setting.alloc);
+    let mut window = Window::new(setting.alloc, opened.readers.len());
     let mut batch = batch;
     while let Some(cut) = next_over(
         setting,
         script,
-        &opened.engine,
-        course.wanted,
-        &window,
         &batch,
+        is_gone_on(setting, opened, course.wanted, &window, &batch),
     )? {
-        batch = go_on(
+        go_further(
             setting,
             files,
+            sink,
             opened,
             course,
             script,
             &mut window,
-            batch,
+            &mut batch,
             cut,
         )?;
     }

@@ -16,6 +16,7 @@
 mod answering;
 mod answers;
 mod batches;
+mod beside;
 mod changes;
 mod course;
 mod limits;
@@ -23,6 +24,7 @@ mod listing;
 mod merging;
 mod over;
 mod pages;
+mod putting;
 mod queries;
 mod refusals;
 mod run_fault;

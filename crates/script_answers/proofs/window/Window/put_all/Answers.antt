@@ -14,6 +14,7 @@ loop-ask-preserved c =
     let all = into_iter_items c.into_iter-ask-iterator.result in
     record {
       paired = c.in_ok-refused.ensures.paired;
+      own = c.in_ok-refused.ensures.own;
       sized = search rules;
       owes = λ text. owes_next text there c.args.self.now c.loop-ask.self c.put_one.new.self c.in-Some.ask (into_iter_items c.next.new.self) all (c.in_ok-refused.ensures.owes text)
           (ap (λ (l : List Ask). window_text text c.loop-ask.self ++ asks_text there l) (sym split) ∙ c.loop-ask.invariant.owes text);

@@ -6,7 +6,7 @@ use Rattle.script_answers.specs.Windows.{fronted}
 use Rattle.script_answers.proofs.BatchSteps.{some_left}
 use Rattle.script_answers.proofs.PutLemmas.{part_of_put}
 use Rattle.script_answers.proofs.WindowLemmas.{no_members, none_right, rest_next, window_all, window_part, window_puts, window_puts_part}
-use Rattle.script_answers.proofs.answering.put_window.Goals as goal
+use Rattle.script_answers.proofs.putting.put_window.Goals as goal
 
 pub returns-in_err-extend_from_slice-clause-part : goal.returns-in_err-extend_from_slice-clause-part
 returns-in_err-extend_from_slice-clause-part g c =

@@ -6,7 +6,7 @@ use Rattle.script_lang.specs.Lines.{text_of_lines}
 use Rattle.script_answers.specs.Batches.{ask_lines}
 use Rattle.script_answers.proofs.BatchSteps.{front_text, later_part, next_text, some_left}
 use Rattle.script_answers.proofs.PutLemmas.{part_as, part_of_put, puts_part}
-use Rattle.script_answers.proofs.answering.put_answers.Goals as goal
+use Rattle.script_answers.proofs.putting.put_answers.Goals as goal
 
 pub returns-in_err-refused-clause-part : goal.returns-in_err-refused-clause-part
 returns-in_err-refused-clause-part g c =

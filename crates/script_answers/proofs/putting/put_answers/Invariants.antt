@@ -8,7 +8,7 @@ use Rattle.script_lang.specs.Lines.{text_of_lines}
 use Rattle.query_lanes.specs.Answers.{answer_in}
 use Rattle.script_answers.specs.Batches.{ask_lines}
 use Rattle.script_answers.specs.Pages.{Puts}
-use Rattle.script_answers.proofs.answering.put_answers.Given as goal
+use Rattle.script_answers.proofs.putting.put_answers.Given as goal
 
 -- the answers to so many queries were put, and those to the others are left
 abbrev pub invariant-loop-found : goal.invariant-loop-found

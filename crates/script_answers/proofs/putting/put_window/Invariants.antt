@@ -4,7 +4,7 @@ use Rattle.live_version.specs.Contents.{version_text}
 use Rattle.query_lanes.specs.Answers.{answer_in}
 use Rattle.script_answers.specs.Pages.{Puts}
 use Rattle.script_answers.specs.Windows.{fronted}
-use Rattle.script_answers.proofs.answering.put_window.Given as goal
+use Rattle.script_answers.proofs.putting.put_window.Given as goal
 
 -- so many answers were put, each behind its text, and the others are left
 abbrev pub invariant-loop-found : goal.invariant-loop-found

@@ -5,7 +5,7 @@ use Rattle.script_answers.specs.Stopped.{GetsPart}
 use Rattle.script_answers.specs.Windows.{asks_text, waiting_text}
 use Rattle.script_answers.proofs.PutLemmas.{all_written, begin_put, part_on, part_written, puts_on, puts_part}
 use Rattle.script_answers.proofs.WindowLemmas.{all_asked, whole_part}
-use Rattle.script_answers.proofs.answering.write_answers.Goals as goal
+use Rattle.script_answers.proofs.putting.write_answers.Goals as goal
 
 pub returns-in_err-put_window-clause-part : goal.returns-in_err-put_window-clause-part
 returns-in_err-put_window-clause-part g c =
