@@ -1,25 +1,18 @@
 -- Batches: the queries of lines, their answers, and what becomes of the engine.
-use Rattle.std.proofs.Common.{◌≡◌, ℕ, suc, ◌+◌, ◌≤◌, Bool, true, false, List, [], ◌∷◌, ◌++◌, length, map, Option, Some, None, IsSome, refl, sym, ap, ◌∙◌, subst, arith, append_assoc, append-nil}
-use Rattle.std.specs.Prelude.{◌||◌, flat_map, if◌then◌else◌}
-use Rattle.std.specs.List.{list_any}
-use Rattle.std.proofs.lemmas.List.Folds.{list_any-append}
-use Rattle.std.proofs.lemmas.Grind.{flat_map-append}
-use Rattle.gcl_model.specs.Extents.{Extent}
+use Rattle.std.proofs.Common.{◌≡◌, ℕ, suc, Bool, true, false, List, [], ◌∷◌, ◌++◌, length, Option, Some, None, IsSome, refl, sym, ap, ◌∙◌, subst, append_assoc}
+use Rattle.std.specs.Prelude.{flat_map, if◌then◌else◌}
 use Rattle.gcl_model.specs.Texts.{Text}
 use Rattle.gcl_model.specs.Forms.{Form}
 use Rattle.gcl_model.specs.Meaning.{concordance}
 use Rattle.gcl_model.specs.Collections.{text_of}
-use Rattle.live_version.specs.Contents.{version_text}
-use Rattle.live_version.proofs.PartLaws.{has_text}
 use Rattle.collection.specs.Engines.{EngineContent}
 use Rattle.gcl_parser.specs.declared.fault.QueryFault.{QueryFault}
 use Rattle.gcl_parser.specs.Grammar.{IsQueryWithin}
 use Rattle.gcl_parser.specs.Refusal.{refused}
 use Rattle.gcl_parser.specs.QueryForm.{query_form}
 use Rattle.gcl_parser.proofs.QueryForms.{query_forms_are_of_queries}
-use Rattle.script_lang.specs.Lines.{Line, text_of_lines}
+use Rattle.script_lang.specs.Lines.{Line}
 use Rattle.script_lang.specs.Commands.{command_of}
-use Rattle.script_lang.specs.Answers.{interval_line, is_refusal, total_line}
 use Rattle.script_lang.specs.declared.commands.Command.{Command}
 use Rattle.script_lang.specs.declared.commands.Command.TheVariants.{Blank, Add, Del, Find, Count, Top, Files, Merge, Shards, Save, Load, Wrong}
 use Rattle.script_lang.specs.declared.refusals.Refusal.TheVariants.{LongLine, Query}
@@ -27,11 +20,9 @@ use Rattle.query_lanes.specs.declared.asks.Ask.{Ask}
 use Rattle.query_lanes.specs.declared.asks.Asked.{Asked}
 use Rattle.query_lanes.specs.Merges.{IsMergedWhere}
 use Rattle.script_answers.specs.States.{State, Keeps}
-use Rattle.script_answers.specs.Answers.{Reply, asked_lines, list_lines, query_lines, lines_by, unchanged, refusal_lines, reply, answer, answers, after_reply, state_after, with_later, AllAnswered, AreRead, names_asked, names_kept, names_of, names_of_line, names_kept_of, names_kept_of_line}
-use Rattle.script_answers.specs.Batches.{ask_lines, asks_query, IsAskOf, IsAskedBy, AsksLine, AreAsked, Begins, BeginWithNone}
-use Rattle.script_answers.specs.Progress.{Says, wish}
+use Rattle.script_answers.specs.Answers.{Reply, asked_lines, query_lines, lines_by, unchanged, refusal_lines, reply, answer, answers, after_reply, state_after, with_later, AllAnswered, AreRead}
+use Rattle.script_answers.specs.Batches.{ask_lines, IsAskedBy, AsksLine, AreAsked, Begins}
 use Rattle.script_answers.specs.declared.limits.Limits.{Limits}
-use Rattle.script_answers.proofs.Replies.{list_plain, one_more}
 
 -- the lines of a query that is not refused are those of the one form that it stands for
 pub lines_of_form : (asked : Asked) (query : List ℕ) (form : Form) (text : Text) → refused query ≡ None → IsQueryWithin query form
@@ -101,7 +92,7 @@ batch_state limits state (ask ∷ asks) [] are = absurd are
 batch_state limits state (ask ∷ asks) (line ∷ batch) are =
     ap (λ (o : Option Reply). state_after limits (after_reply state o) batch) (batch_answers limits state ask line are.0) ∙ batch_state limits state asks batch are.1
 
--- its answers are those to its queries, one behind the other
+-- its answers are those to its queries, one after the other
 pub batch_lines : (limits : Limits) (state : State) (asks : List Ask) (batch : List Line) → AreAsked asks batch
     → answers limits state batch ≡ flat_map (ask_lines (text_of state.collection)) asks
 batch_lines limits state [] [] are = refl
@@ -127,7 +118,7 @@ batch_length [] (line ∷ batch) are = absurd are
 batch_length (ask ∷ asks) [] are = absurd are
 batch_length (ask ∷ asks) (line ∷ batch) are = ap suc (batch_length asks batch are.1)
 
--- what the lines behind it open is read rightly
+-- what the lines after it open is read rightly
 pub batch_read : (limits : Limits) (state : State) (asks : List Ask) (batch rest : List Line) → AreAsked asks batch → AreRead limits state (batch ++ rest) → AreRead limits state rest
 batch_read limits state [] [] rest are read = read
 batch_read limits state [] (line ∷ batch) rest are read = absurd are

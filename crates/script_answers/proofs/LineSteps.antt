@@ -1,5 +1,5 @@
 -- From the first of some lines on to the others.
-use Rattle.std.proofs.Common.{◌≡◌, ℕ, ◌+◌, ◌≤◌, Bool, List, [], ◌++◌, length, drop, sym, ap, ◌∙◌, arith, append_assoc, append-nil, Option, length-append}
+use Rattle.std.proofs.Common.{◌≡◌, ℕ, ◌≤◌, Bool, List, [], ◌++◌, length, drop, sym, ap, ◌∙◌, arith, append_assoc, Option, length-append}
 use Rattle.std.specs.Prelude.{flat_map}
 use Rattle.std.proofs.lemmas.Grind.{flat_map-append}
 use Rattle.outside.specs.Contents.{Contents}

@@ -17,7 +17,7 @@ use Rattle.query_lanes.specs.declared.asks.Asked.TheVariants.{All, First, Number
 use Rattle.query_lanes.proofs.PageLemmas.{take-take}
 use Rattle.script_answers.specs.Pages.{IsPage, members_asked, page_from}
 
--- what is behind the front of some
+-- what is after the front of some
 pub drop_taken : {T : Type 0} (n m : ℕ) (xs : List T) → drop n (take m xs) ≡ take (m - n) (drop n xs)
 drop_taken zero m xs =
     let same : m ≡ m - 0 = omega arith in
@@ -42,7 +42,7 @@ page_of_all All place list = refl
 page_of_all (First most) place list = ap (take page_size) (drop_taken place most list) ∙ take-take page_size (most - place) (drop place list)
 page_of_all Number place list = refl
 
--- the front of a list, however long it is, and what is behind it
+-- the front of a list, however long it is, and what is after it
 front_and_rest : {T : Type 0} (j : ℕ) (xs page : List T) → page ≡ take j xs → xs ≡ page ++ drop (length page) xs
 front_and_rest j xs page is =
     let whole : xs ≡ page ++ drop j xs = sym (take-append-drop j xs) ∙ ap (λ l. l ++ drop j xs) (sym is) in
@@ -72,7 +72,7 @@ last_of_page asked list page end last is some at =
           ∙ sym (append_assoc (take from list) front (last ∷ rest)) ∙ ap (λ l. (take from list ++ front) ++ last ∷ l) behind,
     )
 
--- behind a page that is not full nothing follows
+-- after a page that is not full nothing follows
 pub none_behind : (list page : List Extent) (end : ℕ) → IsPage list end page → length page < page_size → drop end list ≡ []
 none_behind list page end is short =
     let from : ℕ = is.from in

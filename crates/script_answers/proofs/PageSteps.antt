@@ -18,7 +18,7 @@ use Rattle.query_lanes.specs.declared.asks.Found.TheVariants.{List as Members}
 use Rattle.script_answers.specs.Answers.{asked_lines, list_lines}
 use Rattle.script_answers.specs.Batches.{ask_lines, expr_lines}
 use Rattle.script_answers.specs.Pages.{PutsPart, members_asked, page_from}
-use Rattle.script_answers.proofs.PageLists.{first_page, next_page}
+use Rattle.script_answers.proofs.PageLists.{next_page}
 use Rattle.script_answers.proofs.PutLemmas.{part_as, part_on}
 use Rattle.script_answers.proofs.Scripts.{none_after}
 

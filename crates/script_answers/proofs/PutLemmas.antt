@@ -1,5 +1,5 @@
--- What is put behind what was put before: what is held back, and what the sink got.
-use Rattle.std.proofs.Common.{◌≡◌, ℕ, ◌≤◌, zero, suc, List, [], ◌∷◌, ◌++◌, take, refl, sym, ap, ◌∙◌, subst, arith, append_assoc, append-nil, Option}
+-- What is put after what was put before: what is held back, and what the sink got.
+use Rattle.std.proofs.Common.{◌≡◌, ℕ, ◌≤◌, zero, suc, List, [], ◌∷◌, ◌++◌, take, refl, sym, ap, ◌∙◌, subst, arith, append_assoc, Option}
 use Rattle.std.specs.Io.KnownBytes.{Appends}
 use Rattle.std.proofs.KnownBytes.{Appends-nil, Appends-trans}
 use Rattle.script_answers.specs.Pages.{IsPut, Puts, PutsPart}
@@ -30,7 +30,7 @@ part_of_put w w' h h' more puts = λ old text put.
 pub part_kept : (w : Option (List ℕ)) (h more : List ℕ) → PutsPart w w h more
 part_kept w h more = part_of_put w w h (h ++ more) more (held_more w h (h ++ more) more refl)
 
--- one text behind another
+-- one text after another
 pub puts_on : (a b c : Option (List ℕ)) (h h' h'' m m' : List ℕ) → Puts a b h h' m → Puts b c h' h'' m' → Puts a c h h'' (m ++ m')
 puts_on a b c h h' h'' m m' p q = λ old text put. subst (IsPut old c h'') (append_assoc text m m') (q old (text ++ m) (p old text put))
 
@@ -48,7 +48,7 @@ part_on a c h m m' p = λ old text put.
       written = part.written;
     }
 
--- the same where nothing came behind
+-- the same where nothing came after
 pub puts_as : (a c : Option (List ℕ)) (h h' m m' : List ℕ) → m ≡ m' → Puts a c h h' m → Puts a c h h' m'
 puts_as a c h h' m m' is p = subst (Puts a c h h') is p
 

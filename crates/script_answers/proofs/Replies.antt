@@ -1,29 +1,29 @@
 -- The replies to commands, by what an engine does.
-use Rattle.std.proofs.Common.{◌≡◌, ℕ, ◌+◌, ◌-◌, ◌≤◌, ◌<◌, inl, inr, Bool, true, false, List, [], ◌∷◌, ◌++◌, map, length, refl, sym, ap, ◌∙◌, arith, append_assoc, append-nil, Option, None, Some, nat_lt, subst}
+use Rattle.std.proofs.Common.{◌≡◌, ℕ, ◌+◌, ◌-◌, ◌≤◌, ◌<◌, inl, Bool, true, false, List, [], ◌∷◌, ◌++◌, map, length, refl, sym, ap, ◌∙◌, arith, append_assoc, append-nil, Option, None, Some, nat_lt, subst}
 use Rattle.std.specs.List.{list_any}
 use Rattle.std.proofs.lemmas.Bool.Decides.{nat_tests}
-use Rattle.std.proofs.lemmas.List.{length-append, length-map}
+use Rattle.std.proofs.lemmas.List.{length-append}
 use Rattle.std.proofs.lemmas.List.Folds.{list_any-append}
 use Rattle.std.proofs.lemmas.Grind.{flat_map-append}
 use Rattle.gcl_model.specs.Extents.{Extent}
 use Rattle.gcl_model.specs.Limits.{address_end}
 use Rattle.gcl_model.specs.Tokens.{tokens_of}
-use Rattle.gcl_model.specs.Slots.{SlotRange, slot_range, slots_after_add, slots_after_merge}
-use Rattle.gcl_model.specs.Collections.{Collection, width_of, without_file, has_file}
+use Rattle.gcl_model.specs.Slots.{SlotRange, slot_range, slots_after_add}
+use Rattle.gcl_model.specs.Collections.{width_of, has_file}
 use Rattle.address_space.specs.Runs.{FileEntry}
-use Rattle.live_version.specs.Contents.{SlotContent, VersionContent, ranges_of, files_of}
+use Rattle.live_version.specs.Contents.{VersionContent, ranges_of, files_of}
 use Rattle.live_version.specs.Changes.{file_with_id}
-use Rattle.live_version.specs.StandsFor.{StandsFor, entry_of}
+use Rattle.live_version.specs.StandsFor.{StandsFor}
 use Rattle.live_version.proofs.PartLaws.{has_files}
 use Rattle.collection.specs.Engines.{EngineContent}
 use Rattle.collection.specs.Changes.{IsAdd}
 use Rattle.collection.specs.declared.engine.Added.{Added}
-use Rattle.script_lang.specs.Answers.{file_line, gone_line, interval_line, total_line, shards_line, merging_line, is_refusal}
+use Rattle.script_lang.specs.Answers.{file_line, gone_line, interval_line, total_line, is_refusal}
 use Rattle.script_lang.specs.declared.commands.Command.TheVariants.{Add}
 use Rattle.script_lang.specs.declared.refusals.Refusal.TheVariants.{TooLong, NoAddresses, NoFile}
 use Rattle.script_lang.proofs.AnswerLemmas.{interval_line-plain, total_line-plain, record_line-plain}
 use Rattle.script_answers.specs.States.{State, Keeps}
-use Rattle.script_answers.specs.Answers.{Reply, refusal_lines, unchanged, last_address, state_with_file, state_without_file, state_merged, content_reply, del_reply, list_lines, record_lines, files_lines, reply}
+use Rattle.script_answers.specs.Answers.{Reply, refusal_lines, unchanged, last_address, state_with_file, state_without_file, content_reply, del_reply, list_lines, record_lines, reply}
 use Rattle.script_lang.specs.Lines.{text_of_lines}
 use Rattle.script_answers.specs.Progress.{Says, Follows, Gives, StopsWithin}
 use Rattle.script_answers.specs.declared.limits.Limits.{Limits}

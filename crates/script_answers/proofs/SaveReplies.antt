@@ -1,15 +1,14 @@
 -- The replies to saving and opening, by what an engine and the files do.
-use Rattle.std.proofs.Common.{◌≡◌, ℕ, ◌+◌, ◌≤◌, ◌<◌, inl, inr, Bool, true, false, List, [], ◌∷◌, ◌++◌, length, bytes_eq, nat_lt, Option, None, Some, IfSome, refl, sym, ap, ◌∙◌, subst, arith}
+use Rattle.std.proofs.Common.{◌≡◌, ℕ, ◌+◌, ◌≤◌, ◌<◌, inl, inr, Bool, true, false, List, [], ◌∷◌, ◌++◌, length, bytes_eq, nat_lt, Option, None, Some, refl, sym, ap, ◌∙◌, subst, arith}
 use Rattle.std.specs.Option.{option_map}
 use Rattle.std.proofs.lemmas.Bool.{cases_Bool}
 use Rattle.std.proofs.lemmas.Bool.Decides.{nat_tests}
-use Rattle.std.proofs.lemmas.List.{length-append, length-map}
+use Rattle.std.proofs.lemmas.List.{length-map}
 use Rattle.std.proofs.lemmas.Slice.Eq.{bytes_eq-Decides}
-use Rattle.outside.specs.Contents.{Contents, BeginsContent, ChangesOnly, changed_at}
+use Rattle.outside.specs.Contents.{Contents, ChangesOnly, changed_at}
 use Rattle.gcl_model.specs.Limits.{most_file}
 use Rattle.gcl_model.specs.Tokens.{tokens_of}
 use Rattle.gcl_model.specs.Collections.{Collection, empty_from, with_file}
-use Rattle.gcl_model.proofs.Cases.{IfSome-at}
 use Rattle.address_space.proofs.CollectionLemmas.{adding_keeps_soundness}
 use Rattle.live_version.specs.Contents.{VersionContent, files_of, ranges_of}
 use Rattle.live_version.specs.Changes.{empty_version}
@@ -18,17 +17,17 @@ use Rattle.image_file.specs.Images.{CanBeSaved}
 use Rattle.image_file.proofs.Saving.{added_short, deleted_saves, start_saves}
 use Rattle.image_read.specs.Answers.{IsImageOf}
 use Rattle.collection.specs.Engines.{EngineContent, IsEngine}
-use Rattle.collection.specs.Changes.{Adopts, AddsFileTo, DeletesFileFrom, IsOpened}
+use Rattle.collection.specs.Changes.{Adopts, AddsFileTo, DeletesFileFrom}
 use Rattle.script_lang.specs.Answers.{saved_line, opened_line}
 use Rattle.script_lang.specs.declared.commands.Command.TheVariants.{Save, Load}
-use Rattle.script_lang.specs.declared.refusals.Refusal.TheVariants.{TooLong, NotEmpty, NotImage}
+use Rattle.script_lang.specs.declared.refusals.Refusal.TheVariants.{NotEmpty, NotImage}
 use Rattle.script_answers.specs.Images.{image_of, IsReading}
 use Rattle.script_answers.specs.States.{State, Keeps, IsFresh}
-use Rattle.script_answers.specs.Answers.{Reply, unchanged, refusal_lines, state_keeping, bytes_reply, reading_reply, image_reply, reply, after_reply, IsReadBy}
+use Rattle.script_answers.specs.Answers.{Reply, unchanged, refusal_lines, state_keeping, bytes_reply, reading_reply, reply}
 use Rattle.script_answers.specs.Progress.{Says, Follows, Gives, HoldsWithin, IsAt, StopsWithin}
 use Rattle.script_answers.specs.declared.limits.Limits.{Limits}
 use Rattle.script_answers.proofs.ImageLemmas.{reads, spelled_short, tokens_short}
-use Rattle.script_answers.proofs.Replies.{one_line, gives, tells, refused_follows}
+use Rattle.script_answers.proofs.Replies.{one_line, refused_follows}
 
 not_many : (limits : Limits) (state : State) (name bytes : List ℕ) → length bytes ≤ limits.image →
     bytes_reply limits state name bytes ≡ record { lines = saved_line (length bytes) ∷ []; after = state_keeping state name bytes }

@@ -17,7 +17,7 @@ use Rattle.gcl_model.specs.Tokens.{tokens_of}
 use Rattle.gcl_model.specs.Collections.{Collection, has_file, width_of}
 use Rattle.live_version.specs.Contents.{VersionContent}
 use Rattle.live_version.proofs.PartLaws.{both_empty}
-use Rattle.script_lang.specs.Lines.{Line, lines, text_of_lines}
+use Rattle.script_lang.specs.Lines.{Line, text_of_lines}
 use Rattle.script_lang.specs.Answers.{file_line, gone_line, is_refusal}
 use Rattle.script_lang.specs.Commands.{command_of}
 use Rattle.script_lang.specs.declared.commands.Command.{Command}
@@ -176,7 +176,7 @@ module _ (limits : Limits) where
         at = subst (IsAt held' after w') (sym (state_after-append start done batch)) step.at;
       }
 
-  -- what lines behind others open is read rightly
+  -- what lines after others open is read rightly
   read_behind : (start : State) (xs ys : List Line) → AreRead limits start (xs ++ ys) → AreRead limits (state_after limits start xs) ys
   read_behind start [] ys read = read
   read_behind start (x ∷ xs) ys read = read_behind (after_reply start (answer limits start x)) xs ys read.1
@@ -217,7 +217,7 @@ module _ (limits : Limits) where
   stops_further s o n now after (inl before_it) = let same = before_it.0 in omega (arith, same)
   stops_further s o n now after (inr after_it) = let same = after_it.0 in omega (arith, same)
 
-  -- a stop within a line, or behind it
+  -- a stop within a line, or after it
   pub line_stops : (s : State) (line : Line) (n now : ℕ) (kept : Type 0) (held : Option Contents) (after : EngineContent) (mid new : Option (List ℕ)) → StopsWithin s (answer limits s line) n now after →
       HoldsWithin s (answer limits s line) (names_kept_of_line line) n now kept held → GetsPart mid new (answer_text limits s line) → (n ≤ now) × IsStopped limits s (line ∷ []) (now - n) after.version kept held mid new
   line_stops s line n now kept held after mid new stop holds part = (stops_further s (answer limits s line) n now after stop, by_case stop (subst (λ l. GetsPart mid new (text_of_lines l)) (sym (one_more s line)) part))
@@ -245,7 +245,7 @@ module _ (limits : Limits) where
             exact = λ all_kept. holds.late after_it.0;
           })
 
-  -- a stop within a batch behind the first lines of a script
+  -- a stop within a batch after the first lines of a script
   pub stopped : (start : State) (all batch rest : List Line) (n i : ℕ) (kept : Type 0) (held held' : Option Contents) (before : EngineContent) (version : VersionContent) (w a : Bool) (old mid new : Option (List ℕ)) → n ≤ length all →
       drop n all ≡ batch ++ rest → HasCome limits start (take n all) held before w a old mid → IsStopped limits (state_after limits start (take n all)) batch i version kept held' mid new →
       IsStopped limits start all (n + i) version kept held' old new
@@ -283,7 +283,7 @@ module _ (limits : Limits) where
         exact = λ all_kept. stop.exact all_kept ∙ ap (λ (u : State). Some u.files) (sym state);
       }
 
-  -- the first lines of a script, and a stop within the batch behind them
+  -- the first lines of a script, and a stop within the batch after them
   pub stops_from : (all batch rest : List Line) (n m : ℕ) (kept : Type 0) (held held' : Option Contents) (before after : EngineContent) (w a : Bool) (mid new : Option (List ℕ)) → n ≤ length all → drop n all ≡ batch ++ rest →
       ((s : State) → IsAt held before w s → AreRead limits s (batch ++ rest) → (n ≤ m) × IsStopped limits s batch (m - n) after.version kept held' mid new) → StopsFrom limits all n m kept held held' before after w a mid new
   stops_from all batch rest n m kept held held' before after w a mid new within cut stop = λ start old read come.
@@ -299,7 +299,7 @@ module _ (limits : Limits) where
       let here = further start old read come in
       stopped_here start all m kept held' after after.version w' b old new within here here.at.keeps.stands
 
-  -- a stop where nothing came behind the first lines of a script
+  -- a stop where nothing came after the first lines of a script
   pub stays : (all : List Line) (n : ℕ) (kept : Type 0) (held : Option Contents) (engine : EngineContent) (w a : Bool) (mid : Option (List ℕ)) → n ≤ length all → StopsFrom limits all n n kept held held engine engine w a mid mid
   stays all n kept held engine w a mid within = λ start old read come. stopped_here start all n kept held engine engine.version w a old mid within come come.at.keeps.stands
 
@@ -364,26 +364,6 @@ module _ (limits : Limits) where
   pub unsaved_held : (s : State) (line : Line) (before now : Option Contents) (engine : EngineContent) (w : Bool) → names_kept_of_line line ≡ [] → IsAt before engine w s → now ≡ before →
       now ≡ Some (after_reply s (answer limits s line)).files
   unsaved_held s line before now engine w none at same = same ∙ at.files ∙ ap Some (sym (answer_files s line none))
-
-  -- after any command
-  pub command_held : (s : State) (command : Command) (before now : Option Contents) (engine : EngineContent) (w : Bool) → IsAt before engine w s → (names_kept command ≡ [] → now ≡ before) →
-      ((name : List ℕ) → command ≡ Save name → now ≡ Some (after_reply s (reply limits s (Save name))).files) → now ≡ Some (after_reply s (reply limits s command)).files
-  command_held s command before now engine w at same saved = by_command command (λ none. same none ∙ at.files ∙ ap Some (sym (reply_files s command none))) saved
-    where
-      by_command : (c : Command) → (names_kept c ≡ [] → now ≡ Some (after_reply s (reply limits s c)).files) → ((name : List ℕ) → c ≡ Save name → now ≡ Some (after_reply s (reply limits s (Save name))).files) →
-          now ≡ Some (after_reply s (reply limits s c)).files
-      by_command Blank same saved = same refl
-      by_command (Add name) same saved = same refl
-      by_command (Del id) same saved = same refl
-      by_command (Find query) same saved = same refl
-      by_command (Count query) same saved = same refl
-      by_command (Top n query) same saved = same refl
-      by_command Files same saved = same refl
-      by_command Merge same saved = same refl
-      by_command Shards same saved = same refl
-      by_command (Save name) same saved = saved name refl
-      by_command (Load name) same saved = same refl
-      by_command Wrong same saved = same refl
 
   -- after any command that was not answered
   pub command_held_err : (s : State) (command : Command) (n m : ℕ) (kept : Type 0) (before now : Option Contents) (engine : EngineContent) (w : Bool) (fault : FileError) → IsAt before engine w s → (names_kept command ≡ [] → now ≡ before) →

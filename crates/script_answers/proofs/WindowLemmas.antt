@@ -1,4 +1,4 @@
--- Queries that are put off: what is owed while lines behind them are done, and what is written in the end.
+-- Queries that are put off: what is owed while lines after them are done, and what is written in the end.
 use Rattle.std.proofs.Common.{◌≡◌, ℕ, ◌+◌, ◌-◌, ◌≤◌, ◌<◌, inl, inr, Bool, true, false, List, [], ◌∷◌, ◌++◌, length, map, take, drop, get_or, zero, suc, refl, sym, ap, ◌∙◌, append_assoc, append-nil, Option, Some, IsSome, subst, arith, take-add, take_all, length-append}
 use Rattle.std.specs.Prelude.{◌||◌, flat_map, Result, Ok, Err, is_err}
 use Rattle.std.specs.List.{list_any}
@@ -31,7 +31,7 @@ use Rattle.script_answers.specs.Batches.{AreAsked, Begins, ask_lines, expr_lines
 use Rattle.script_answers.specs.Pages.{Puts, PutsPart}
 use Rattle.script_answers.specs.Progress.{ComesOn, GoesOn, HasCome, IsAt, StopsFrom, WhoseLines, lines_of}
 use Rattle.script_answers.specs.Stopped.{GetsPart, IsStopped}
-use Rattle.script_answers.specs.Windows.{AnswersWindow, ComesOver, DoesOn, GoesOver, HaltsFrom, HaltsOver, HaltsWriting, HasDone, IsHalted, IsPaired, PutsOff, PutsOffBehind, StopsOver, StopsWindow, WritesOn, ask_text, asks_refuse, asks_text, fronted, window_text}
+use Rattle.script_answers.specs.Windows.{AnswersWindow, ComesOver, DoesOn, GoesOver, HaltsFrom, HaltsOver, HaltsWriting, HasDone, IsHalted, IsPaired, PutsOffBehind, StopsOver, StopsWindow, WritesOn, ask_text, asks_refuse, asks_text, fronted, window_text}
 use Rattle.script_answers.specs.declared.limits.Limits.{Limits}
 use Rattle.script_answers.specs.declared.window.Window.{Window}
 use Rattle.script_answers.proofs.BatchLemmas.{batch_answered, batch_length, batch_lines, batch_read, batch_state}
@@ -79,7 +79,7 @@ fronted_next text i n fronts asks front ask count same lt is is' =
     let next : suc i ≡ n = omega (arith, count) in
     fronted_step text i fronts asks front ask (omega (arith, same, lt)) lt is is' ∙ ap (λ (k : ℕ). fronted text (take k fronts) (take k asks)) next
 
--- the text of one query, and of those behind it
+-- the text of one query, and of those after it
 pub asks_text-cons : (text : Text) (ask : Ask) (asks : List Ask) → asks_text text (ask ∷ asks) ≡ ask_text text ask ++ asks_text text asks
 asks_text-cons text ask asks = flat_map-append _ (ask_lines text ask) (flat_map (ask_lines text) asks)
 
@@ -88,21 +88,7 @@ abbrev pub KeepsAll : EngineContent → EngineContent → Bool → Type 0
 KeepsAll before after w = (state : State) → Keeps before w state → Keeps after false state
 
 module _ (limits : Limits) where
-  -- a window that has nothing owes nothing
-  pub none_owed : (start : State) (done : List Line) (held : Option Contents) (engine : EngineContent) (w r : Bool) (window : Window) (old now : Option (List ℕ)) → ((text : Text) → window_text text window ≡ []) →
-      HasCome limits start done held engine w r old now → PutsOff limits start done held engine w r window old now
-  none_owed start done held engine w r window old now none come = λ text. record {
-    answered = come.are.answered;
-    refusal_is = come.are.refusal_is;
-    put = record {
-      part = text_of_lines (answers limits start done);
-      whole = sym (append-nil _) ∙ ap (λ l. text_of_lines (answers limits start done) ++ l) (sym (none text));
-      written = come.are.written;
-    };
-    at = come.at;
-  }
-
-  -- more lines are done, and their answers are owed behind the others
+  -- more lines are done, and their answers are owed after the others
   pub done_more : (start : State) (done more : List Line) (held held' : Option Contents) (before after : EngineContent) (w w' a b : Bool) (owed owed' : List ℕ) (old now : Option (List ℕ)) →
       HasDone limits start done held before w a owed old now → AllAnswered limits (state_after limits start done) more →
       IsAt held' after w' (state_after limits (state_after limits start done) more) → b ≡ (a || list_any is_refusal (answers limits (state_after limits start done) more)) →
@@ -123,7 +109,7 @@ module _ (limits : Limits) where
         at = subst (IsAt held' after w') (sym (state_after-append limits start done more)) at;
       }
 
-  -- it ended where the first lines were done, or behind them
+  -- it ended where the first lines were done, or after them
   pub halted_behind : (start : State) (all : List Line) (k j : ℕ) (held held' : Option Contents) (engine : EngineContent) (version : VersionContent) (w a : Bool) (owed : List ℕ) (old now : Option (List ℕ)) →
       HasDone limits start (take k all) held engine w a owed old now → k ≤ j → j ≤ length all → StandsFor version (state_after limits start (take j all)).collection →
       held' ≡ Some (state_after limits start (take j all)).files → IsHalted limits start all j version held' old now
@@ -170,7 +156,7 @@ module _ (limits : Limits) where
     exact = λ all_kept. halted.files;
   }
 
-  -- queries, and a line behind them
+  -- queries, and a line after them
   module _ (s : State) (asks : List Ask) (batch : List Line) (line : Line) (are : AreAsked asks batch) where
     over_state : state_after limits s (batch ++ line ∷ []) ≡ after_reply s (answer limits s line)
     over_state = state_after-append limits s batch (line ∷ []) ∙ ap (λ (u : State). after_reply u (answer limits u line)) (batch_state limits s asks batch are)
@@ -187,7 +173,7 @@ module _ (limits : Limits) where
         all_answered-append limits s batch (line ∷ []) (batch_answered limits s asks batch are)
         (subst (λ (u : State). AllAnswered limits u (line ∷ [])) (sym (batch_state limits s asks batch are)) (some, tt))
 
-  -- what the line behind a batch opens is read rightly
+  -- what the line after a batch opens is read rightly
   read_over : (start : State) (n : ℕ) (all batch rest : List Line) (line : Line) (asks : List Ask) → AreAsked asks batch → drop n all ≡ batch ++ line ∷ rest → AreRead limits start all →
       IsRead (state_after limits start (take n all)) line
   read_over start n all batch rest line asks are cut read =
@@ -199,7 +185,7 @@ module _ (limits : Limits) where
       let place : m ≡ n + length (batch ++ line ∷ []) = omega (arith, long, count) in
       ap (λ (k : ℕ). take k all) place ∙ take_more n all (batch ++ line ∷ []) rest (cut ∙ sym (append_assoc batch (line ∷ []) rest))
 
-  -- queries were put off, and the line behind them was done
+  -- queries were put off, and the line after them was done
   pub over_does : (all batch rest : List Line) (line : Line) (asks : List Ask) (n m : ℕ) (held : Option Contents) (before after : EngineContent) (w w' a r : Bool) (window window' : Window) →
       drop n all ≡ batch ++ line ∷ rest → AreAsked asks batch → m ≡ n + length asks + 1 → names_kept_of_line line ≡ [] →
       ((s : State) → IsAt held before w s → IsRead s line → GoesOver limits s asks line after w' r window window') → DoesOn limits all n m held before after w w' a (a || r) window window'
@@ -228,7 +214,7 @@ module _ (limits : Limits) where
       let d = off (text_of s.collection) in
       by_case front start old now off (stop s d.at (read_over start n all batch rest line asks are cut read))
     where
-      -- with the batch, and with the line behind it
+      -- with the batch, and with the line after it
       ends : n + length asks + 1 ≤ length all
       ends =
           let long : length (batch ++ line ∷ []) ≡ length asks + 1 = length-append batch (line ∷ []) ∙ ap (λ (k : ℕ). k + 1) (batch_length asks batch are) in
@@ -268,11 +254,6 @@ module _ (limits : Limits) where
   does_halts all n m held before after w w' a b window window' within does = λ front start old now read off.
       halted_here start all m held after w' b _ old now within (does front start old now read off (text_of start.collection))
 
-  -- nothing is put off yet
-  pub over_none : (ahead : List Line) (n : ℕ) (held : Option Contents) (engine : EngineContent) (w a : Bool) (mid : Option (List ℕ)) (window : Window) → ((text : Text) → window_text text window ≡ []) →
-      WhoseLines ahead n (λ all. ComesOver limits all n n held engine engine w w a a mid mid window)
-  over_none ahead n held engine w a mid window none = λ all rest within cut start old read come. none_owed start (take n all) held engine w a window old mid none come
-
   module _ (ahead mid : List Line) (n k : ℕ) (held : Option Contents) (e f : EngineContent) (w x r s : Bool) (old now : Option (List ℕ)) (window : Window) (goes : GoesOn ahead mid n k)
       (come : WhoseLines ahead n (λ all. ComesOver limits all n k held e f w x r s old now window)) where
     -- some lines more
@@ -294,7 +275,7 @@ module _ (limits : Limits) where
         let there = behind ahead mid all rest n k goes within cut in
         halted_here start all k held f x s _ from now there.0 (come all rest within cut start from read here (text_of start.collection))
 
-    -- the window and the batch behind it are answered
+    -- the window and the batch after it are answered
     pub window_comes : (asks : List Ask) (left : List Line) (m : ℕ) (h : EngineContent) (y t : Bool) (new : Option (List ℕ)) → Begins asks mid left → m ≡ k + length asks →
         AnswersWindow window asks f h x y t now new → WhoseLines ahead n (λ all. ComesOn limits all n m held held e h w y r (s || t) old new)
     window_comes asks left m h y t new begins count answered = λ all rest within cut start from read here.
@@ -328,7 +309,7 @@ module _ (limits : Limits) where
   halts_stop all n m kept held held' before after w a mid new same halts = λ start old read come.
       subst (λ (h : Option Contents). IsStopped limits start all m after.version kept h old new) (sym same) (halted_stops start all m after.version kept held old new (halts start old read come))
 
--- the queries of a window, and those behind it, were answered on an engine that keeps the state
+-- the queries of a window, and those after it, were answered on an engine that keeps the state
 module _ (window : Window) (asks : List Ask) (before after : EngineContent) (w : Bool) (mid new : Option (List ℕ)) (keeps : KeepsAll before after w) where
   pub window_answers : (refusal : Bool) → refusal ≡ asks_refuse (version_text after.version) asks → Appends mid new (window_text (version_text after.version) window ++ asks_text (version_text after.version) asks) →
       AnswersWindow window asks before after w false refusal mid new
@@ -355,7 +336,7 @@ module _ (window : Window) (asks : List Ask) (before after : EngineContent) (w :
         at = subst (IsAt held after false) (sym same) (record { files = d.at.files; keeps = kept });
       }
 
-  -- so many of the lines behind the window are completed, and a part was written
+  -- so many of the lines after the window are completed, and a part was written
   pub window_stops : (i : ℕ) → i ≤ length asks → GetsPart mid new (window_text (version_text after.version) window ++ asks_text (version_text after.version) (take (i + 1) asks)) →
       StopsWindow window asks i before after w mid new
   window_stops i few part = λ limits held start done batch r old are off.
@@ -431,7 +412,7 @@ owes_one text there old new ask late paired fronts asks tail lines =
     ∙ ap (λ l. fronted text old.fronts.items old.asks.items ++ (old.tail.items ++ text_of_lines l)) lines
     ∙ sym (append_assoc (fronted text old.fronts.items old.asks.items) old.tail.items (ask_text there ask))
 
--- and those behind it are left
+-- and those after it are left
 pub owes_next : (text there : Text) (old mid new : Window) (ask : Ask) (rest all : List Ask) → window_text text new ≡ window_text text mid ++ ask_text there ask →
     window_text text mid ++ asks_text there (ask ∷ rest) ≡ window_text text old ++ asks_text there all → window_text text new ++ asks_text there rest ≡ window_text text old ++ asks_text there all
 owes_next text there old mid new ask rest all one before =
@@ -484,7 +465,7 @@ none_right f xs i is =
     let long : 0 ≡ length xs - i = ap length is ∙ length-map (drop i xs) f ∙ length-drop i xs in
     omega (arith, long)
 
--- all answers of a window, and what is behind them
+-- all answers of a window, and what is after them
 pub window_all : (text : Text) (a b : Option (List ℕ)) (h h' h'' : List ℕ) (fronts : List (List ℕ)) (asks : List Ask) (tail : List ℕ) (i : ℕ) → length fronts ≡ length asks → length asks ≤ i →
     Puts a b h h' (fronted text (take i fronts) (take i asks)) → h'' ≡ h' ++ tail → Puts a b h h'' (fronted text fronts asks ++ tail)
 window_all text a b h h' h'' fronts asks tail i same past before more =
@@ -500,7 +481,7 @@ whole_part a c text written = record { part = text; rest = []; whole = sym (appe
 pub all_asked : (text : Text) (asks : List Ask) (n m : ℕ) → m ≡ n + length asks → asks_text text asks ≡ asks_text text (take (m - n + 1) asks)
 all_asked text asks n m count = ap (asks_text text) (sym (take_all (m - n + 1) asks (omega (arith, count))))
 
--- where some lines have no name, neither has the one behind a part of them
+-- where some lines have no name, neither has the one after a part of them
 pub no_name_behind : (f : Line → List (List ℕ)) (ahead batch left : List Line) (line : Line) → ahead ≡ batch ++ line ∷ left → flat_map f ahead ≡ [] → f line ≡ []
 no_name_behind f ahead batch left line is none =
     let split : flat_map f batch ++ (f line ++ flat_map f left) ≡ [] = sym (flat_map-append f batch (line ∷ left)) ∙ ap (flat_map f) (sym is) ∙ none in

@@ -66,7 +66,7 @@ AreAsked [] [] = ⊤
 AreAsked (ask ∷ asks) (line ∷ lines) = AsksLine ask line × AreAsked asks lines
 AreAsked _ _ = ⊥
 
--- some lines begin with a batch, whose queries these are, and the rest stands behind it
+-- some lines begin with a batch, whose queries these are, and the rest comes after it
 pub record Begins (asks : List Ask) (all rest : List Line) : Type 0 where
   pub batch : List Line
   pub whole : all ≡ batch ++ rest
@@ -76,7 +76,7 @@ pub record Begins (asks : List Ask) (all rest : List Line) : Type 0 where
 abbrev pub BeginsAt : ℕ → List ℕ → ℕ → Batch → Type 0
 BeginsAt most script at batch = Begins batch.asks.items (lines most (drop at script)) (lines most (drop batch.after script))
 
--- the line at this place of a text asks the query, and the line behind it begins where the answer says
+-- the line at this place of a text asks the query, and the line after it begins where the answer says
 pub record IsNextAsk (most : ℕ) (text : List ℕ) (at : ℕ) (next : NextAsk) : Type 0 where
   pub line : Line
   pub first : lines most (drop at text) ≡ line ∷ lines most (drop next.after text)

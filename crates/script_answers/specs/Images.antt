@@ -13,7 +13,7 @@ use Rattle.image_file.specs.Fields.{image_bytes}
 use Rattle.image_file.specs.Images.{Spells, fields_of}
 use Rattle.image_read.specs.Answers.{IsNoImage}
 
--- a token put before the first of some others, in place of it, or behind it
+-- a token put before the first of some others, in place of it, or after it
 abbrev pub token_by : Ordering → List ℕ → List ℕ → (others behind : List (List ℕ)) → List (List ℕ)
 token_by Less token first others behind = token ∷ first ∷ others
 token_by Equal token first others behind = first ∷ others

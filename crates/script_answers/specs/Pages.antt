@@ -39,10 +39,10 @@ pub record IsPut (old new : Option (List ℕ)) (held text : List ℕ) : Type 0 w
   pub whole : text ≡ part ++ held
   pub written : Appends old new part
 
--- a text was put behind whatever was put before
+-- a text was put after whatever was put before
 abbrev pub Puts : Option (List ℕ) → Option (List ℕ) → List ℕ → List ℕ → List ℕ → Type 0
 Puts before now held held' more = (old : Option (List ℕ)) (text : List ℕ) → IsPut old before held text → IsPut old now held' (text ++ more)
 
--- of a text that was to be put behind whatever was put before the sink got a beginning
+-- of a text that was to be put after whatever was put before the sink got a beginning
 abbrev pub PutsPart : Option (List ℕ) → Option (List ℕ) → List ℕ → List ℕ → Type 0
 PutsPart before now held more = (old : Option (List ℕ)) (text : List ℕ) → IsPut old before held text → GetsPart old now (text ++ more)

@@ -86,7 +86,7 @@ line_at_hand line = record { long = line.long; bytes = line.bytes.now }
 abbrev pub lines_from : ℕ → List ℕ → ℕ → List Line
 lines_from most script at = lines most (drop at script)
 
--- of the lines from a place on the first is the one that is cut there, and the others follow behind the cut
+-- of the lines from a place on the first is the one that is cut there, and the others follow after the cut
 abbrev pub ComesNext : ℕ → List ℕ → ℕ → LineCut → Type 0
 ComesNext most script at cut = lines_from most script at ≡ line_of_cut script cut ∷ lines_from most script cut.after
 

@@ -1,4 +1,4 @@
--- For proofs alone: queries that are put off while lines behind them are done. No clause of `serve` or `run` in `query_run` speaks of these.
+-- For proofs alone: queries that are put off while lines after them are done. No clause of `serve` or `run` in `query_run` speaks of these.
 use Rattle.std.specs.Prelude.{◌≡◌, Bool, ℕ, ◌+◌, ◌||◌, ◌≤◌, ◌<◌, ◌⊎◌, List, [], ◌∷◌, ◌++◌, length, take, flat_map, Option, Some}
 use Rattle.std.specs.List.{list_any}
 use Rattle.outside.specs.Contents.{Contents}
@@ -37,17 +37,17 @@ asks_text text asks = text_of_lines (flat_map (ask_lines text) asks)
 abbrev pub asks_refuse : Text → List Ask → Bool
 asks_refuse text asks = list_any is_refusal (flat_map (ask_lines text) asks)
 
--- texts, and behind each the answer to a query
+-- texts, and after each the answer to a query
 abbrev pub fronted : Text → List (List ℕ) → List Ask → List ℕ
 fronted text [] asks = []
 fronted text (front ∷ fronts) [] = []
 fronted text (front ∷ fronts) (ask ∷ asks) = (front ++ ask_text text ask) ++ fronted text fronts asks
 
--- the answers to some queries, each behind its text, and a text behind the last
+-- the answers to some queries, each after its text, and a text after the last
 abbrev pub waiting_text : Text → List (List ℕ) → List ℕ → List Ask → List ℕ
 waiting_text text fronts tail asks = fronted text fronts asks ++ tail
 
--- what a window has to write: the answers to its queries, each behind its text, and the text behind the last
+-- what a window has to write: the answers to its queries, each after its text, and the text after the last
 abbrev pub window_text : Text → Window → List ℕ
 window_text text window = waiting_text text window.fronts.items window.tail.items window.asks.items
 
@@ -134,7 +134,7 @@ abbrev pub Halts : Limits → List Line → Stand → Stand → Option (List ℕ
 Halts limits ahead before after mid new = WhoseLines ahead before.completed (λ all.
     HaltsFrom limits all before.completed after.completed before.held before.engine after.engine before.wanted before.refused mid new)
 
--- A run is ready to do the line behind a batch at hand: the batch begins at its place, each query of the window in front is put off, and
+-- A run is ready to do the line after a batch at hand: the batch begins at its place, each query of the window in front is put off, and
 -- the counts are in range
 pub record IsReady (limits : Limits) (script : List ℕ) (now : Stand) (at asked : ℕ) (window : Window) (batch : Batch) : Type 0 where
   pub begins : BeginsAt limits.line script at batch
@@ -157,7 +157,7 @@ pub record GoesFurther (limits : Limits) (script : List ℕ) (before after : Sta
   pub counted : after.completed + from ≤ before.completed + to
   pub ready : IsReady limits script after to asked window batch
 
--- queries were put off and the line behind them was done, and what is written later has their answers and its reply
+-- queries were put off and the line after them was done, and what is written later has their answers and its reply
 pub record GoesOver (limits : Limits) (state : State) (asks : List Ask) (line : Line) (engine : EngineContent) (wanted refusal : Bool) (before after : Window) : Type 0 where
   pub reply : Reply
   pub is : answer limits state line ≡ Some reply
@@ -165,17 +165,17 @@ pub record GoesOver (limits : Limits) (state : State) (asks : List Ask) (line : 
   pub refusal_is : refusal ≡ (asks_refuse (text_of state.collection) asks || list_any is_refusal reply.lines)
   pub owes : (text : Text) → window_text text after ≡ (window_text text before ++ asks_text (text_of state.collection) asks) ++ text_of_lines reply.lines
 
--- it ended before the queries were put off, or else within the line behind them, and then they are completed
+-- it ended before the queries were put off, or else within the line after them, and then they are completed
 abbrev pub StopsOver : Limits → State → List Ask → Line → ℕ → ℕ → EngineContent → Type 0
 StopsOver limits state asks line before now engine =
     ((now ≡ before) × StandsFor engine.version state.collection) ⊎ StopsWithin state (answer limits state line) (before + length asks) now engine
 
--- the queries of a window and those behind it are answered, and the files are as they were
+-- the queries of a window and those after it are answered, and the files are as they were
 abbrev pub AnswersWindow : Window → List Ask → EngineContent → EngineContent → Bool → Bool → Bool → Option (List ℕ) → Option (List ℕ) → Type 0
 AnswersWindow window asks before after w w' refusal mid new = (limits : Limits) (held : Option Contents) (start : State) (done batch : List Line) (r : Bool) (old : Option (List ℕ)) → AreAsked asks batch →
     PutsOff limits start done held before w r window old mid → HasCome limits start (done ++ batch) held after w' (r || refusal) old new
 
--- it ended while they were answered, when so many of the lines behind the window were completed
+-- it ended while they were answered, when so many of the lines after the window were completed
 abbrev pub StopsWindow : Window → List Ask → ℕ → EngineContent → EngineContent → Bool → Option (List ℕ) → Option (List ℕ) → Type 0
 StopsWindow window asks completed before after w mid new = (limits : Limits) (held : Option Contents) (start : State) (done batch : List Line) (r : Bool) (old : Option (List ℕ)) → AreAsked asks batch →
     PutsOff limits start done held before w r window old mid → IsHalted limits start (done ++ batch) (length done + completed) after.version held old new

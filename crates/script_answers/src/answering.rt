@@ -1,4 +1,4 @@
-//! Queries that were put off are answered, and those behind them.
+//! Queries that were put off are answered, and those after them.
 ghost use Rattle.std.specs.Prelude.{◌≡◌, ◌+◌, ◌-◌, ◌≤◌, ◌<◌, [], ℕ, IfOk, OnOk, length};
 ghost use Rattle.gcl_model.specs.Limits.{far, merge_end, most_readers, most_script};
 ghost use Rattle.image_file.specs.Images.{CanBeSaved};
@@ -23,7 +23,7 @@ use query_lanes::{Ask, Work, answer_batch};
 use std::sync::Wait;
 use std::thread::Threads;
 
-/// Answers the queries of a window and those behind it, beside the merge that is wanted, if one is, and writes all that is to be written.
+/// Answers the queries of a window and those after it, beside the merge that is wanted, if one is, and writes all that is to be written.
 fn serve_window<R: Threads + Wait + Sync, K: Sink, G: Gate + Sync>(
     setting: &Setting<R, G>,
     out: &mut Vec<u8>,
@@ -85,8 +85,8 @@ fn serve_window<R: Threads + Wait + Sync, K: Sink, G: Gate + Sync>(
     Ok(refused)
 }
 
-/// Answers a batch that begins at the line at hand. Lines behind it that ask nothing are done first, where the queries can be put off, and those
-/// behind these are answered together with them.
+/// Answers a batch that begins at the line at hand. Lines after it that ask nothing are done first, where the queries can be put off, and those
+/// after these are answered together with them.
 pub(crate) fn serve_queries<R: Threads + Wait + Sync, F: Files, K: Sink, G: Gate + Sync>(
     setting: &Setting<R, G>,
     files: &mut F,

@@ -8,16 +8,16 @@ use query_lanes::{Ask, Asked};
 use script_lang::{Command, command, line_at};
 use std::alloc::{AllocError, Global};
 
-/// Queries of consecutive lines, and the place in the script behind them.
+/// Queries of consecutive lines, and the place in the script after them.
 #[derive(Drop)]
 pub struct Batch {
     /// The queries in the order of their lines, those that are refused among them.
     pub asks: Vec<Ask>,
-    /// Where the line behind the last one begins.
+    /// Where the line after the last one begins.
     pub after: usize,
 }
 
-/// The query of a line, and where the line behind it begins.
+/// The query of a line, and where the line after it begins.
 #[derive(Drop)]
 pub(crate) struct NextAsk {
     pub ask: Ask,
@@ -75,7 +75,7 @@ fn next_ask(
 /// The longest run of lines that are queries from a place of the script on, cut after `most` of them. `number` says which query of the run
 /// the first one is, counted from 1. Where the line at the place is none the batch is empty.
 ///
-/// Of `find "to"`, `count "be"`, `files`, each on a line, the batch from 0 on has two queries, and the place behind them is that of `files`.
+/// Of `find "to"`, `count "be"`, `files`, each on a line, the batch from 0 on has two queries, and the place after them is that of `files`.
 pub fn take_batch(
     alloc: Global,
     script: &[u8],

@@ -265,7 +265,7 @@ fn turn<R: Threads + Wait + Sync, F: Files, K: Sink, G: Gate + Sync>(
     Ok(())
 }
 
-/// Whether the queries of a window are answered before the line behind the queries at hand is done.
+/// Whether the queries of a window are answered before the line after the queries at hand is done.
 fn is_turned<R, G>(
     setting: &Setting<R, G>,
     opened: &Opened,
@@ -279,7 +279,7 @@ fn is_turned<R, G>(
     is_enough && window.may_be_turned(engine.version(), wanted, opened.readers.len())
 }
 
-/// Whether the line behind the queries at hand is done before these are answered.
+/// Whether the line after the queries at hand is done before these are answered.
 pub(crate) fn is_gone_on<R, G>(
     setting: &Setting<R, G>,
     opened: &Opened,
@@ -291,7 +291,7 @@ pub(crate) fn is_gone_on<R, G>(
         || is_turned(setting, opened, wanted, window, batch)
 }
 
-/// Does the line behind the queries at hand, which are put off, for the window or for the next one.
+/// Does the line after the queries at hand, which are put off, for the window or for the next one.
 pub(crate) fn go_further<R: Threads + Wait + Sync, F: Files, K: Sink, G: Gate + Sync>(
     setting: &Setting<R, G>,
     files: &mut F,

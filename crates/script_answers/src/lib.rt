@@ -5,12 +5,12 @@
 //! `merge_wanted`. It relies on this: wherever some lines stand in a script, where those before them were answered, these are answered too, whatever
 //! merges were asked for; and where a call ends early, some number of them is completed, each as a whole.
 //!
-//! Queries in a row are a batch. Lines behind it that save and open nothing may be done before its queries are answered, each query then on
-//! the version that it was put off on; so one batch, and one merge beside it, may answer the queries of many lines. What is written is in the
-//! order of the lines.
+//! Queries in a row are a batch. Lines after it that save and open nothing may be done before its queries are answered,
+//! each query then on the version that it was put off on; so one batch, and one merge beside it, may answer the queries
+//! of many lines. What is written is in the order of the lines.
 //!
-//! The lines `add a`, `find "to"`, where `a` is `to be or not to be`, are answered `file 0 0 7`, `1 1`, `5 5`, `= 2`, and leave a collection of one
-//! file in one slot, 0 to 7.
+//! The lines `add a`, `find "to"`, where `a` is `to be or not to be`, are answered `file 0 0 7`, `1 1`, `5 5`, `= 2`,
+//! and leave a collection of one file in one slot, 0 to 7.
 #![tactic(auto)]
 
 mod answering;

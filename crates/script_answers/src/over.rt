@@ -47,7 +47,7 @@ fn is_gone_over(alloc: Global, line: &[u8]) -> Result<bool, AllocError>
     }
 }
 
-/// The line at a place behind some queries, where it may be done before these are answered.
+/// The line at a place after some queries, where it may be done before these are answered.
 fn line_over(
     alloc: Global,
     script: &[u8],
@@ -69,7 +69,7 @@ fn line_over(
     Ok(None)
 }
 
-/// Puts queries off, does the line behind them, and keeps its answer. The queries are completed once they are put off, the line as any other.
+/// Puts queries off, does the line after them, and keeps its answer. The queries are completed once they are put off, the line as any other.
 fn go_over<R: Wait, F: Files, G: Gate>(
     setting: &Setting<R, G>,
     out: &mut Vec<u8>,
@@ -128,7 +128,7 @@ fn go_over<R: Wait, F: Files, G: Gate>(
     Ok(refused | refused_here)
 }
 
-/// Does the line behind a batch, whose queries are put off, and takes the batch behind it.
+/// Does the line after a batch, whose queries are put off, and takes the batch after it.
 fn go_on<R: Wait, F: Files, G: Gate>(
     setting: &Setting<R, G>,
     files: &mut F,
@@ -206,7 +206,7 @@ fn go_on<R: Wait, F: Files, G: Gate>(
     Ok(next)
 }
 
-/// Does the line behind the batch at hand, and has the batch behind that line at hand instead. Nothing is written, and what is to be written is in
+/// Does the line after the batch at hand, and has the batch after that line at hand instead. Nothing is written, and what is to be written is in
 /// the window.
 pub(crate) fn advance<R: Wait, F: Files, G: Gate>(
     setting: &Setting<R, G>,
@@ -255,7 +255,7 @@ pub(crate) fn advance<R: Wait, F: Files, G: Gate>(
     Ok(())
 }
 
-/// Whether a window takes the line behind the queries at hand too.
+/// Whether a window takes the line after the queries at hand too.
 pub(crate) fn is_open<R, G>(
     setting: &Setting<R, G>,
     engine: &Engine,
@@ -267,7 +267,7 @@ pub(crate) fn is_open<R, G>(
     count < setting.limits.batch as usize && window.has_room(engine.version(), wanted)
 }
 
-/// The line behind some queries at hand, where it may be done before they are answered, if that is wanted.
+/// The line after some queries at hand, where it may be done before they are answered, if that is wanted.
 pub(crate) fn next_over<R, G>(
     setting: &Setting<R, G>,
     script: &[u8],
@@ -287,7 +287,7 @@ pub(crate) fn next_over<R, G>(
     Ok(cut)
 }
 
-/// Whether a window that is filled beside another takes the line behind the queries at hand too.
+/// Whether a window that is filled beside another takes the line after the queries at hand too.
 fn is_filled_on<R, G>(
     setting: &Setting<R, G>,
     engine: &Engine,
@@ -299,7 +299,7 @@ fn is_filled_on<R, G>(
         && is_open(setting, engine, wanted, window, batch)
 }
 
-/// Fills a window on, as long as it is open: the queries at hand are put off, and the line behind them is done.
+/// Fills a window on, as long as it is open: the queries at hand are put off, and the line after them is done.
 fn fill_on<R: Wait, F: Files, G: Gate>(
     setting: &Setting<R, G>,
     files: &mut F,
@@ -344,7 +344,7 @@ fn fill_on<R: Wait, F: Files, G: Gate>(
     Ok(())
 }
 
-/// Fills a window with the queries at hand, the line behind them, and what comes behind that.
+/// Fills a window with the queries at hand, the line after them, and what comes after that.
 pub(crate) fn fill<R: Wait, F: Files, G: Gate>(
     setting: &Setting<R, G>,
     files: &mut F,

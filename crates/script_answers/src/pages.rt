@@ -62,7 +62,7 @@ fn page_most(asked: Asked, put: u64) -> u64
     }
 }
 
-/// The page behind the one that was put last, and None where that was not full: then no more members are asked for or there. So many
+/// The page after the one that was put last, and None where that was not full: then no more members are asked for or there. So many
 /// were put in all.
 fn page_after(
     alloc: Global,

@@ -18,7 +18,7 @@ use outside::Sink;
 use query_lanes::{Ask, Found};
 use std::alloc::Global;
 
-/// Puts the answers to queries that were put off, each behind the text in front of it, and then the text behind the last. Their lines are
+/// Puts the answers to queries that were put off, each after the text in front of it, and then the text after the last. Their lines are
 /// completed already, and their refusals seen.
 fn put_window<K: Sink>(
     alloc: Global,
@@ -80,7 +80,7 @@ fn put_answers<K: Sink>(
     Ok(refused)
 }
 
-/// Writes the answers to the queries of a window, and then those to the batch behind it; says whether a refusal is among the latter.
+/// Writes the answers to the queries of a window, and then those to the batch after it; says whether a refusal is among the latter.
 pub(crate) fn write_answers<K: Sink>(
     alloc: Global,
     out: &mut Vec<u8>,

@@ -146,8 +146,8 @@ fn serve_some<R: Threads + Wait + Sync, F: Files, K: Sink, G: Gate + Sync>(
     Ok(())
 }
 
-/// Answers the lines of some bytes, one after the other, and hands each answer to the sink before the line behind it is done. Queries in a row are
-/// answered in batches by the engine's readers, beside a merge that is wanted; before that lines behind them may be done that save and open nothing.
+/// Answers the lines of some bytes, one after the other, and hands each answer to the sink before the line after it is done. Queries in a row are
+/// answered in batches by the engine's readers, beside a merge that is wanted; before that lines after them may be done that save and open nothing.
 ///
 /// A last line without a newline is answered as any other, so the bytes are to end where a line ends. `course.at` begins at 0, whatever it was.
 /// `opened.lines` counts the lines that are completed, also where it ends early.

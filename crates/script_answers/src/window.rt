@@ -1,4 +1,4 @@
-//! Queries that are put off while lines behind them are done.
+//! Queries that are put off while lines after them are done.
 ghost use Rattle.std.specs.Prelude.{◌≡◌, ◌++◌, [], ◌∷◌, IfOk, OnOk};
 ghost use Rattle.gcl_model.specs.Texts.{Text};
 ghost use Rattle.live_version.specs.Contents.{version_text};
@@ -25,7 +25,7 @@ pub(crate) struct Window {
     pub(crate) asks: Vec<Ask>,
     // what is to be written in front of the answer to each
     pub(crate) fronts: Vec<Bytes>,
-    // what is to be written behind the last of these answers
+    // what is to be written after the last of these answers
     pub(crate) tail: Vec<u8>,
     // what all this takes, where no memory is shared
     weight: u64,
@@ -75,12 +75,12 @@ impl Window {
     }
 
     /// Whether the window has as many queries as it should, where the next one is filled while it is answered. A quarter of a batch is left to the
-    /// queries at hand, so that these are seldom cut off from those behind them.
+    /// queries at hand, so that these are seldom cut off from those after them.
     pub(crate) fn is_full(&self, most: usize) -> bool {
         self.asks.len() >= most - most / 4
     }
 
-    /// Whether the next window may be filled while this one is answered: that is worth threads, and there is room for the line behind it.
+    /// Whether the next window may be filled while this one is answered: that is worth threads, and there is room for the line after it.
     pub(crate) fn may_be_turned(&self, version: &Version, wanted: bool, readers: usize) -> bool {
         readers > 1 && self.asks.len() >= WORTH && merge_ahead(version, wanted) <= self.most
     }

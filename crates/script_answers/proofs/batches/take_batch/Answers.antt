@@ -1,5 +1,5 @@
-use Rattle.std.proofs.Common.{◌≡◌, ℕ, ◌+◌, ◌<◌, ◌≤◌, List, [], ◌∷◌, length, drop, sym, ap, ◌∙◌, subst, arith, rules, length-append, IfSome, Option}
-use Rattle.script_lang.specs.Lines.{Line, lines}
+use Rattle.std.proofs.Common.{◌≡◌, ◌+◌, ◌<◌, ◌≤◌, List, [], ◌∷◌, length, drop, sym, ap, ◌∙◌, subst, arith, rules, length-append, IfSome, Option}
+use Rattle.script_lang.specs.Lines.{lines}
 use Rattle.query_lanes.specs.declared.asks.Ask.{Ask}
 use Rattle.script_answers.specs.Batches.{Begins, IsNextAsk}
 use Rattle.script_answers.specs.declared.batches.NextAsk.{NextAsk}

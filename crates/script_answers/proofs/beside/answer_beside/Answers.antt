@@ -1,11 +1,10 @@
-use Rattle.std.proofs.Common.{◌≡◌, ℕ, List, length, map, subst, rules, Result}
+use Rattle.std.proofs.Common.{◌≡◌, List, length, map, subst, rules, Result}
 use Rattle.std.specs.Prelude.{IfOk, OnOk}
 use Rattle.gcl_model.proofs.Cases.{on_err}
-use Rattle.gcl_model.specs.Texts.{Text}
 use Rattle.script_lang.specs.Lines.{Line}
 use Rattle.query_lanes.specs.Answers.{answer_in}
 use Rattle.query_lanes.specs.Readers.{AreOf}
-use Rattle.script_answers.specs.Progress.{HasCauses, WhoseLines, lines_from, stand}
+use Rattle.script_answers.specs.Progress.{WhoseLines, lines_from, stand}
 use Rattle.script_answers.specs.Windows.{DoesAhead, GoesFurther, HaltsOver}
 use Rattle.script_answers.proofs.Turns.{done_halts, kept_of}
 use Rattle.script_answers.proofs.beside.answer_beside.Goals as goal

@@ -1,4 +1,4 @@
-use Rattle.std.proofs.Common.{◌≡◌, List, sym, ap, ◌∙◌, subst, arith, rules, Option}
+use Rattle.std.proofs.Common.{List, ◌∙◌, subst, rules, Option}
 use Rattle.outside.specs.Contents.{Contents}
 use Rattle.gcl_model.proofs.Cases.{on_err}
 use Rattle.script_lang.specs.Lines.{Line}

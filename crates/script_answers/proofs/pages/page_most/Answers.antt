@@ -1,8 +1,6 @@
-use Rattle.std.proofs.Common.{◌≡◌, ℕ, ◌-◌, min, take, drop, sym, ap, ◌∙◌}
-use Rattle.gcl_model.specs.Extents.{Extent}
+use Rattle.std.proofs.Common.{◌≡◌, ℕ, min, take, drop, sym, ap, ◌∙◌}
 use Rattle.query_lanes.specs.Answers.{page_size}
 use Rattle.query_lanes.specs.declared.asks.Asked.{Asked}
-use Rattle.script_answers.specs.Pages.{members_asked, page_from}
 use Rattle.script_answers.proofs.PageLists.{page_of_all, page_limit}
 use Rattle.script_answers.proofs.pages.page_most.Goals as goal
 

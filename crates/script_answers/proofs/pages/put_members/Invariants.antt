@@ -10,7 +10,7 @@ use Rattle.query_lanes.specs.Answers.{text_asked}
 use Rattle.script_answers.specs.Pages.{Puts, members_asked, page_from}
 use Rattle.script_answers.proofs.pages.put_members.Given as goal
 
--- so many members were put, and the next page has those behind them
+-- so many members were put, and the next page has those after them
 abbrev pub invariant-loop-next : goal.invariant-loop-next
 invariant-loop-next g l = record {
   within : l.put ≤ length (members_asked l.ask.asked (concordance (text_asked l.ask.pass (version_text l.engine.version)) (form_of l.expr)));

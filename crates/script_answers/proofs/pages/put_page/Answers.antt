@@ -1,4 +1,4 @@
-use Rattle.std.proofs.Common.{◌≡◌, List, ℕ, [], ◌++◌, map, append-nil, rules}
+use Rattle.std.proofs.Common.{◌≡◌, [], ◌++◌, map, append-nil, rules}
 use Rattle.script_lang.specs.Answers.{interval_line}
 use Rattle.script_lang.specs.Lines.{text_of_lines}
 use Rattle.script_answers.proofs.PutLemmas.{held_more, part_as, part_of_put, puts_as, puts_on, puts_part}

@@ -6,7 +6,7 @@ use Rattle.script_answers.specs.Pages.{Puts}
 use Rattle.script_answers.specs.Windows.{fronted}
 use Rattle.script_answers.proofs.putting.put_window.Given as goal
 
--- so many answers were put, each behind its text, and the others are left
+-- so many answers were put, each after its text, and the others are left
 abbrev pub invariant-loop-found : goal.invariant-loop-found
 invariant-loop-found g l = record {
   rest : into_iter_items l.found-iterator ≡ map (answer_in (version_text l.engine.version)) (drop l.i l.asks);

@@ -1,4 +1,4 @@
-use Rattle.std.proofs.Common.{ℕ, List, ◌-◌, take, drop, sym, ◌∙◌, subst, rules, arith}
+use Rattle.std.proofs.Common.{ℕ, List, ◌-◌, take, drop, sym, ◌∙◌, subst, rules}
 use Rattle.std.proofs.lemmas.List.{take-append-drop}
 use Rattle.std.proofs.Math.Seq.{take-add}
 use Rattle.std.specs.Io.KnownBytes.{Appends}
