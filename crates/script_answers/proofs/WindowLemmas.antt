@@ -31,7 +31,7 @@ use Rattle.script_answers.specs.Batches.{AreAsked, Begins, ask_lines, expr_lines
 use Rattle.script_answers.specs.Pages.{Puts, PutsPart}
 use Rattle.script_answers.specs.Progress.{ComesOn, GoesOn, HasCome, IsAt, StopsFrom, WhoseLines, lines_of}
 use Rattle.script_answers.specs.Stopped.{GetsPart, IsStopped}
-use Rattle.script_answers.specs.Windows.{AnswersWindow, ComesOver, DoesOn, GoesOver, HaltsFrom, HaltsOver, HaltsWriting, HasDone, IsHalted, IsPaired, PutsOffBehind, StopsOver, StopsWindow, WritesOn, ask_text, asks_refuse, asks_text, fronted, window_text}
+use Rattle.script_answers.specs.Windows.{AnswersWindow, ComesOver, DoesOn, GoesOver, HaltsFrom, HaltsOver, HaltsWriting, HasDone, IsHalted, IsPaired, PutsOff, PutsOffBehind, StopsOver, StopsWindow, WritesOn, ask_text, asks_refuse, asks_text, fronted, window_text}
 use Rattle.script_answers.specs.declared.limits.Limits.{Limits}
 use Rattle.script_answers.specs.declared.window.Window.{Window}
 use Rattle.script_answers.proofs.BatchLemmas.{batch_answered, batch_length, batch_lines, batch_read, batch_state}
@@ -88,6 +88,20 @@ abbrev pub KeepsAll : EngineContent → EngineContent → Bool → Type 0
 KeepsAll before after w = (state : State) → Keeps before w state → Keeps after false state
 
 module _ (limits : Limits) where
+  -- a window that has nothing owes nothing
+  pub none_owed : (start : State) (done : List Line) (held : Option Contents) (engine : EngineContent) (w r : Bool) (window : Window) (old now : Option (List ℕ)) → ((text : Text) → window_text text window ≡ []) →
+      HasCome limits start done held engine w r old now → PutsOff limits start done held engine w r window old now
+  none_owed start done held engine w r window old now none come = λ text. record {
+    answered = come.are.answered;
+    refusal_is = come.are.refusal_is;
+    put = record {
+      part = text_of_lines (answers limits start done);
+      whole = sym (append-nil _) ∙ ap (λ l. text_of_lines (answers limits start done) ++ l) (sym (none text));
+      written = come.are.written;
+    };
+    at = come.at;
+  }
+
   -- more lines are done, and their answers are owed after the others
   pub done_more : (start : State) (done more : List Line) (held held' : Option Contents) (before after : EngineContent) (w w' a b : Bool) (owed owed' : List ℕ) (old now : Option (List ℕ)) →
       HasDone limits start done held before w a owed old now → AllAnswered limits (state_after limits start done) more →
@@ -253,6 +267,11 @@ module _ (limits : Limits) where
       DoesOn limits all n m held before after w w' a b window window' → HaltsOver limits all n m held before after w a window
   does_halts all n m held before after w w' a b window window' within does = λ front start old now read off.
       halted_here start all m held after w' b _ old now within (does front start old now read off (text_of start.collection))
+
+  -- nothing is put off yet
+  pub over_none : (ahead : List Line) (n : ℕ) (held : Option Contents) (engine : EngineContent) (w a : Bool) (mid : Option (List ℕ)) (window : Window) → ((text : Text) → window_text text window ≡ []) →
+      WhoseLines ahead n (λ all. ComesOver limits all n n held engine engine w w a a mid mid window)
+  over_none ahead n held engine w a mid window none = λ all rest within cut start old read come. none_owed start (take n all) held engine w a window old mid none come
 
   module _ (ahead mid : List Line) (n k : ℕ) (held : Option Contents) (e f : EngineContent) (w x r s : Bool) (old now : Option (List ℕ)) (window : Window) (goes : GoesOn ahead mid n k)
       (come : WhoseLines ahead n (λ all. ComesOver limits all n k held e f w x r s old now window)) where
