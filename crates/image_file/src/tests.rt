@@ -40,7 +40,7 @@ fn start(alloc: Global, first: u64) -> Version
 }
 
 /// The version with one file more: none where it may not be added.
-#[tactic(auto, using(crate::proofs::Saving::tokens_are))]
+#[tactic(auto, using(crate::proofs::tests::Shorts::tokens_are))]
 fn added(
     alloc: Global,
     version: &Version,
@@ -96,7 +96,7 @@ fn saved(
     version.with_file(file, shard)
 }
 
-#[tactic(auto, using(crate::proofs::Saving::short_left))]
+#[tactic(auto, using(crate::proofs::tests::Shorts::short_left))]
 fn are_short(tokens: &[Bytes]) -> bool
     ensures { IsTrue result → AllByRecursion (λ token. length token < number_end) tokens.now }
 {
