@@ -52,7 +52,8 @@ for size in (5, 50):
     # what a reader of the text itself takes: each element is a line
     for words in (["-c", "-w", "of the"], ["-o", "-w", "the"]):
         begin = time.time()
-        subprocess.run(["grep", *words, f"t{size}"], stdout=subprocess.DEVNULL)
+        # into a pipe: with nobody to read it, grep would end at the first line
+        subprocess.run(["grep", *words, f"t{size}"], stdout=subprocess.PIPE)
         print(f"    grep {' '.join(words):<23} {(time.time() - begin) * 1e3:.0f} ms")
     print(f"    memory after the queries to that before: {kept(run) / before:.2f} (target 1.05)")
     run.stdin.close()
