@@ -82,12 +82,27 @@ pub(crate) fn put_short(
     })
 }
 
+/// How many bytes the difference between two lists takes at most.
+const STEP_BYTES: usize = 8;
+
+/// How many bytes the lists take as one list, or a few more.
+fn room_of(lists: &[Postings<'_>]) -> usize {
+    let mut room = 0usize;
+    for list in lists {
+        room = room
+            .saturating_add(list.packed_len())
+            .saturating_add(STEP_BYTES);
+    }
+    room
+}
+
 /// The list of all addresses, in memory of its own.
 pub(crate) fn one_list(alloc: Global, lists: &[Postings<'_>]) -> Result<PostingList, AllocError>
     requires { ArePostings (concat lists.now) }
     ensures { IfOk result (λ list. list ≡ concat lists.now) }
 {
     let mut maker = PostingMaker::new(alloc);
+    maker.reserve(room_of(lists))?;
     for list in lists {
         maker.append(list)?;
     }

@@ -1,7 +1,7 @@
 -- Parts of a list that are lent as they are packed.
 use Rattle.std.proofs.Common.{◌≡◌, ℕ, zero, suc, ◌+◌, ◌-◌, ◌*◌, ◌^◌, ◌<◌, ◌≤◌, List, [], ◌∷◌, ◌++◌, length, length-drop, length-take, take, drop, get_or, append_assoc, length-append, refl, sym, ap, ◌∙◌, subst, arith}
 use Rattle.std.proofs.Math.Seq.{take-append_seam}
-use Rattle.std.proofs.lemmas.List.{take-append-drop, take_all}
+use Rattle.std.proofs.lemmas.List.{drop-drop, take-append-drop, take_all}
 use Rattle.posting_code.specs.Numbers.{spelling}
 use Rattle.posting_code.specs.Postings.{RiseWithin, ArePostings, blocks_of, block_of}
 use Rattle.posting_code.specs.Packed.{members_behind, kept, packed_from, packed_of, CanUnpack, IsKept, IsKeptTo, StandsAt, head_at, last_of}
@@ -17,7 +17,7 @@ abbrev none_of : List ℕ
 none_of = []
 
 -- the differences of the members up to one, and of those after it
-packed_from-part : (before : ℕ) (ms : List ℕ) (steps r : ℕ) (rs : List ℕ) → drop steps (before ∷ ms) ≡ r ∷ rs →
+pub packed_from-part : (before : ℕ) (ms : List ℕ) (steps r : ℕ) (rs : List ℕ) → drop steps (before ∷ ms) ≡ r ∷ rs →
     (packed_from before ms ≡ packed_from before (take steps ms) ++ packed_from r rs) × (last_of (before ∷ take steps ms) ≡ r)
 packed_from-part before ms zero r rs is = let first : before ≡ r = cc in let rest : ms ≡ rs = cc in (ap (λ b. packed_from b ms) first ∙ ap (packed_from r) rest, first)
 packed_from-part before [] (suc steps) r rs is = let long : length (drop steps none_of) ≡ suc (length rs) = ap length is in let none = length-drop steps none_of in absurd (omega (arith, long, none))
@@ -196,6 +196,20 @@ has_whole list last count first packed bytes heads held block head is k lt bytes
     let long = length-drop (64 * block) list in
     let parts = ap length stands.is in
     record { can = stands.can; within = stands.within; enough = omega (arith, long, parts, counted, many) }
+
+-- the head of the block after such a one
+pub next_stands : (list : List ℕ) (last count first : ℕ) (packed bytes : List ℕ) (heads held : List Head) (block : ℕ) (head next : Head) → kept count first packed ≡ list → IsKeptTo last count first packed heads → block < blocks_of list →
+    bytes ≡ packed → held ≡ heads → head ≡ head_at first held block → next ≡ head_at first held (block + 1) → 64 < count - 64 * block → StandsAt (head.first ∷ members_behind bytes head.first head.at) bytes (63 + 1) next
+next_stands list last count first packed bytes heads held block head next is k lt bytes_is held_is head_is next_is many =
+    let counted = k.parts.counted ∙ ap length is in
+    let here = block_stands_at list count first packed bytes heads held block head is k.parts lt bytes_is held_is head_is in
+    let there = block_stands_at list count first packed bytes heads held (block + 1) next is k.parts (omega (arith, counted, many)) bytes_is held_is next_is in
+    let place : 64 * block + 64 ≡ 64 * (block + 1) = omega arith in
+    record {
+      can = there.can;
+      within = there.within;
+      is = ap (drop 64) (sym here.is) ∙ drop-drop 64 (64 * block) list ∙ ap (λ n. drop n list) place ∙ there.is;
+    }
 
 -- a block that is not the last
 pub lend_block : (list : List ℕ) (last count first : ℕ) (packed bytes : List ℕ) (heads held : List Head) (block : ℕ) (head end : Head) → kept count first packed ≡ list → IsKeptTo last count first packed heads → block < blocks_of list →

@@ -11,3 +11,4 @@ pub mod Runs
 pub mod Cuts
 mod Worked
 mod WorkedNumbers
+pub mod Ends

@@ -1,8 +1,9 @@
-pub mod Numbers
-pub mod Laws
-pub mod Reader
-pub mod Postings
-pub mod Packed
-pub mod Cuts
-pub mod Joined
 pub mod Blocks
+pub mod Cuts
+pub mod Ends
+pub mod Joined
+pub mod Laws
+pub mod Numbers
+pub mod Packed
+pub mod Postings
+pub mod Reader

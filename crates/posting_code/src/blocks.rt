@@ -5,6 +5,7 @@ ghost use Rattle.posting_code.specs.Blocks.{count_in, first_in, heads_in, AreBlo
 use crate::head::{Head, push_head};
 use crate::posting_list::BLOCK;
 use std::alloc::{AllocError, Global};
+use std::mem;
 
 /// The number of members, the first of them, and where the blocks stand.
 // Most lists have one block. They keep no heads, and take no memory for them.
@@ -33,9 +34,10 @@ impl Drop for Blocks {
 }
 
 impl Blocks {
-    /// The blocks of so many members.
+    /// The blocks of so many members, in this box if one is needed and there is one.
     pub(crate) fn of(
         alloc: Global,
+        spare: Option<Box<ManyBlocks>>,
         count: usize,
         first: u64,
         heads: Vec<Head>,
@@ -54,7 +56,14 @@ impl Blocks {
             first,
             heads,
         };
-        Ok(Blocks::Many(Box::new(alloc, many)?))
+        let many = match spare {
+            Some(mut spare) => {
+                *spare = many;
+                spare
+            }
+            None => Box::new(alloc, many)?,
+        };
+        Ok(Blocks::Many(many))
     }
 
     /// The number of members.
@@ -123,13 +132,16 @@ impl Blocks {
         }
     }
 
-    /// The heads, which are handed over.
-    pub(crate) fn into_heads(self, alloc: Global) -> Vec<Head>
-        ensures { result.items ≡ heads_in self }
+    /// The heads, which are handed over with the box that they stood in.
+    pub(crate) fn into_heads(self, alloc: Global) -> (Vec<Head>, Option<Box<ManyBlocks>>)
+        ensures { result.0.items ≡ heads_in self }
     {
         match self {
-            Blocks::One { .. } => Vec::new(alloc),
-            Blocks::Many(many) => Box::into_inner(many).heads,
+            Blocks::One { .. } => (Vec::new(alloc), None),
+            Blocks::Many(mut many) => {
+                let heads = mem::replace(&mut many.heads, Vec::new(alloc));
+                (heads, Some(many))
+            }
         }
     }
 
@@ -139,7 +151,7 @@ impl Blocks {
         ensures { IfOk result (λ blocks. AreBlocks blocks (count_in self.now) (first_in self.now) (heads_in self.now)) }
     {
         let heads = Vec::from_slice(alloc, self.heads())?;
-        Blocks::of(alloc, self.count(), self.first(), heads)
+        Blocks::of(alloc, None, self.count(), self.first(), heads)
     }
 
     /// The blocks of so many members, in the memory of these.
@@ -156,7 +168,7 @@ impl Blocks {
         match self {
             Blocks::One { .. } => {
                 let heads = Vec::from_slice(alloc, heads)?;
-                Blocks::of(alloc, count, first, heads)
+                Blocks::of(alloc, None, count, first, heads)
             }
             Blocks::Many(many) => {
                 let mut many = many;

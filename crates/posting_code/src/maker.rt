@@ -30,6 +30,13 @@ impl PostingMaker {
         }
     }
 
+    /// Makes room for so many bytes of packed differences more, so that the list need not be moved while it grows.
+    pub fn reserve(&mut self, bytes: usize) -> Result<(), AllocError>
+        ensures { self.new ≡ self.old }
+    {
+        self.list.reserve(bytes)
+    }
+
     /// Puts an address after the others.
     pub fn push(&mut self, address: u64) -> Result<(), AllocError>
         requires { ArePostings (self.old ++ address ∷ []) }

@@ -7,7 +7,7 @@ ghost use Rattle.posting_code.specs.Numbers.{spelling};
 use crate::blocks::Blocks;
 use crate::head::{Head, head_of};
 use crate::number::{NUMBER_END, put_number};
-use crate::unpack::{Cut, around_in, cut_before, unpack, walk};
+use crate::unpack::{Cut, around_in, cut_before, member_before, unpack, walk};
 use std::alloc::{AllocError, Global};
 use std::marker::Model;
 
@@ -142,7 +142,7 @@ impl PostingList {
         put_number(&mut packed, list.first - self.last)?;
         let shift = packed.len();
         packed.extend_from_slice(list.packed)?;
-        let mut heads = self.blocks.into_heads(alloc);
+        let (mut heads, spare) = self.blocks.into_heads(alloc);
         let mut place = (BLOCK - front % BLOCK) % BLOCK;
         while place < behind {
             let head = list.head(place);
@@ -152,7 +152,7 @@ impl PostingList {
             })?;
             place += BLOCK;
         }
-        let blocks = Blocks::of(alloc, front + behind, first, heads)?;
+        let blocks = Blocks::of(alloc, spare, front + behind, first, heads)?;
         Ok(PostingList {
             packed,
             last,
@@ -172,6 +172,13 @@ impl PostingList {
         self.last = list.last;
         self.blocks.count_more(list.count);
         Ok(())
+    }
+
+    /// Makes room for so many bytes of packed differences more.
+    pub(crate) fn reserve(&mut self, bytes: usize) -> Result<(), AllocError>
+        ensures { self.new ≡ self.old }
+    {
+        self.packed.reserve(bytes)
     }
 
     /// Gives back the memory that growing took and no address needs.
@@ -242,6 +249,13 @@ impl<'a> Postings<'a> {
             last,
             count,
         }
+    }
+
+    /// How many bytes its packed differences take.
+    pub fn packed_len(&self) -> usize
+        ensures { result ≡ length (packed_of self.now) }
+    {
+        self.packed.len()
     }
 
     /// The packed differences after the first member.
@@ -325,7 +339,8 @@ impl<'a> Postings<'a> {
         if count <= BLOCK {
             return Postings::of_block(&self.packed[head.at..], head.first, self.last, count);
         }
-        let end = walk(self.packed, head, BLOCK - 1);
+        let next = head_of(self.first, self.heads, block + 1);
+        let end = member_before(self.packed, head, next);
         Postings::of_block(&self.packed[head.at..end.at], head.first, end.first, BLOCK)
     }
 

@@ -1,5 +1,6 @@
 ghost use Rattle.std.specs.Prelude.{ℕ, ◌≡◌, ◌+◌, ◌<◌, ◌≤◌, ◌^◌, ◌∷◌, ◌++◌, length, get_or, take, drop, reverse, find, nat_lt, nat_le, IfSome, IsNone, IsTrue};
-ghost use Rattle.posting_code.specs.Packed.{CanUnpack, last_of, members_behind};
+ghost use Rattle.posting_code.specs.Ends.{IsStep};
+ghost use Rattle.posting_code.specs.Packed.{CanUnpack, StandsAt, last_of, members_behind};
 ghost use Rattle.posting_code.specs.Cuts.{IsCut};
 
 use crate::head::Head;
@@ -226,6 +227,38 @@ pub(crate) fn walk(packed: &[u8], head: Head, steps: usize) -> Head
     pass_each(packed, member, left)
 }
 
+/// Where the spelling begins that ends before a place, at `from` or later: the byte in front of it ends another one.
+#[inline(always)]
+fn start_of(packed: &[u8], from: usize, end: usize) -> usize
+    requires within { end ≤ length packed.now }
+    requires step { (at : ℕ) × IsStep packed.now from at end }
+    ensures { (at : ℕ) → IsStep packed.now from at end → result ≡ at }
+{
+    let mut at = end - 1;
+    while from < at && 128 <= packed[at - 1] {
+        at -= 1;
+    }
+    at
+}
+
+/// The member before another one, by the difference between them.
+pub(crate) fn member_before(packed: &[u8], first: Head, next: Head) -> Head
+    requires can { CanUnpack packed.now first.first first.at }
+    requires within { first.at ≤ length packed.now }
+    requires next { (steps : ℕ) × StandsAt (first.first ∷ members_behind packed.now first.first first.at) packed.now (steps + 1) next }
+    ensures { (steps : ℕ) → StandsAt (first.first ∷ members_behind packed.now first.first first.at) packed.now (steps + 1) next →
+        StandsAt (first.first ∷ members_behind packed.now first.first first.at) packed.now steps result }
+{
+    let at = start_of(packed, first.at, next.at);
+    match get_number(packed, at) {
+        Some(number) => Head {
+            first: next.first - number.value,
+            at,
+        },
+        None => unreachable!(),
+    }
+}
+
 /// A member, and how many steps after the first it stands.
 #[derive(Clone, Copy)]
 struct Stop {
@@ -248,17 +281,14 @@ fn leap_below(packed: &[u8], first: Head, behind: usize, k: u64) -> Stop
         steps: 0,
         member: first,
     };
-    while RUN <= behind - stop.steps && are_short(packed, stop.member.at) {
-        let first = pass_run(packed, stop.member.first, stop.member.at);
-        if k <= first {
+    while RUN <= behind - stop.steps {
+        let member = pass_seven(packed, stop.member);
+        if k <= member.first {
             return stop;
         }
         stop = Stop {
             steps: stop.steps + RUN,
-            member: Head {
-                first,
-                at: stop.member.at + RUN,
-            },
+            member,
         };
     }
     stop
@@ -286,7 +316,7 @@ pub(crate) fn cut_before(packed: &[u8], first: Head, behind: usize, k: u64) -> O
     let stop = leap_below(packed, first, behind, k);
     let mut before = stop.member;
     for steps in stop.steps..behind {
-        let next = next_member(packed, before.first, before.at);
+        let next = mixed_member(packed, before.first, before.at);
         let next = Head {
             first: next.value,
             at: next.after,

@@ -10,8 +10,8 @@ loop-steps-init c =
     let stop = c.leap_below-stop.ensures in
     record { stands = record { can = stop.can; within = stop.within c.requires.within; is = stop.rest }; below = first_or_below c.args.packed.now c.args.first.first c.args.first.at c.args.k _ _ _ stop.rest stop.below c.requires.below }
 
-pub next_member-next-requires-clause-some : goal.next_member-next-requires-clause-some
-next_member-next-requires-clause-some c =
+pub mixed_member-next-requires-clause-some : goal.mixed_member-next-requires-clause-some
+mixed_member-next-requires-clause-some c =
     let long = length-drop c.loop-steps.steps (c.args.first.first ∷ members_behind c.args.packed.now c.args.first.first c.args.first.at) in
     let parts = ap length c.loop-steps.invariant.stands.is in
     let enough = c.requires.enough in
@@ -23,9 +23,9 @@ returns-then-k-next-clause-cut c =
     record {
       before = c.loop-steps.invariant.stands;
       behind = record {
-        can = c.next_member-next.ensures.can;
-        within = c.next_member-next.ensures.within c.loop-steps.invariant.stands.within;
-        is = (take_next c.loop-steps.steps all _ _ c.loop-steps.invariant.stands.is).1 ∙ c.next_member-next.ensures.next;
+        can = c.mixed_member-next.ensures.can;
+        within = c.mixed_member-next.ensures.within c.loop-steps.invariant.stands.within;
+        is = (take_next c.loop-steps.steps all _ _ c.loop-steps.invariant.stands.is).1 ∙ c.mixed_member-next.ensures.next;
       };
     }
 
@@ -34,9 +34,9 @@ loop-steps-preserved c =
     let all = c.args.first.first ∷ members_behind c.args.packed.now c.args.first.first c.args.first.at in
     record {
       stands = record {
-        can = c.next_member-next.ensures.can;
-        within = c.next_member-next.ensures.within c.loop-steps.invariant.stands.within;
-        is = (take_next c.loop-steps.steps all _ _ c.loop-steps.invariant.stands.is).1 ∙ c.next_member-next.ensures.next;
+        can = c.mixed_member-next.ensures.can;
+        within = c.mixed_member-next.ensures.within c.loop-steps.invariant.stands.within;
+        is = (take_next c.loop-steps.steps all _ _ c.loop-steps.invariant.stands.is).1 ∙ c.mixed_member-next.ensures.next;
       };
       below = omega (arith, c.if-k-next.false);
     }
