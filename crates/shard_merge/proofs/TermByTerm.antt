@@ -1,5 +1,5 @@
 -- What a merge has made so far, and what is still to come, are together what there was.
-use Rattle.std.proofs.Common.{◌≡◌, ℕ, ◌+◌, ◌^◌, ◌<◌, true, false, List, [], ◌∷◌, ◌++◌, length, map, bytes_eq, inl, inr, refl, sym, ap, ◌∙◌, subst, arith}
+use Rattle.std.proofs.Common.{◌≡◌, ℕ, ◌+◌, ◌<◌, true, false, List, [], ◌∷◌, ◌++◌, length, map, bytes_eq, inl, inr, refl, sym, ap, ◌∙◌, subst}
 use Rattle.std.specs.List.{AllByRecursion, list_any}
 use Rattle.std.specs.Option.{IfSome}
 use Rattle.std.proofs.lemmas.Bool.{true≢false, cases_Bool}
@@ -9,7 +9,6 @@ use Rattle.gcl_model.specs.Slots.{SlotRange}
 use Rattle.gcl_model.specs.Texts.{Word, places}
 use Rattle.index_shard.specs.Tables.{RiseWithin, TermEntry, ComesBefore, AreApart, ArePostingsIn, last_entry, postings_of}
 use Rattle.index_shard.proofs.TableLaws.{all_push, term_entry as entry}
-use Rattle.slot_terms.proofs.Rising.{left_of_rising}
 use Rattle.slot_terms.specs.Parts.{PartContent, postings_left, IsPart, is_headed, past, IsNext}
 use Rattle.shard_merge.specs.Merged.{AreWordsOf}
 use Rattle.slot_terms.proofs.Passing.{AllPartsAfter, before_differs, past_after, after_none_left, past_others, past_tables, past_keeps_after, member_after}
@@ -124,13 +123,6 @@ may_push range start parts table term addresses of m next some =
       postings = record { some = some; rising = subst (RiseWithin range.first (range.last + 1)) mine (rising_places (range.last + 1) range.first of.0 term of.1.rising) };
       apart = subst (λ l. AllByRecursion (λ e. AreApart e.addresses l) table) mine (all_apart range start of.0 table term of.1 m.groups before);
     }
-
--- what is still to come of each term rises
-pub left_rises : (range : SlotRange) (start parts : List PartContent) (table : List TermEntry) → (words : List Word) × AreWordsOf range start words → IsMerging start parts table → range.last < 2 ^ 56 →
-    (term : List ℕ) → RiseWithin 0 (2 ^ 56) (postings_left parts term)
-left_rises range start parts table of m in_range term =
-    left_of_rising range.first (range.last + 1) (postings_of table term) (postings_left parts term) (places of.0 term) (m.together term ∙ of.1.places term)
-    (rising_places (range.last + 1) range.first of.0 term of.1.rising) (omega (arith, in_range))
 
 -- the table has all, where nothing is left
 pub merged_all : (start parts : List PartContent) (table : List TermEntry) → IsMerging start parts table → ((term : List ℕ) → postings_left parts term ≡ []) →

@@ -1,5 +1,5 @@
 -- What stands between the dead ranges of rising postings.
-use Rattle.std.proofs.Common.{◌≡◌, ℕ, zero, suc, ◌+◌, ◌-◌, ◌*◌, ◌^◌, ◌<◌, ◌≤◌, true, false, not, cond, List, [], ◌∷◌, ◌++◌, length, length-append, length-drop, take, drop, get_or, append_assoc, ltb, refl, sym, ap, ◌∙◌, subst, arith}
+use Rattle.std.proofs.Common.{◌≡◌, ℕ, zero, suc, ◌+◌, ◌-◌, ◌^◌, ◌<◌, ◌≤◌, true, false, not, cond, List, [], ◌∷◌, ◌++◌, length, length-append, length-drop, take, drop, get_or, append_assoc, ltb, refl, sym, ap, ◌∙◌, subst, arith}
 use Rattle.std.specs.List.{prefix_len}
 use Rattle.std.proofs.lemmas.Bool.{or_from}
 use Rattle.std.proofs.lemmas.List.{drop_more, take-append-drop, take_all}
@@ -7,7 +7,7 @@ use Rattle.std.proofs.lemmas.List.Elements.{filter-append}
 use Rattle.std.proofs.Math.ListN.{drop_of_length-le}
 use Rattle.gcl_model.specs.Limits.{address_end}
 use Rattle.gcl_model.specs.Slots.{SlotRange, slot_range, AreRangesWithin}
-use Rattle.posting_code.specs.Postings.{RiseWithin, ArePostings, block_of}
+use Rattle.posting_code.specs.Postings.{RiseWithin, ArePostings}
 use Rattle.posting_code.specs.Packed.{last_of}
 use Rattle.posting_code.proofs.Rising.{rise_front}
 use Rattle.posting_code.proofs.Cuts.{rise_to_last}
@@ -16,8 +16,7 @@ use Rattle.delete_mask.proofs.Halving.{AreRangesWithin-before}
 use Rattle.delete_mask.proofs.MaskLemmas.{is_within-inside, is_within-before, is_within-behind, is_dead-before}
 use Rattle.live_version.specs.LookUps.{is_alive}
 use Rattle.slot_terms.specs.Parts.{alive}
-use Rattle.slot_terms.proofs.LivePostings.{put_more}
-use Rattle.slot_terms.proofs.Rising.{front_rises, all_alive}
+use Rattle.slot_terms.proofs.Rising.{all_alive}
 
 -- where nothing within the bounds is dead, all are alive
 pub alive_where : (mask : List SlotRange) (low end : ℕ) (xs : List ℕ) → RiseWithin low end xs → ((p : ℕ) → low ≤ p → p < end → is_dead mask p ≡ false) → alive mask xs ≡ xs
@@ -151,20 +150,6 @@ between_goes ranges block out put rest more live others dead after i range lt at
       few = omega (arith, long, long_others, few);
     }
 
--- what is put before a range still rises
-pub between_rises : (ranges : List SlotRange) (block out put rest live others : List ℕ) (i : ℕ) (range : SlotRange) → i < length ranges → range ≡ get_or ranges i range → AreRangesWithin 0 address_end ranges →
-    IsBetween ranges block out put rest i → rest ≡ live ++ others → RiseWithin 0 range.first live → ArePostings (out ++ alive ranges block) → ArePostings (put ++ live)
-between_rises ranges block out put rest live others i range lt at apart was is below rising =
-    let later = drop (i + 1) ranges in
-    let cut : drop i ranges ≡ range ∷ later = drop_more ranges i range lt ∙ ap (λ r. r ∷ later) (sym at) in
-    let left = subst (AreRangesWithin 0 address_end) cut (apart_drop 0 address_end ranges i apart) in
-    let parts : put ++ alive (range ∷ later) rest ≡ (put ++ live) ++ alive (range ∷ later) others =
-    ap (λ l. put ++ alive (range ∷ later) l) is
-    ∙ ap (λ l. put ++ l) (filter-append (is_alive (range ∷ later)) live others)
-    ∙ ap (λ l. put ++ (l ++ alive (range ∷ later) others)) (before_alive range later 0 address_end live left below)
-    ∙ sym (append_assoc put live (alive (range ∷ later) others)) in
-    front_rises (put ++ live) (alive (range ∷ later) others) (subst ArePostings (sym was.all ∙ ap (λ m. put ++ alive m rest) cut ∙ parts) rising)
-
 -- after the last range all of the rest is left
 pub between_ends : (ranges : List SlotRange) (block out put rest : List ℕ) (i : ℕ) → length ranges ≤ i → IsBetween ranges block out put rest i → put ++ rest ≡ out ++ alive ranges block
 between_ends ranges block out put rest i le was =
@@ -192,12 +177,3 @@ apart_alive mask (p ∷ ps) first last rising some first_is last_is apart =
     let ends = rise_to_last 0 (2 ^ 56) (p ∷ ps) rising in
     alive_where mask p (last_of (p ∷ ps) + 1) (p ∷ ps) (omega arith, ends.1, ends.2)
     (λ q le lt. apart q (is_within-inside (slot_range first last) q (omega (arith, le, first_is)) (omega (arith, lt, last_is))))
-
--- one block more of a list still rises
-pub block_more_rises : (mask : List SlotRange) (list out put : List ℕ) (b : ℕ) → put ≡ out ++ alive mask (take (64 * b) list) → ArePostings (out ++ alive mask list) → ArePostings (put ++ alive mask (block_of list b))
-block_more_rises mask list out put b was rising =
-    let n = 64 * (b + 1) in
-    let more = put_more mask list (block_of list b) out put (put ++ alive mask (block_of list b)) b refl was refl in
-    let whole : out ++ alive mask list ≡ (out ++ alive mask (take n list)) ++ alive mask (drop n list) =
-    ap (λ l. out ++ alive mask l) (sym (take-append-drop n list)) ∙ ap (λ l. out ++ l) (filter-append (is_alive mask) (take n list) (drop n list)) ∙ sym (append_assoc out (alive mask (take n list)) (alive mask (drop n list))) in
-    subst ArePostings (sym more) (front_rises (out ++ alive mask (take n list)) (alive mask (drop n list)) (subst ArePostings whole rising))

@@ -1,21 +1,18 @@
 -- The first entry of what is still to come, by the first bytes of its term.
-use Rattle.std.proofs.Common.{◌≡◌, ◌<◌, ℕ, zero, suc, ◌+◌, true, List, [], ◌∷◌, ◌++◌, length, map, flat_map, drop, slice_get, nat_cmp, Ordering, Some, IfSome, option_map, inl, inr, refl, sym, ap, ◌∙◌, subst, arith}
+use Rattle.std.proofs.Common.{◌≡◌, ℕ, zero, suc, ◌+◌, true, List, [], ◌∷◌, ◌++◌, map, drop, slice_get, nat_cmp, Ordering, Some, IfSome, option_map, refl, sym, ap, ◌∙◌, subst, arith}
 use Rattle.std.specs.declared.cmp.Ordering.TheVariants.{Less, Equal, Greater}
 use Rattle.std.specs.Ordering.{ordering_then}
 use Rattle.std.specs.Cmp.Lexicographic.{slice_cmp}
-use Rattle.std.specs.List.{AllByRecursion, concat, list_any}
-use Rattle.std.proofs.lemmas.Bool.{or_cases}
-use Rattle.std.proofs.lemmas.List.{append-nil, length-append}
+use Rattle.std.specs.List.{concat}
+use Rattle.std.proofs.lemmas.List.{append-nil}
 use Rattle.std.proofs.lemmas.List.Folds.{concat-append}
 use Rattle.index_shard.specs.Kept.{AreBytes, leading}
 use Rattle.index_shard.specs.Tables.{TermEntry, addresses_at}
 use Rattle.index_shard.proofs.Heads.{heads_first}
-use Rattle.slot_terms.specs.Parts.{IsNext, IsPart, IsWhole, PartContent, alive, behind, head_postings, is_headed, past}
+use Rattle.slot_terms.specs.Parts.{PartContent, behind, is_headed, past}
 use Rattle.slot_terms.specs.Firsts.{IsFirst, IsFirstOf}
 use Rattle.slot_terms.specs.declared.first.First.{First}
 use Rattle.slot_terms.proofs.Heads.{head_at, part_content}
-use Rattle.slot_terms.proofs.Passing.{heads_postings}
-use Rattle.slot_terms.proofs.Rising.{all_alive}
 
 -- what is left from the next place on is what is left without the first
 pub left_next : (es : List TermEntry) (n next : ℕ) → next ≡ n + 1 → drop next es ≡ drop 1 (drop n es)
@@ -66,34 +63,3 @@ order_told own other o mine yours told differs =
 -- one list more of several that are lent
 pub concat_push : (lists : List (List ℕ)) (list : List ℕ) → concat (lists ++ list ∷ []) ≡ concat lists ++ list
 concat_push lists list = concat-append lists (list ∷ []) ∙ ap (λ l. concat lists ++ l) (append-nil list)
-
--- where nothing is dead the postings are all of them
-pub whole_postings : (parts : List PartContent) (term : List ℕ) → AllByRecursion IsWhole parts → flat_map (λ part. head_postings part.left term) parts ≡ flat_map (λ part. alive part.mask (head_postings part.left term)) parts
-whole_postings [] term whole = refl
-whole_postings (part ∷ parts) term whole =
-    ap (λ l. l ++ flat_map (λ p. head_postings p.left term) parts) (sym (all_alive part.mask (head_postings part.left term) (sym (ap length whole.0))))
-    ∙ ap (λ l. alive part.mask (head_postings part.left term) ++ l) (whole_postings parts term whole.1)
-
-pub past_whole : (parts : List PartContent) (term : List ℕ) → AllByRecursion IsWhole parts → AllByRecursion IsWhole (map (past term) parts)
-past_whole [] term whole = tt
-past_whole (part ∷ parts) term whole = (whole.0, past_whole parts term whole.1)
-
--- a term that some part has first has postings
-pub some_postings : (parts : List PartContent) (term : List ℕ) → AllByRecursion IsPart parts → list_any (λ part. is_headed part.left term) parts ≡ true → 0 < length (flat_map (λ part. head_postings part.left term) parts)
-some_postings [] term tables any = absurd cc
-some_postings (part ∷ parts) term tables any =
-    let both = length-append (head_postings part.left term) (flat_map (λ p. head_postings p.left term) parts) in
-    elim (or_cases (is_headed part.left term) (list_any (λ p. is_headed p.left term) parts) any) [
-      | inl h ↦ let here = some_here part.left tables.0 h in omega (arith, both, here)
-      | inr h ↦ let rest = some_postings parts term tables.1 h in omega (arith, both, rest)
-    ]
-  where
-    some_here : (left : List TermEntry) → IsPart record { mask = []; left = left } → is_headed left term ≡ true → 0 < length (head_postings left term)
-    some_here [] table h = absurd cc
-    some_here (e ∷ es) table h = rw h table.1.0.some
-
--- so the next of whole parts has some
-pub next_some : (parts : List PartContent) (term addresses : List ℕ) → AllByRecursion IsPart parts → AllByRecursion IsWhole parts → IsNext parts term addresses → 0 < length addresses
-next_some parts term addresses tables whole next =
-    let is : addresses ≡ flat_map (λ part. head_postings part.left term) parts = next.all ∙ sym (whole_postings parts term whole ∙ heads_postings parts term tables next.least) in
-    subst (λ l. 0 < length l) (sym is) (some_postings parts term tables next.member)

@@ -38,10 +38,6 @@ abbrev pub head_term : List TermEntry → Option (List ℕ)
 head_term [] = None
 head_term (entry ∷ entries) = Some entry.term
 
--- no address of the slot is dead
-abbrev pub IsWhole : PartContent → Type 0
-IsWhole part = part.mask ≡ []
-
 -- whether the first entry is the term's
 abbrev pub is_headed : List TermEntry → List ℕ → Bool
 is_headed [] term = false

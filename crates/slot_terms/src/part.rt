@@ -1,4 +1,4 @@
-ghost use Rattle.std.specs.Prelude.{◌≡◌, ◌<◌, ◌≤◌, ◌++◌, ℕ, [], length, drop, nat_lt, IsTrue, OnOk};
+ghost use Rattle.std.specs.Prelude.{◌≡◌, ◌<◌, ◌≤◌, ◌++◌, ℕ, length, drop, nat_lt, IsTrue, OnOk};
 ghost use Rattle.std.specs.List.{concat};
 ghost use Rattle.gcl_model.specs.Limits.{address_end};
 ghost use Rattle.gcl_model.specs.Slots.{AreRangesWithin};
@@ -12,7 +12,7 @@ use crate::first::First;
 use address_space::Range;
 use delete_mask::Mask;
 use index_shard::{Room, Shard};
-use posting_code::{PostingMaker, Postings};
+use posting_code::Postings;
 use std::alloc::AllocError;
 use std::marker::Model;
 
@@ -52,13 +52,6 @@ impl<'a> Part<'a> {
         }
     }
 
-    /// Whether no address of the slot is dead.
-    pub(crate) fn is_whole(&self) -> bool
-        ensures { IsTrue result → self.now.mask ≡ [] }
-    {
-        self.mask.range_count() == 0
-    }
-
     /// What the slot's table takes.
     pub(crate) fn room(&self) -> Room {
         self.shard.room()
@@ -72,14 +65,14 @@ impl<'a> Part<'a> {
         self.first
     }
 
-    /// Goes past the term, where it is the first, and puts its postings after the lists.
+    /// Goes past the term, where it is the first, and puts its live postings after the lists.
     pub(crate) fn take_list(
         &mut self,
         first: &First<'_>,
         lists: &mut Vec<Postings<'a>>,
     ) -> Result<(), AllocError>
         requires { IsFirst first.now }
-        ensures lists { OnOk result (concat lists.new.items ≡ concat lists.old.items ++ head_postings self.old.left first.now.term.now) }
+        ensures lists { OnOk result (concat lists.new.items ≡ concat lists.old.items ++ alive self.old.mask (head_postings self.old.left first.now.term.now)) }
         ensures past { OnOk result (self.new ≡ past first.now.term.now self.old) }
     {
         if self.has_first(first) {
@@ -88,14 +81,14 @@ impl<'a> Part<'a> {
         Ok(())
     }
 
-    /// Goes past the first term, and puts its postings after the lists.
+    /// Goes past the first term, and puts its live postings after the lists.
     #[inline]
     pub(crate) fn take_first(&mut self, lists: &mut Vec<Postings<'a>>) -> Result<(), AllocError>
         requires { 0 < length self.old.left }
-        ensures lists { OnOk result (concat lists.new.items ≡ concat lists.old.items ++ addresses_at self.old.left 0) }
+        ensures lists { OnOk result (concat lists.new.items ≡ concat lists.old.items ++ alive self.old.mask (addresses_at self.old.left 0)) }
         ensures past { OnOk result (self.new ≡ record self.old { left = drop 1 self.old.left }) }
     {
-        lists.push(self.shard.postings(self.next))?;
+        lend_live(self.shard.postings(self.next), self.mask, lists)?;
         self.step();
         Ok(())
     }
@@ -139,24 +132,6 @@ impl<'a> Part<'a> {
         }
         Ok(())
     }
-
-    /// The same, with the live postings put after those of a list.
-    pub(crate) fn take_packed(
-        &mut self,
-        first: &First<'_>,
-        postings: &mut PostingMaker,
-    ) -> Result<(), AllocError>
-        requires first { IsFirst first.now }
-        requires rising { ArePostings (postings.old ++ alive self.old.mask (head_postings self.old.left first.now.term.now)) }
-        ensures postings { OnOk result (postings.new ≡ postings.old ++ alive self.old.mask (head_postings self.old.left first.now.term.now)) }
-        ensures past { OnOk result (self.new ≡ past first.now.term.now self.old) }
-    {
-        if self.has_first(first) {
-            append_live(&self.shard.postings(self.next), self.mask, postings)?;
-            self.step();
-        }
-        Ok(())
-    }
 }
 
 /// The term at a place, and None at the end.
@@ -175,22 +150,22 @@ fn first_from(shard: &Shard, place: usize) -> Option<First<'_>>
     })
 }
 
-/// Puts the live ones of the postings after the others. None of them is unpacked.
-pub(crate) fn append_live(
-    list: &Postings<'_>,
+/// Puts the live ones of the postings after the lists. They are lent, and none of them is unpacked.
+fn lend_live<'a>(
+    list: Postings<'a>,
     mask: &Mask,
-    postings: &mut PostingMaker,
+    lists: &mut Vec<Postings<'a>>,
 ) -> Result<(), AllocError>
-    requires { ArePostings (postings.old ++ alive mask.now list.now) }
-    ensures { OnOk result (postings.new ≡ postings.old ++ alive mask.now list.now) }
+    ensures { OnOk result (concat lists.new.items ≡ concat lists.old.items ++ alive mask.now list.entry) }
 {
-    if is_apart(list, mask) {
-        return postings.append(list);
+    if is_apart(&list, mask) {
+        lists.push(list)?;
+        return Ok(());
     }
     for block in 0..list.block_count() {
         let block = list.block(block);
         let ranges = ranges_from(mask, block.first());
-        append_between(block, ranges, postings)?;
+        lend_between(block, ranges, lists)?;
     }
     Ok(())
 }
@@ -222,16 +197,15 @@ fn ranges_from(mask: &Mask, p: u64) -> &[Range]
     &ranges[before..]
 }
 
-/// Puts the live ones of a block's postings after the others: what stands between two dead ranges is copied as it is packed.
-fn append_between(
-    block: Postings<'_>,
+/// Puts the live ones of a block's postings after the lists: what stands between two dead ranges is lent as it is packed.
+fn lend_between<'a>(
+    block: Postings<'a>,
     ranges: &[Range],
-    postings: &mut PostingMaker,
+    lists: &mut Vec<Postings<'a>>,
 ) -> Result<(), AllocError>
     requires few { length block ≤ 64 }
     requires apart { AreRangesWithin 0 address_end ranges.now }
-    requires rising { ArePostings (postings.old ++ alive ranges.now block) }
-    ensures { OnOk result (postings.new ≡ postings.old ++ alive ranges.now block.entry) }
+    ensures { OnOk result (concat lists.new.items ≡ concat lists.old.items ++ alive ranges.now block.entry) }
 {
     let mut rest = block;
     for range in ranges {
@@ -239,10 +213,11 @@ fn append_between(
             return Ok(());
         }
         let (live, others) = rest.split(range.first);
-        postings.append(&live)?;
+        lists.push(live)?;
         rest = others.split(range.last + 1).1;
     }
-    postings.append(&rest)
+    lists.push(rest)?;
+    Ok(())
 }
 
 /// Puts the live ones of the postings after the addresses. Each block is read once.

@@ -1,17 +1,16 @@
-ghost use Rattle.std.specs.Prelude.{◌≡◌, List, ℕ, [], ◌++◌, true, map, flat_map, IfOk, OnOk, IfSome, IsNone, IsTrue};
+ghost use Rattle.std.specs.Prelude.{◌≡◌, List, ℕ, [], ◌++◌, map, flat_map, IfOk, OnOk, IfSome, IsNone};
 ghost use Rattle.std.specs.List.{AllByRecursion, concat};
 ghost use Rattle.index_shard.specs.Kept.{leading};
-ghost use Rattle.posting_code.specs.Postings.{ArePostings};
 ghost use Rattle.slot_terms.specs.Firsts.{IsFirst};
 ghost use Rattle.slot_terms.specs.Leasts.{IsLeastAt, IsLeastOf};
-ghost use Rattle.slot_terms.specs.Parts.{IsNext, IsPart, IsWhole, alive, head_postings, part_of, past, postings_left};
+ghost use Rattle.slot_terms.specs.Parts.{IsNext, IsPart, alive, head_postings, part_of, past, postings_left};
 
 use crate::first::First;
 use crate::least::{Least, least_of};
 use crate::part::Part;
 use index_shard::Room;
 use live_version::Slot;
-use posting_code::{PostingList, PostingMaker, Postings};
+use posting_code::Postings;
 use std::alloc::{AllocError, Global};
 use std::marker::Model;
 
@@ -19,8 +18,6 @@ use std::marker::Model;
 #[derive(Drop)]
 pub struct SlotTerms<'a> {
     parts: Vec<Part<'a>>,
-    // the postings of one term, in memory that is used again for the next
-    postings: PostingMaker,
 }
 
 impl<'a> Model for SlotTerms<'a> {
@@ -42,10 +39,7 @@ impl<'a> SlotTerms<'a> {
         for slot in slots {
             parts.push(Part::new(slot.shard(), slot.mask()))?;
         }
-        Ok(SlotTerms {
-            parts,
-            postings: PostingMaker::new(alloc),
-        })
+        Ok(SlotTerms { parts })
     }
 
     /// The next term, and its live postings in place of the addresses: none where all of them are dead. After an Err nothing is known of
@@ -64,13 +58,6 @@ impl<'a> SlotTerms<'a> {
         Ok(None)
     }
 
-    /// Whether no address of the slots is dead.
-    pub fn is_whole(&self) -> bool
-        ensures { IsTrue result → AllByRecursion IsWhole self.now }
-    {
-        self.parts.iter().all(|part| part.is_whole())
-    }
-
     /// What the tables of all slots take: as much as that of the terms that they become, or more.
     pub fn room(&self) -> Room {
         let mut room = Room {
@@ -84,41 +71,22 @@ impl<'a> SlotTerms<'a> {
         room
     }
 
-    /// The next term after its first bytes as a number, and its postings in place of the lists, slot by slot. They are lent, and none is
-    /// unpacked. After an Err nothing is known of what is still to come.
+    /// The next term after its first bytes as a number, and its live postings in place of the lists, slot by slot: none where all of them are
+    /// dead. They are lent, and none is unpacked. After an Err nothing is known of what is still to come.
     pub fn next_lists(
         &mut self,
         lists: &mut Vec<Postings<'a>>,
     ) -> Result<Option<(u64, &'a [u8])>, AllocError>
-        requires parts { AllByRecursion IsPart self.old }
-        requires whole { AllByRecursion IsWhole self.old }
+        requires { AllByRecursion IsPart self.old }
         ensures head { IfOk result (λ found. IfSome found (λ next. next.0 ≡ leading 8 0 next.1.now)) }
         ensures next { IfOk result (λ found. IfSome found (λ next. IsNext self.old next.1.now (concat lists.new.items))) }
         ensures past { IfOk result (λ found. IfSome found (λ next. self.new ≡ map (past next.1.now) self.old)) }
         ensures parts { IfOk result (λ found. AllByRecursion IsPart self.new) }
-        ensures whole { IfOk result (λ found. AllByRecursion IsWhole self.new) }
         ensures none { IfOk result (λ found. IsNone found → (term : List ℕ) → postings_left self.old term ≡ []) }
     {
         if let Some(least) = self.least() {
             self.take_lists(&least, lists)?;
             return Ok(Some((least.first.head, least.first.term)));
-        }
-        Ok(None)
-    }
-
-    /// The next term, and a list of its live postings: an empty one where all of them are dead. After an Err nothing is known of what is
-    /// still to come.
-    pub fn next_packed(&mut self) -> Result<Option<(&'a [u8], PostingList)>, AllocError>
-        requires parts { AllByRecursion IsPart self.old }
-        requires rising { (term : List ℕ) → ArePostings (postings_left self.old term) }
-        ensures next { IfOk result (λ found. IfSome found (λ next. IsNext self.old next.0.now next.1)) }
-        ensures past { IfOk result (λ found. IfSome found (λ next. self.new ≡ map (past next.0.now) self.old)) }
-        ensures parts { IfOk result (λ found. AllByRecursion IsPart self.new) }
-        ensures none { IfOk result (λ found. IsNone found → (term : List ℕ) → postings_left self.old term ≡ []) }
-    {
-        if let Some(least) = self.least() {
-            let postings = self.take_packed(&least.first)?;
-            return Ok(Some((least.first.term, postings)));
         }
         Ok(None)
     }
@@ -145,41 +113,13 @@ impl<'a> SlotTerms<'a> {
         lists: &mut Vec<Postings<'a>>,
     ) -> Result<(), AllocError>
         requires { IsLeastAt self.old least.now }
-        ensures lists { OnOk result (concat lists.new.items ≡ flat_map (λ part. head_postings part.left least.now.first.term.now) self.old) }
+        ensures lists { OnOk result (concat lists.new.items ≡ flat_map (λ part. alive part.mask (head_postings part.left least.now.first.term.now)) self.old) }
         ensures past { OnOk result (self.new ≡ map (past least.now.first.term.now) self.old) }
     {
         lists.clear();
         take_term_lists(self.parts.as_mut_slice(), least, lists)?;
         Ok(())
     }
-
-    fn take_packed(&mut self, first: &First<'_>) -> Result<PostingList, AllocError>
-        requires first { IsFirst first.now }
-        requires rising { ArePostings (flat_map (λ part. alive part.mask (head_postings part.left first.now.term.now)) self.old) }
-        ensures postings { IfOk result (λ postings. postings ≡ flat_map (λ part. alive part.mask (head_postings part.left first.now.term.now)) self.old) }
-        ensures past { OnOk result (self.new ≡ map (past first.now.term.now) self.old) }
-    {
-        self.postings.clear();
-        take_term_packed(self.parts.as_mut_slice(), first, &mut self.postings)?;
-        self.postings.copy()
-    }
-}
-
-/// Goes past the term in each part, and puts its live postings after those of a list.
-fn take_term_packed(
-    parts: &mut [Part<'_>],
-    first: &First<'_>,
-    postings: &mut PostingMaker,
-) -> Result<(), AllocError>
-    requires first { IsFirst first.now }
-    requires rising { ArePostings (postings.old ++ flat_map (λ part. alive part.mask (head_postings part.left first.now.term.now)) parts.old) }
-    ensures postings { OnOk result (postings.new ≡ postings.old ++ flat_map (λ part. alive part.mask (head_postings part.left first.now.term.now)) parts.old) }
-    ensures past { OnOk result (parts.new ≡ map (past first.now.term.now) parts.old) }
-{
-    for part in parts.iter_mut() {
-        part.take_packed(first, postings)?;
-    }
-    Ok(())
 }
 
 /// Goes past the term in each part, and puts its live postings after the addresses.
@@ -199,7 +139,7 @@ fn take_term(
     Ok(())
 }
 
-/// Goes past the least term in each part that has it, and puts its postings after the lists.
+/// Goes past the least term in each part that has it, and puts its live postings after the lists.
 fn take_term_lists<'a>(
     parts: &mut [Part<'a>],
     least: &Least<'_>,
@@ -207,7 +147,7 @@ fn take_term_lists<'a>(
 ) -> Result<(), AllocError>
     requires { IsLeastAt parts.old least.now }
     ensures lists { OnOk result (concat lists.new.items ≡ concat lists.old.items ++
-        flat_map (λ part. head_postings part.left least.now.first.term.now) parts.old) }
+        flat_map (λ part. alive part.mask (head_postings part.left least.now.first.term.now)) parts.old) }
     ensures past { OnOk result (parts.new ≡ map (past least.now.first.term.now) parts.old) }
 {
     parts[least.place].take_first(lists)?;

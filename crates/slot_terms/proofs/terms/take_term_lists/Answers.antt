@@ -1,6 +1,6 @@
 use Rattle.std.proofs.Common.{◌+◌, ◌++◌, sym, ap, slice_set, length, ◌∙◌, arith, le_refl}
 use Rattle.std.specs.List.{concat}
-use Rattle.slot_terms.specs.Parts.{PartContent, head_postings, past}
+use Rattle.slot_terms.specs.Parts.{PartContent, alive, head_postings, past}
 use Rattle.slot_terms.proofs.Taken.{taken_all, taken_alone, taken_first, taken_length, taken_more}
 use Rattle.slot_terms.proofs.terms.take_term_lists.Goals as goal
 
@@ -39,4 +39,4 @@ loop-place-preserved c =
     taken_more term parts c.loop-place.parts base out (concat c.take_list.new.lists.items) c.loop-place.place item c.take_list.new.self (omega (arith, long, end)) c.loop-place.invariant
     c.index-parts-place.is
     (c.in_ok-take_list.ensures.past ∙ ap (past term) (sym c.index-parts-place.is))
-    (c.in_ok-take_list.ensures.lists ∙ ap (λ (p : PartContent). out ++ head_postings p.left term) (sym c.index-parts-place.is))
+    (c.in_ok-take_list.ensures.lists ∙ ap (λ (p : PartContent). out ++ alive p.mask (head_postings p.left term)) (sym c.index-parts-place.is))
