@@ -1,67 +1,40 @@
 -- Where the loop of "containing" may begin: at an element after the second operand's first answer.
-use Rattle.std.proofs.Common.{◌≡◌, ℕ, ◌+◌, ◌≤◌, Bool, true, ◌&&◌, leb, eqb, List, [], ◌∷◌, Option, Some, None, IfSome, MatchOption, inl, inr, refl, sym, ap, ◌∙◌, subst, arith, filter}
-use Rattle.std.specs.List.{list_any}
-use Rattle.std.proofs.lemmas.Bool.{true≢false, or_cases, and_parts, leb-true, le-leb, eqb-true}
-use Rattle.gcl_model.specs.Extents.{Extent, covers, all_extents}
-use Rattle.gcl_model.specs.Texts.{Text, IsText, next_place}
-use Rattle.gcl_model.specs.Forms.{Form, term, containing}
+use Rattle.std.proofs.Common.{◌≡◌, ℕ, ◌+◌, ◌≤◌, leb, Option, Some, None, IfSome, MatchOption, sym, ap, ◌∙◌, subst, arith, filter}
+use Rattle.std.proofs.lemmas.Bool.{leb-true, le-leb}
+use Rattle.gcl_model.specs.Extents.{Extent, covers}
+use Rattle.gcl_model.specs.Texts.{Text}
+use Rattle.gcl_model.specs.Forms.{Form, containing}
 use Rattle.gcl_model.specs.FormOf.{containment_form}
-use Rattle.gcl_model.specs.Meaning.{concordance, denotes, ends_in_order}
+use Rattle.gcl_model.specs.Meaning.{concordance}
 use Rattle.gcl_model.specs.Cost.{cost}
 use Rattle.gcl_model.specs.Access.{first_start, first_end}
-use Rattle.gcl_model.proofs.Covers.{Has, covered_tells, find_agree_on}
+use Rattle.gcl_model.proofs.Covers.{covered_tells, find_agree_on}
 use Rattle.gcl_model.proofs.Minimal.{has_filter, same_truth}
 use Rattle.gcl_model.proofs.Meanings.{concordance_rises}
-use Rattle.gcl_model.proofs.Places.{point}
 use Rattle.gcl_contain.proofs.Accesses.{end_is_place, found_first, from_by_place}
 use Rattle.gcl_contain.proofs.Loops.{starts_forward}
 use Rattle.gcl_contain.proofs.Nodes.{containing_list}
 use Rattle.gcl_eval.specs.Containments.{IsBeginning, MayBegin}
 use Rattle.gcl_eval.specs.Costs.{cost_in, ahead_cost, rounds}
 use Rattle.gcl_eval.specs.Directions.{access_of, direction_of}
-use Rattle.gcl_eval.specs.Operands.{element_form}
 use Rattle.gcl_model.specs.declared.containment.Containment.{Containment}
 use Rattle.gcl_model.specs.declared.containment.Containment.TheVariants.{Containing, ContainedIn, NotContaining, NotContainedIn}
 use Rattle.gcl_model.specs.declared.direction.Direction.{Direction}
 use Rattle.gcl_eval.specs.declared.direction.Access.{Access}
 use Rattle.gcl_eval.specs.declared.direction.Access.TheVariants.{FirstStart, FirstEnd, LastEnd, LastStart}
-use Rattle.gcl_eval.proofs.TermAccess.{term_found}
 use Rattle.gcl_eval.proofs.CostLemmas.{cost_in_le}
 use Rattle.gcl_eval.proofs.ContainLoops.{IsAt}
 use Rattle.gcl_eval.proofs.ContainSteps.{node_enters, node_enters_none}
 
--- what starts where a member of the list does starts at the first of them or later
-from_first : (list : List Extent) (rest : Extent → Bool) (k p s : ℕ) → ((d : Extent) → Has list d → k ≤ d.start → p ≤ d.start) → list_any (λ a. eqb a.start s && rest a) list ≡ true → k ≤ s → p ≤ s
-from_first [] rest k p s first e le = absurd (true≢false (sym e))
-from_first (x ∷ xs) rest k p s first e le =
-    elim (or_cases (eqb x.start s && rest x) (list_any (λ a. eqb a.start s && rest a) xs) e) [
-      | inl h ↦
-          let same : x.start ≡ s = eqb-true x.start s (and_parts _ _ h).0 in
-          let here : p ≤ x.start = first x (inl refl) (omega arith) in
-          omega arith
-      | inr h ↦ from_first xs rest k p s (λ d m. first d (inr m)) h le
-    ]
-
--- an element from k on starts at the next place of its first token or later
-element_from_place : (text : Text) → IsText text → (form : Form) (first second bytes : List ℕ) → form ≡ element_form first second → bytes ≡ first → (k p : ℕ) → Some p ≡ next_place text.words bytes k →
-    (c : Extent) → Has (concordance text form) c → k ≤ c.start → p ≤ c.start
-element_from_place text sound form first second bytes is same k p found c m le =
-    let firsts = concordance text (term first) in
-    let node = element_form first second in
-    let next = found_first (λ x. x.start) firsts (concordance_rises text (term first)) k (point p) (sym (term_found FirstStart text first bytes k (Some p) sound same found)) in
-    let test = (has_filter (denotes text node) (all_extents text.first text.next) c (subst (λ f. Has (concordance text f) c) is m)).1 in
-    from_first firsts (λ a. ends_in_order (concordance text (term second) ∷ []) (a.end + 1) c.end) k p c.start (λ d n ge. (next.first d n ge).0) (and_parts _ _ test).0 le
-
--- each member of "containing" from k on holds an answer from p on, so it ends where the first of these does, or later
-pub element_begins : (text : Text) → IsText text → (a b : Form) (first second bytes : List ℕ) → a ≡ element_form first second → bytes ≡ first → (k p : ℕ) → Some p ≡ next_place text.words bytes k →
-    (d : Extent) → Some d ≡ first_start (concordance text b) p → (m : Extent) → Some m ≡ first_end (concordance text a) d.end → k ≤ m.start →
+-- each member of "containing" from k on holds an answer from k on, so it ends where the first of these does, or later
+pub element_begins : (text : Text) (a b : Form) (k : ℕ) (d : Extent) → Some d ≡ first_start (concordance text b) k → (m : Extent) → Some m ≡ first_end (concordance text a) d.end → k ≤ m.start →
     IsBeginning (concordance text a) (concordance text (containing a b)) k m
-element_begins text sound a b first second bytes is same k p found d answered m behind low =
+element_begins text a b k d answered m behind low =
     let members = concordance text a in
     let others = concordance text b in
     let r = concordance_rises text a in
     let ends = found_first (λ c. c.end) members r d.end m (sym behind) in
-    let next = found_first (λ c. c.start) others (concordance_rises text b) p d (sym answered) in
+    let next = found_first (λ c. c.start) others (concordance_rises text b) k d (sym answered) in
     record {
       found = starts_forward (λ c. c.end) (λ c. c.end) end_is_place end_is_place members r d.end m behind;
       answer = ap (λ list. first_end list m.end) (containing_list text a b)
@@ -71,7 +44,7 @@ element_begins text sound a b first second bytes is same k p found d answered m 
           (λ e. let on = (from_by_place (λ x. x.end) end_is_place members r m c ends.member h.0 (leb-true m.end c.end e)).0 in le-leb k c.start (omega arith))
           (λ e.
           let w = covered_tells others c h.1 in
-          let from : p ≤ c.start = element_from_place text sound a first second bytes is same k p found c h.0 (leb-true k c.start e) in
+          let from = leb-true k c.start e in
           let inner = w.nested.0 in
           let outer = w.nested.1 in
           let later = (next.first w.by w.member (omega arith)).1 in

@@ -1,15 +1,16 @@
-pub mod Found
-pub mod CostLemmas
-pub mod TermAccess
-pub mod FarAccess
-pub mod ChainRules
-pub mod OperandLemmas
-pub mod ChainSteps
-pub mod Listing
-pub mod KnownLemmas
-mod Worked
-pub mod ContainLoops
-pub mod ContainForms
-pub mod ContainSteps
-pub mod ElementLemmas
+pub mod Overlaps
 pub mod Beginnings
+pub mod ChainRules
+pub mod ChainSteps
+pub mod ContainForms
+pub mod ContainLoops
+pub mod ContainSteps
+pub mod CostLemmas
+pub mod ElementLemmas
+pub mod FarAccess
+pub mod Found
+pub mod KnownLemmas
+pub mod Listing
+pub mod OperandLemmas
+pub mod TermAccess
+mod Worked

@@ -38,7 +38,7 @@ abbrev pub told : Access → Option Known → ℕ → Option (Option Extent)
 told access None k = None
 told access (Some known) k = if goes_on access known.at k && stays access known.answer k then Some known.answer else None
 
--- the answer that is known was asked for before the member that starts right before k: that at 2 was so at 6, and not at 3
+-- the answer that is known was asked for further back than the place right before k: that at 2 was so at 6, and not at 3
 abbrev pub was_leap : Option Known → ℕ → Bool
 was_leap None k = false
 was_leap (Some known) k = nat_lt known.at (k - 1)

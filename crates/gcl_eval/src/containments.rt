@@ -84,7 +84,7 @@ fn first_member<C: CountedLeaves>(
 }
 
 /// Where "containing" is asked by starts: an element at which its loop may begin, ahead of the first operand's next
-/// member. None is where three look-ups find none, or where the way to the last member was no leap.
+/// member. None is where three look-ups find none, or where nothing was asked further back.
 #[inline(always)]
 #[cycle(access)]
 fn element_ahead<C: CountedLeaves>(
@@ -114,9 +114,8 @@ fn element_ahead<C: CountedLeaves>(
     }
 }
 
-/// The first element that ends where an answer of the second operand does, or later: its first one from the next place
-/// of the element's first token on. Each member of "containing" from `k` on holds an answer from there on, so it ends
-/// there or later, too.
+/// The first element that ends where the second operand's first answer from `k` on does, or later. Each member of
+/// "containing" from `k` on holds an answer from there on, so it ends there or later, too.
 #[inline]
 #[cycle(access)]
 fn element_behind_answer<C: CountedLeaves>(
@@ -141,9 +140,9 @@ fn element_behind_answer<C: CountedLeaves>(
     if !was_leap(known, k) {
         return None;
     }
-    let (token, _) = element_tokens(first)?;
-    let from = source.next(token.as_slice(), k, counter)?;
-    let answer = known_access(second, Access::FirstStart, source, from, known, counter)?;
+    // any other first operand is not found by three look-ups
+    let _tokens = element_tokens(first)?;
+    let answer = known_access(second, Access::FirstStart, source, k, known, counter)?;
     let element = element_up_to(first, source, answer.end, counter)?;
     if k <= element.start {
         Some(element)

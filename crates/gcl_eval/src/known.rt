@@ -83,8 +83,8 @@ fn asked_at(at: u64, answer: &Option<Interval>) -> Known
     }
 }
 
-/// Whether the answer that is known was asked for before the member that starts right before `k`, as it is where others
-/// before that member were passed over.
+/// Whether the answer that is known was asked for further back than the place right before `k`, as it is where an element
+/// was passed since, or several members were.
 #[inline(always)]
 pub(crate) fn was_leap(known: &Option<Known>, k: u64) -> bool
     ensures { result ≡ was_leap known.now k }

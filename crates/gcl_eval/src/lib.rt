@@ -9,6 +9,7 @@
 
 mod access;
 mod accesses;
+mod apart;
 mod chains;
 mod containment;
 mod containments;

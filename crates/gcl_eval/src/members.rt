@@ -7,6 +7,7 @@ ghost use Rattle.gcl_model.specs.WellFormed.{IsWellFormed};
 ghost use Rattle.gcl_eval.specs.Costs.{near_cost};
 ghost use Rattle.gcl_eval.specs.Members.{members_from};
 
+use crate::apart::next_from;
 use crate::onward::{MOST_KNOWN, next_member};
 use gcl_model::{CountedLeaves, Expr, IntervalList, Leaves, Ledger, LentLeaves, Steps};
 use std::alloc::{AllocError, Global};
@@ -30,12 +31,14 @@ fn number_of_members<C: CountedLeaves>(expr: &Expr, source: &C, counter: &mut C:
     ensures cost { C.count counter.new ≤ C.count counter.old + (result + 1) * cost (C.text source.now) (C.most source.now) (form_of expr.now) }
     ensures near_cost { C.count counter.new ≤ C.count counter.old + (result + 1) * near_cost (C.text source.now) (C.most source.now) (form_of expr.now) }
 {
+    // the span tells that the words rise
+    let _span = source.span();
     let mut known = [None; MOST_KNOWN];
     let mut members = 0;
     let mut from = 0;
     while let Some(member) = next_member(expr, source, from, &mut known, counter) {
         members += 1;
-        from = member.start + 1;
+        from = next_from(expr, member);
     }
     members
 }
@@ -108,6 +111,8 @@ fn members_of<C: CountedLeaves>(
         (length (take page.most (members_from (concordance (C.text source.now) (form_of expr.now)) page.from)) + 1) *
         near_cost (C.text source.now) (C.most source.now) (form_of expr.now) }
 {
+    // the span tells that the words rise
+    let _span = source.span();
     let mut known = [None; MOST_KNOWN];
     let mut members = IntervalList::new(alloc);
     let mut from = page.from;
@@ -116,7 +121,7 @@ fn members_of<C: CountedLeaves>(
             break;
         };
         members.push(member)?;
-        from = member.start + 1;
+        from = next_from(expr, member);
     }
     Ok(members)
 }

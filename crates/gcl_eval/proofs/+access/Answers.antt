@@ -8,7 +8,6 @@ use Rattle.gcl_eval.specs.Operands.{operand_forms, operand_lists}
 use Rattle.gcl_combine.specs.Directions.{farthest, best}
 use Rattle.gcl_eval.specs.Directions.{access_of, walk, join}
 use Rattle.gcl_model.specs.declared.direction.Direction.TheVariants.{Forward}
-use Rattle.gcl_eval.specs.declared.direction.Access.TheVariants.{FirstStart}
 use Rattle.gcl_model.proofs.Lists.{drop_here}
 use Rattle.gcl_eval.proofs.Found.{access_within}
 use Rattle.gcl_eval.proofs.ChainRules.{back_is_as_far}
@@ -19,7 +18,6 @@ use Rattle.gcl_eval.proofs.KnownLemmas.{told_is, asked_second, kept_second}
 use Rattle.gcl_eval.proofs.ContainLoops.{goes_below}
 use Rattle.gcl_eval.proofs.ContainForms.{both_operands, access_spans, spans_below}
 use Rattle.gcl_eval.proofs.ContainSteps.{node_accepts, node_finishes, node_ends, node_goes_on, node_more_turns, fewer_left, none_within, starts_within, stops_within, ends_within, goes_within}
-use Rattle.gcl_eval.proofs.ElementLemmas.{place_below}
 use Rattle.gcl_eval.proofs.Beginnings.{element_begins, node_begins, node_begins_none, begins_within}
 use Rattle.gcl_eval.proofs.+access.Goals as goal
 
@@ -477,11 +475,6 @@ known::known_access-returns-in-Some-clause-within g t c =
     (told_is c.args.wanted (concordance (g.C.CountedLeaves.text c.args.source.now) (form_of c.args.expr.now)) c.args.known.now c.requires.known c.args.k c.in-Some.answer c.in-Some.ensures).1
 
 -- where "containing" may begin
-pub containments::element_behind_answer-known_access-requires : goal.containments::element_behind_answer-known_access-requires
-containments::element_behind_answer-known_access-requires g t c =
-    let within = place_below FirstStart (g.C.CountedLeaves.text c.args.source.now) c.next.ensures.sound c.as_slice.result.now c.args.k c.in_ok-from.from c.in_ok-from.ensures.answer in
-    search rules
-
 pub containments::element_behind_answer-returns-then-k-element-clause-begins : goal.containments::element_behind_answer-returns-then-k-element-clause-begins
 containments::element_behind_answer-returns-then-k-element-clause-begins g t c =
     let text = g.C.CountedLeaves.text c.args.source.now in
@@ -489,5 +482,4 @@ containments::element_behind_answer-returns-then-k-element-clause-begins g t c =
     let at = ap (λ (a : Extent). a.start) c.element.view_is in
     let from = c.if-k-element.true in
     let low : c.args.k ≤ c.in_ok-element.element.start = omega arith in
-    element_begins text c.next.ensures.sound (form_of c.args.first.now) (form_of c.args.second.now) c.in_ok-token.token.now c.in_ok-token.field-0-1.now c.as_slice.result.now
-    c.in_ok-token.ensures c.as_slice.ensures c.args.k c.in_ok-from.from c.in_ok-from.ensures.answer c.in_ok-answer.answer c.in_ok-answer.ensures.answer c.in_ok-element.element behind low
+    element_begins text (form_of c.args.first.now) (form_of c.args.second.now) c.args.k c.in_ok-answer.answer c.in_ok-answer.ensures.answer c.in_ok-element.element behind low

@@ -1,5 +1,4 @@
-use Rattle.std.proofs.Common.{◌+◌, ◌∷◌, length, refl, ap, sym, ◌∙◌, arith}
-use Rattle.gcl_model.specs.Extents.{Extent}
+use Rattle.std.proofs.Common.{◌∷◌, length, refl, ap, sym, ◌∙◌, arith}
 use Rattle.gcl_model.specs.FormOf.{form_of}
 use Rattle.gcl_model.specs.Meaning.{concordance}
 use Rattle.gcl_model.proofs.Meanings.{concordance_rises}
@@ -21,25 +20,25 @@ loop-page-smaller g c =
     let text = g.C.CountedLeaves.text c.args.source.now in
     let list = concordance text (form_of c.args.expr.now) in
     let next = next_member list (concordance_rises text (form_of c.args.expr.now)) c.loop-page.from c.in-Some.member (sym c.in-Some.ensures.answer) in
-    let fewer = ap length (next ∙ ap (λ n. c.in-Some.member ∷ members_from list (n + 1)) (sym {b = c.in-Some.member.start} (ap (λ (a : Extent). a.start) c.member.view_is))) in
-    omega arith
+    let onward = c.next_from-from.ensures.onward text c.loop-page.from c.span-span.ensures.sound c.in-Some.ensures.answer in
+    let fewer = ap length (next ∙ ap (λ l. c.in-Some.member ∷ l) (sym onward)) in
+    omega (arith, fewer)
 
 pub loop-page-preserved : goal.loop-page-preserved
 loop-page-preserved g c =
     let text = g.C.CountedLeaves.text c.args.source.now in
     let list = concordance text (form_of c.args.expr.now) in
-    let at = ap (λ (a : Extent). a.start) c.member.view_is in
-    let ends = ap (λ (a : Extent). a.end) c.member.view_is in
+    let onward = c.next_from-from.ensures.onward text c.loop-page.from c.span-span.ensures.sound c.in-Some.ensures.answer in
     let next = next_member list (concordance_rises text (form_of c.args.expr.now)) c.loop-page.from c.in-Some.member (sym c.in-Some.ensures.answer)
-    ∙ ap (λ n. c.in-Some.member ∷ members_from list (n + 1)) (sym {b = c.in-Some.member.start} at) in
+    ∙ ap (λ l. c.in-Some.member ∷ l) (sym onward) in
+    let upto = c.next_from-from.ensures.within in
     let put = put_counted c.loop-page.members c.push.new.self c.in-Some.member c.in_ok-push.ensures.ok in
     let room = c.loop-page-test.true in
-    let proper = c.member.invariant in
     let within = c.in-Some.ensures.within in
     record {
-      kept = rw c.in_ok-push.ensures.ok (put_next list (members_from list c.args.page.from) c.loop-page.members c.loop-page.from c.loop-page.invariant.kept c.in-Some.member (c.member.inside.start + 1) next);
+      kept = rw c.in_ok-push.ensures.ok (put_next list (members_from list c.args.page.from) c.loop-page.members c.loop-page.from c.loop-page.invariant.kept c.in-Some.member c.next_from-from.result next);
       few = omega arith;
-      below = omega arith;
+      below = omega (arith, upto, within);
       known = c.next_member.ensures.known;
       counted = omega (arith, c.loop-page.invariant.counted, c.next_member.ensures.counted);
       cost = rw put (one_asked (g.C.CountedLeaves.count c.args.counter.now) (g.C.CountedLeaves.count c.loop-page.counter) (g.C.CountedLeaves.count c.next_member.new.counter) (length c.loop-page.members)

@@ -1,10 +1,8 @@
 use Rattle.std.proofs.Common.{◌+◌, ◌∷◌, length, ap, sym, ◌∙◌, arith}
-use Rattle.gcl_model.specs.Extents.{Extent}
 use Rattle.gcl_model.specs.FormOf.{form_of}
 use Rattle.gcl_model.specs.Meaning.{concordance}
 use Rattle.gcl_model.proofs.Meanings.{concordance_rises}
 use Rattle.gcl_eval.specs.Costs.{near_cost}
-use Rattle.gcl_eval.specs.Members.{members_from}
 use Rattle.gcl_eval.proofs.CostLemmas.{within_cost}
 use Rattle.gcl_eval.proofs.KnownLemmas.{none_is_known}
 use Rattle.phrase_walk.proofs.Asked.{one_asked}
@@ -21,24 +19,25 @@ loop-member-smaller g c =
     let text = g.C.CountedLeaves.text c.args.source.now in
     let list = concordance text (form_of c.args.expr.now) in
     let next = next_member list (concordance_rises text (form_of c.args.expr.now)) c.loop-member.from c.in-Some.member (sym c.in-Some.ensures.answer) in
-    let fewer = ap length (next ∙ ap (λ n. c.in-Some.member ∷ members_from list (n + 1)) (sym {b = c.in-Some.member.start} (ap (λ (a : Extent). a.start) c.member.view_is))) in
-    omega arith
+    let onward = c.next_from-from.ensures.onward text c.loop-member.from c.span-span.ensures.sound c.in-Some.ensures.answer in
+    let fewer = ap length (next ∙ ap (λ l. c.in-Some.member ∷ l) (sym onward)) in
+    omega (arith, fewer)
 
 pub loop-member-preserved : goal.loop-member-preserved
 loop-member-preserved g c =
     let text = g.C.CountedLeaves.text c.args.source.now in
     let list = concordance text (form_of c.args.expr.now) in
-    let at = ap (λ (a : Extent). a.start) c.member.view_is in
-    let ends = ap (λ (a : Extent). a.end) c.member.view_is in
     let next = next_member list (concordance_rises text (form_of c.args.expr.now)) c.loop-member.from c.in-Some.member (sym c.in-Some.ensures.answer) in
-    let fewer = ap length (next ∙ ap (λ n. c.in-Some.member ∷ members_from list (n + 1)) (sym {b = c.in-Some.member.start} at)) in
+    let onward = c.next_from-from.ensures.onward text c.loop-member.from c.span-span.ensures.sound c.in-Some.ensures.answer in
+    let fewer = ap length (next ∙ ap (λ l. c.in-Some.member ∷ l) (sym onward)) in
+    let past = c.next_from-from.ensures.past in
+    let upto = c.next_from-from.ensures.within in
     let from = from_le list c.loop-member.from c.in-Some.member (sym c.in-Some.ensures.answer) in
-    let proper = c.member.invariant in
     let within = c.in-Some.ensures.within in
     record {
-      kept = omega arith;
-      few = omega arith;
-      below = omega arith;
+      kept = omega (arith, fewer);
+      few = omega (arith, from, past);
+      below = omega (arith, upto, within);
       known = c.next_member.ensures.known;
       counted = omega (arith, c.loop-member.invariant.counted, c.next_member.ensures.counted);
       cost = one_asked (g.C.CountedLeaves.count c.args.counter.now) (g.C.CountedLeaves.count c.loop-member.counter) (g.C.CountedLeaves.count c.next_member.new.counter) c.loop-member.members
