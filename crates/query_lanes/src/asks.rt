@@ -32,6 +32,23 @@ pub struct Ask {
     ghost well_formed: { IfOk query (λ expr. IsWellFormed (form_of expr)) } by { query-prop query },
 }
 
+impl Ask {
+    /// Whether its answer takes a walk. The number of members of a term, or of one of several terms, is that of their postings, and a fault
+    /// is known.
+    pub(crate) fn takes_a_walk(&self) -> bool {
+        match (self.asked, &self.query) {
+            (_, Err(_)) => false,
+            (Asked::Number, Ok(Expr::Term(_))) => false,
+            (Asked::Number, Ok(Expr::One(operands))) => {
+                operands
+                    .iter()
+                    .any(|operand| !matches!(operand, Expr::Term(_)))
+            }
+            _ => true,
+        }
+    }
+}
+
 /// The answer to a query.
 #[derive(Drop)]
 pub enum Found {

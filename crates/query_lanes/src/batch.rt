@@ -87,6 +87,12 @@ fn run_all<R: Threads + Wait + Sync, G: Gate + Sync>(
     Ok(())
 }
 
+/// Whether a batch is worth threads. Where nothing is to be done beside them, one query is not, nor are queries that take no walk.
+fn is_worth_lanes(asks: &[Ask], wanted: bool) -> bool {
+    let walks = asks.iter().filter(|ask| ask.takes_a_walk()).count();
+    walks > 1 || (wanted && !asks.is_empty())
+}
+
 /// A batch that needs no lanes: the merge, where it is wanted, and then each query on the engine's own pass.
 fn answer_in_turn<R: Wait, G: Gate>(
     rt: &R,
@@ -167,9 +173,7 @@ pub fn answer_batch<R: Threads + Wait + Sync, G: Gate + Sync>(
     ensures stands { Keeps engine.old.version engine.new.version }
     ensures of { AreOf engine.new.publisher readers.new }
 {
-    // one query takes no thread of its own, and no entering
-    let sides = if wanted { 1 } else { 2 };
-    if readers.is_empty() || asks.len() < sides {
+    if readers.is_empty() || !is_worth_lanes(asks, wanted) {
         let answers = answer_in_turn(rt, alloc, gate, asks, wanted, engine)?;
         return Ok(answers);
     }
