@@ -33,17 +33,24 @@ struct AccessAt<'a> {
 }
 
 impl Question for AccessAt<'_> {
-    ghost use Rattle.std.specs.Prelude.{◌<◌, ⊤};
+    ghost use Rattle.std.specs.Prelude.{◌≡◌, ◌<◌};
+    ghost use Rattle.gcl_model.specs.Access.{first_start, first_end, last_end, last_start};
     ghost use Rattle.gcl_model.specs.Limits.{far};
     ghost use Rattle.gcl_model.specs.FormOf.{form_of};
+    ghost use Rattle.gcl_model.specs.Meaning.{concordance};
     ghost use Rattle.gcl_model.specs.Cost.{cost};
     ghost use Rattle.gcl_model.specs.WellFormed.{IsWellFormed};
+    ghost use Rattle.index_tests.specs.declared.evaluation.Access.TheVariants.{FirstStart, FirstEnd, LastEnd, LastStart};
 
     type Answer = Option<Interval>;
 
     ghost can_ask = { λ asked. IsWellFormed (form_of asked.expr.now) × (asked.k < far) };
 
-    ghost answers = { λ _ _. ⊤ };
+    ghost answers = { λ asked answer.
+        (asked.access ≡ FirstStart → answer ≡ first_start (concordance asked.text.now (form_of asked.expr.now)) asked.k) ×
+        (asked.access ≡ FirstEnd → answer ≡ first_end (concordance asked.text.now (form_of asked.expr.now)) asked.k) ×
+        (asked.access ≡ LastEnd → answer ≡ last_end (concordance asked.text.now (form_of asked.expr.now)) asked.k) ×
+        (asked.access ≡ LastStart → answer ≡ last_start (concordance asked.text.now (form_of asked.expr.now)) asked.k) };
 
     ghost most = { λ asked _. cost asked.text.now 1 (form_of asked.expr.now) };
 
