@@ -96,13 +96,17 @@ fn room_of(lists: &[Postings<'_>]) -> usize {
     room
 }
 
-/// The list of all addresses, in memory of its own.
-pub(crate) fn one_list(alloc: Global, lists: &[Postings<'_>]) -> Result<PostingList, AllocError>
+/// The list of all addresses, of which there are so many, in memory of its own.
+pub(crate) fn one_list(
+    alloc: Global,
+    lists: &[Postings<'_>],
+    count: usize,
+) -> Result<PostingList, AllocError>
     requires { ArePostings (concat lists.now) }
     ensures { IfOk result (λ list. list ≡ concat lists.now) }
 {
     let mut maker = PostingMaker::new(alloc);
-    maker.reserve(room_of(lists))?;
+    maker.reserve(room_of(lists), count)?;
     for list in lists {
         maker.append(list)?;
     }
@@ -110,7 +114,7 @@ pub(crate) fn one_list(alloc: Global, lists: &[Postings<'_>]) -> Result<PostingL
 }
 
 /// Puts an entry after the others, and its term after the bytes of theirs.
-#[inline]
+#[inline(always)]
 pub(crate) fn put_entry(
     bytes: &mut Vec<u8>,
     entries: &mut Vec<Entry>,

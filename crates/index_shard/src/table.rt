@@ -81,7 +81,7 @@ impl TermTable {
     {
         let ends = ends_of(parts);
         if ends.count > BLOCK {
-            let joined = one_list(self.alloc(), parts)?;
+            let joined = one_list(self.alloc(), parts, ends.count)?;
             return self.push_long(term, joined);
         }
         let kept = put_short(&mut self.packed, ends, parts)?;

@@ -4,6 +4,7 @@ ghost use Rattle.posting_code.specs.Blocks.{count_in, first_in, heads_in, AreBlo
 
 use crate::head::{Head, push_head};
 use crate::posting_list::BLOCK;
+use crate::room::is_roomy;
 use std::alloc::{AllocError, Global};
 use std::mem;
 
@@ -194,18 +195,48 @@ impl Blocks {
         }
     }
 
-    /// Gives back the memory that growing took and no head needs.
+    /// Makes room for so many heads.
+    pub(crate) fn reserve(&mut self, alloc: Global, heads: usize) -> Result<(), AllocError>
+        ensures { AreBlocks self.new (count_in self.old) (first_in self.old) (heads_in self.old) }
+    {
+        if heads == 0 {
+            return Ok(());
+        }
+        match self {
+            Blocks::One { count, first } => {
+                let many = no_heads(alloc, *count as usize, *first, heads)?;
+                *self = Blocks::Many(many);
+                Ok(())
+            }
+            Blocks::Many(many) => many.reserve(heads),
+        }
+    }
+
+    /// Gives back the memory that growing took and no head needs, where that is much.
     pub(crate) fn fit(&mut self)
         ensures { AreBlocks self.new (count_in self.old) (first_in self.old) (heads_in self.old) }
     {
         match self {
             Blocks::One { .. } => (),
-            Blocks::Many(many) => many.heads.shrink_to_fit(),
+            Blocks::Many(many) => {
+                if is_roomy(many.heads.capacity(), many.heads.len()) {
+                    many.heads.shrink_to_fit();
+                }
+            }
         }
     }
 }
 
 impl ManyBlocks {
+    /// Makes room for so many heads more.
+    fn reserve(&mut self, heads: usize) -> Result<(), AllocError>
+        ensures count { self.new.count ≡ self.old.count }
+        ensures first { self.new.first ≡ self.old.first }
+        ensures heads { self.new.heads.items ≡ self.old.heads.items }
+    {
+        self.heads.reserve(heads)
+    }
+
     /// Counts one member more, which has this head where it begins a block.
     fn push(&mut self, head: Head) -> Result<(), AllocError>
         requires { self.old.count ≤ 2 ^ 56 }
@@ -219,6 +250,25 @@ impl ManyBlocks {
         self.count += 1;
         Ok(())
     }
+}
+
+/// So many members of one block, and room for the heads of those to come.
+fn no_heads(
+    alloc: Global,
+    count: usize,
+    first: u64,
+    room: usize,
+) -> Result<Box<ManyBlocks>, AllocError>
+    ensures count { IfOk result (λ many. many.value.count ≡ count) }
+    ensures first { IfOk result (λ many. many.value.first ≡ first) }
+    ensures heads { IfOk result (λ many. many.value.heads.items ≡ []) }
+{
+    let many = ManyBlocks {
+        count,
+        first,
+        heads: Vec::with_capacity(alloc, room)?,
+    };
+    Ok(Box::new(alloc, many)?)
 }
 
 /// A whole block, and one member with this head after it.

@@ -19,6 +19,7 @@ mod laws;
 mod maker;
 mod number;
 mod posting_list;
+mod room;
 mod row;
 mod unpack;
 

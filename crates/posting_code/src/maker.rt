@@ -30,11 +30,12 @@ impl PostingMaker {
         }
     }
 
-    /// Makes room for so many bytes of packed differences more, so that the list need not be moved while it grows.
-    pub fn reserve(&mut self, bytes: usize) -> Result<(), AllocError>
+    /// Makes room for so many bytes of packed differences more and for so many members in all, so that the list need not be moved while it
+    /// grows.
+    pub fn reserve(&mut self, bytes: usize, count: usize) -> Result<(), AllocError>
         ensures { self.new ≡ self.old }
     {
-        self.list.reserve(bytes)
+        self.list.reserve(bytes, count)
     }
 
     /// Puts an address after the others.

@@ -7,6 +7,7 @@ ghost use Rattle.posting_code.specs.Numbers.{spelling};
 use crate::blocks::Blocks;
 use crate::head::{Head, head_of};
 use crate::number::{NUMBER_END, put_number};
+use crate::room::is_roomy;
 use crate::unpack::{Cut, around_in, cut_before, member_before, unpack, walk};
 use std::alloc::{AllocError, Global};
 use std::marker::Model;
@@ -174,18 +175,23 @@ impl PostingList {
         Ok(())
     }
 
-    /// Makes room for so many bytes of packed differences more.
-    pub(crate) fn reserve(&mut self, bytes: usize) -> Result<(), AllocError>
+    /// Makes room for so many bytes of packed differences more, and for so many members in all.
+    pub(crate) fn reserve(&mut self, bytes: usize, count: usize) -> Result<(), AllocError>
         ensures { self.new ≡ self.old }
     {
-        self.packed.reserve(bytes)
+        let alloc = self.alloc();
+        self.packed.reserve(bytes)?;
+        self.blocks.reserve(alloc, count.saturating_sub(1) / BLOCK)?;
+        Ok(())
     }
 
-    /// Gives back the memory that growing took and no address needs.
+    /// Gives back the memory that growing took and no address needs, where that is much.
     pub(crate) fn fit(&mut self)
         ensures { self.new ≡ self.old }
     {
-        self.packed.shrink_to_fit();
+        if is_roomy(self.packed.capacity(), self.packed.len()) {
+            self.packed.shrink_to_fit();
+        }
         self.blocks.fit();
     }
 

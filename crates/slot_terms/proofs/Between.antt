@@ -9,7 +9,7 @@ use Rattle.gcl_model.specs.Limits.{address_end}
 use Rattle.gcl_model.specs.Slots.{SlotRange, slot_range, AreRangesWithin}
 use Rattle.posting_code.specs.Postings.{RiseWithin, ArePostings}
 use Rattle.posting_code.specs.Packed.{last_of}
-use Rattle.posting_code.proofs.Rising.{rise_front}
+use Rattle.posting_code.proofs.Rising.{rise_front, rise_wider}
 use Rattle.posting_code.proofs.Cuts.{rise_to_last}
 use Rattle.delete_mask.specs.Masks.{is_within, is_dead, IsApart}
 use Rattle.delete_mask.proofs.Halving.{AreRangesWithin-before}
@@ -149,6 +149,19 @@ between_goes ranges block out put rest more live others dead after i range lt at
           ∙ was.all;
       few = omega (arith, long, long_others, few);
     }
+
+-- where all of the rest is before the next range, all of it is left
+pub between_apart : (ranges : List SlotRange) (block out put rest more : List ℕ) (i : ℕ) (range : SlotRange) → i < length ranges → range ≡ get_or ranges i range → AreRangesWithin 0 address_end ranges → ArePostings rest →
+    last_of rest < range.first → IsBetween ranges block out put rest i → more ≡ put ++ rest → more ≡ out ++ alive ranges block
+between_apart ranges block out put rest more i range lt at apart rising below was put_is =
+    let later = drop (i + 1) ranges in
+    let cut : drop i ranges ≡ range ∷ later = drop_more ranges i range lt ∙ ap (λ r. r ∷ later) (sym at) in
+    let left = subst (AreRangesWithin 0 address_end) cut (apart_drop 0 address_end ranges i apart) in
+    let before = rise_wider 0 0 (last_of rest + 1) range.first rest (rise_to_last 0 (2 ^ 56) rest rising) (omega arith) (omega (arith, below)) in
+    put_is
+    ∙ ap (λ l. put ++ l) (sym (before_alive range later 0 address_end rest left before))
+    ∙ ap (λ m. put ++ alive m rest) (sym cut)
+    ∙ was.all
 
 -- after the last range all of the rest is left
 pub between_ends : (ranges : List SlotRange) (block out put rest : List ℕ) (i : ℕ) → length ranges ≤ i → IsBetween ranges block out put rest i → put ++ rest ≡ out ++ alive ranges block

@@ -1,5 +1,5 @@
 -- The least of the first terms of the parts, and where it stands.
-use Rattle.std.proofs.Common.{◌≡◌, ℕ, true, false, List, [], ◌∷◌, ◌++◌, length, Some, None, Option, bytes_eq, Bool, append_assoc, inl, inr, refl, sym, ap, ◌∙◌, subst}
+use Rattle.std.proofs.Common.{◌≡◌, ℕ, true, false, List, [], ◌∷◌, ◌++◌, length, Some, None, Option, bytes_eq, Bool, append_assoc, inl, inr, refl, sym, ap, ◌∙◌, subst, arith}
 use Rattle.std.specs.declared.cmp.Ordering.TheVariants.{Less, Equal, Greater}
 use Rattle.std.specs.Ordering.{nat_cmp}
 use Rattle.std.specs.Cmp.Lexicographic.{slice_cmp}
@@ -71,7 +71,7 @@ below_least term old (part ∷ parts) before all =
 
 -- the first term of one part more is the least then
 least_here : (parts : List PartContent) (more : PartContent) (first : First) (place : ℕ) → place ≡ length parts → IsFirst first → Some first.term.now ≡ head_term more.left → IsBelow first.term.now parts →
-    IsLeastAt (parts ++ more ∷ []) (record { first = first; place = place; alone = true })
+    IsLeastAt (parts ++ more ∷ []) (record { first = first; place = place; others = 0 })
 least_here parts more first place at is own below = record {
   is = is;
   none_earlier = all_push (λ p. IsNoLater (Some first.term.now) (head_term p.left)) parts more below.none_earlier (subst (IsNoLater (Some first.term.now)) own (inl refl));
@@ -82,13 +82,13 @@ least_here parts more first place at is own below = record {
   place_is = at;
   has = headed more.left first.term.now own;
   none_before = below.none_has;
-  none_behind = λ alone. tt;
+  none_behind = λ none. tt;
 }
 
--- otherwise it is the one of before, and whether it is alone is said of one part more
-least_stays : (parts : List PartContent) (more : PartContent) (least : Least) (alone : Bool) → IsLeastAt parts least → IsNoLater (Some least.first.term.now) (head_term more.left) →
-    (alone ≡ true → (least.alone ≡ true) × (is_headed more.left least.first.term.now ≡ false)) → IsLeastAt (parts ++ more ∷ []) (record least { alone = alone })
-least_stays parts more least alone at later none = record {
+-- otherwise it is the one of before, and whether another part has it is said of one part more
+least_stays : (parts : List PartContent) (more : PartContent) (least : Least) (others : ℕ) → IsLeastAt parts least → IsNoLater (Some least.first.term.now) (head_term more.left) →
+    (others ≡ 0 → (least.others ≡ 0) × (is_headed more.left least.first.term.now ≡ false)) → IsLeastAt (parts ++ more ∷ []) (record least { others = others })
+least_stays parts more least others at later none = record {
   is = at.is;
   none_earlier = all_push (λ p. IsNoLater (Some least.first.term.now) (head_term p.left)) parts more at.none_earlier later;
   before = at.before;
@@ -105,35 +105,35 @@ least_stays parts more least alone at later none = record {
 pub least_ended : (parts : List PartContent) (more : PartContent) (least : Option Least) → None ≡ head_term more.left → IsLeastOf parts least → IsLeastOf (parts ++ more ∷ []) least
 least_ended parts more None none of = all_push (λ p. p.left ≡ []) parts more of (ended more.left none)
 least_ended parts more (Some least) none of =
-    least_stays parts more least least.alone of (subst (IsNoLater (Some least.first.term.now)) none tt) (λ alone. (alone, headed_none more.left least.first.term.now none))
+    least_stays parts more least least.others of (subst (IsNoLater (Some least.first.term.now)) none tt) (λ is. (is, headed_none more.left least.first.term.now none))
 
 -- one that is the first of which something is
 pub least_begins : (parts : List PartContent) (more : PartContent) (first : First) (place : ℕ) → IsFirstOf more.left (Some first) → place ≡ length parts → IsLeastOf parts None →
-    IsLeastOf (parts ++ more ∷ []) (Some (record { first = first; place = place; alone = true }))
+    IsLeastOf (parts ++ more ∷ []) (Some (record { first = first; place = place; others = 0 }))
 least_begins parts more first place own at of = least_here parts more first place at own.told own.term (below_ended first.term.now parts of)
 
 -- one whose first term comes before the least
 pub least_falls : (parts : List PartContent) (more : PartContent) (first : First) (least : Least) (place : ℕ) → IsFirstOf more.left (Some first) → place ≡ length parts → IsLeastOf parts (Some least) →
-    Less ≡ slice_cmp nat_cmp first.term.now least.first.term.now → IsLeastOf (parts ++ more ∷ []) (Some (record { first = first; place = place; alone = true }))
+    Less ≡ slice_cmp nat_cmp first.term.now least.first.term.now → IsLeastOf (parts ++ more ∷ []) (Some (record { first = first; place = place; others = 0 }))
 least_falls parts more first least place own at of less =
     least_here parts more first place at own.told own.term (below_least first.term.now least.first.term.now parts (sym less) of.none_earlier)
 
 -- one whose first term is the least
 pub least_tied : (parts : List PartContent) (more : PartContent) (first : First) (least : Least) → IsFirstOf more.left (Some first) → IsLeastOf parts (Some least) →
-    Equal ≡ slice_cmp nat_cmp first.term.now least.first.term.now → IsLeastOf (parts ++ more ∷ []) (Some (record least { alone = false }))
+    Equal ≡ slice_cmp nat_cmp first.term.now least.first.term.now → IsLeastOf (parts ++ more ∷ []) (Some (record least { others = 1 }))
 least_tied parts more first least own of tie =
     let term = least.first.term.now in
     let same : first.term.now ≡ term = exact_bytes first.term.now term (sym tie) in
-    least_stays parts more least false of (subst (IsNoLater (Some term)) own.term (inl (sym same))) (λ is. absurd cc)
+    least_stays parts more least 1 of (subst (IsNoLater (Some term)) own.term (inl (sym same))) (λ is. absurd (omega (arith, is)))
 
 -- one whose first term comes after the least
 pub least_kept : (parts : List PartContent) (more : PartContent) (first : First) (least : Least) → IsFirstOf more.left (Some first) → IsLeastOf parts (Some least) →
     Greater ≡ slice_cmp nat_cmp first.term.now least.first.term.now → IsLeastOf (parts ++ more ∷ []) (Some least)
 least_kept parts more first least own of greater =
     let term = least.first.term.now in
-    least_stays parts more least least.alone of
+    least_stays parts more least least.others of
     (subst (IsNoLater (Some term)) own.term (greater_first first.term.now term (sym greater)))
-    (λ alone. (alone, headed_as more.left first.term.now term own.term ∙ same_term first.term.now term Greater (sym greater)))
+    (λ is. (is, headed_as more.left first.term.now term own.term ∙ same_term first.term.now term Greater (sym greater)))
 
 -- some part has it
 pub least_member : (parts : List PartContent) (least : Least) → IsLeastAt parts least → list_any (λ part. is_headed part.left least.first.term.now) parts ≡ true

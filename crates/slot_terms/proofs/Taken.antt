@@ -83,7 +83,7 @@ taken_first parts least base out d after at put is =
     (put ∙ ap (λ l. base ++ alive item.mask l) (sym (headed_postings item.left 0 term headed)))
 
 -- where the rest does not have the term all is done
-pub taken_alone : (parts now : List PartContent) (least : Least) (base out : List ℕ) → IsLeastAt parts least → least.alone ≡ true → HasTaken least.first.term.now parts now base out (least.place + 1) →
+pub taken_alone : (parts now : List PartContent) (least : Least) (base out : List ℕ) → IsLeastAt parts least → least.others ≡ 0 → HasTaken least.first.term.now parts now base out (least.place + 1) →
     HasTaken least.first.term.now parts now base out (length parts)
 taken_alone parts now least base out at alone was =
     let term = least.first.term.now in

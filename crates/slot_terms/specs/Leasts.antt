@@ -9,7 +9,7 @@ use Rattle.slot_terms.specs.declared.least.Least.{Least}
 abbrev pub NoneHas : List ℕ → List PartContent → Type 0
 NoneHas term parts = AllByRecursion (λ part. is_headed part.left term ≡ false) parts
 
--- no part has a lesser first term, one has this at the place, and none before it. None after it has it where it is alone
+-- no part has a lesser first term, one has this at the place, and none before it. None after it has it where no other part does
 pub record IsLeastAt (parts : List PartContent) (least : Least) : Type 0 where
   pub is : IsFirst least.first
   pub none_earlier : NoneEarlier least.first.term.now parts
@@ -20,7 +20,7 @@ pub record IsLeastAt (parts : List PartContent) (least : Least) : Type 0 where
   pub place_is : least.place ≡ length before
   pub has : is_headed part.left least.first.term.now ≡ true
   pub none_before : NoneHas least.first.term.now before
-  pub none_behind : least.alone ≡ true → NoneHas least.first.term.now behind
+  pub none_behind : least.others ≡ 0 → NoneHas least.first.term.now behind
 
 -- the same of the least, if any part has a first term
 abbrev pub IsLeastOf : List PartContent → Option Least → Type 0

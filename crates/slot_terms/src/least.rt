@@ -13,8 +13,8 @@ pub(crate) struct Least<'a> {
     pub(crate) first: First<'a>,
     // of the first part that has it
     pub(crate) place: usize,
-    // whether no other part has it
-    pub(crate) alone: bool,
+    // 0 where no other part has it. A number, since the bytes beside a flag are copied in pieces, and to read these as one takes long.
+    pub(crate) others: usize,
 }
 
 /// The least term that is still to come.
@@ -41,19 +41,16 @@ fn with_part<'a>(least: Option<Least<'a>>, part: &Part<'a>, place: usize) -> Opt
         return Some(Least {
             first,
             place,
-            alone: true,
+            others: 0,
         });
     };
     match first.order_to(&old.first) {
         Ordering::Less => Some(Least {
             first,
             place,
-            alone: true,
+            others: 0,
         }),
-        Ordering::Equal => Some(Least {
-            alone: false,
-            ..old
-        }),
+        Ordering::Equal => Some(Least { others: 1, ..old }),
         Ordering::Greater => least,
     }
 }

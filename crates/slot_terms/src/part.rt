@@ -212,6 +212,11 @@ fn lend_between<'a>(
         if rest.len() == 0 {
             return Ok(());
         }
+        // most often all are before it
+        if rest.last() < range.first {
+            lists.push(rest)?;
+            return Ok(());
+        }
         let (live, others) = rest.split(range.first);
         lists.push(live)?;
         rest = others.split(range.last + 1).1;

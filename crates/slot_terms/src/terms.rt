@@ -152,7 +152,7 @@ fn take_term_lists<'a>(
 {
     parts[least.place].take_first(lists)?;
     // most terms are those of one part
-    if least.alone {
+    if least.others == 0 {
         return Ok(());
     }
     for place in least.place + 1..parts.len() {

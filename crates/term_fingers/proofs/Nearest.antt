@@ -1,15 +1,16 @@
 -- The member of a rising list that is nearest to an address, by the place where a search ended.
-use Rattle.std.proofs.Common.{◌≡◌, ℕ, zero, suc, ◌+◌, ◌-◌, ◌*◌, ◌^◌, ◌<◌, ◌≤◌, min, true, false, cond, leb, ltb, List, [], ◌∷◌, length, drop, get_or, Option, Some, None, inl, inr, refl, sym, ap, ◌∙◌, subst, arith, le_refl}
+use Rattle.std.proofs.Common.{◌≡◌, ℕ, zero, suc, ◌+◌, ◌-◌, ◌*◌, ◌^◌, ◌<◌, ◌≤◌, min, true, false, cond, leb, ltb, List, [], ◌∷◌, length, drop, get_or, Option, Some, None, IfSome, inl, inr, refl, sym, ap, ◌∙◌, subst, arith, le_refl}
 use Rattle.std.specs.List.{slice_get}
 use Rattle.std.specs.Option.{option_or}
 use Rattle.std.proofs.lemmas.Bool.{cases_Bool, cases_lt, le-leb, lt-leb, lt-ltb, le-ltb, ltb-true, ltb-false}
 use Rattle.std.proofs.lemmas.List.{length-take, length-drop, get_or-take, get_or-drop}
+use Rattle.std.proofs.lemmas.Option.{slice_get_past}
 use Rattle.posting_code.specs.Packed.{last_of}
-use Rattle.posting_code.specs.Postings.{RiseWithin, ArePostings, block_of}
+use Rattle.posting_code.specs.Postings.{RiseWithin, ArePostings, block_of, blocks_of}
 use Rattle.posting_code.proofs.Rising.{rise_index}
 use Rattle.posting_access.specs.Search.{least_from, greatest_to}
 use Rattle.posting_code.proofs.Around.{block_rises}
-use Rattle.posting_access.proofs.Searches.{IsNear, greatest_near, greatest_none, least_near}
+use Rattle.posting_access.proofs.Searches.{IsNear, greatest_near, greatest_none, least_near, least_not_found}
 use Rattle.term_fingers.specs.Lists.{AreBelow, EndBetween, TellsNearest, one_below, size_below}
 
 pub block_is_few : (xs : List ℕ) (b : ℕ) → length (block_of xs b) ≤ 64
@@ -44,6 +45,11 @@ greatest_at low end (x ∷ xs) (suc n) k r within before after =
 -- what comes after the members below k is the least from k on
 pub least_below : (xs : List ℕ) (n k : ℕ) → ArePostings xs → AreBelow xs k n → least_from xs k ≡ slice_get xs n
 least_below xs n k r below = least_at 0 (2 ^ 56) xs n k r below.within (λ m e. let back : n - 1 ≡ m = omega (arith, e) in subst (λ i. get_or xs i 0 < k) back (below.before (omega (arith, e)))) below.after
+
+-- where the last is below k, none is from k on
+pub none_behind : (xs : List ℕ) (k : ℕ) → ArePostings xs → 0 < length xs → get_or xs (length xs - 1) 0 < k → None ≡ least_from xs k
+none_behind xs k r some below =
+    sym (least_below xs (length xs) k r record { within = le_refl (length xs); before = λ _. below; after = λ lt. absurd (omega (arith, lt)) } ∙ slice_get_past xs (length xs) (le_refl (length xs)))
 
 -- where none is below what comes right after k, none is k or less
 pub greatest_before : (xs : List ℕ) (n k next : ℕ) → ArePostings xs → ((u : ℕ) → u < 2 ^ 56 → next ≤ u → k < u) → AreBelow xs next n → n ≡ 0 → None ≡ greatest_to xs k
@@ -123,6 +129,27 @@ tells_nearest xs part b k r is some first last =
           ∙ least_met part (length part - 1) k (slice_get xs (64 * (b + 1))) (omega (arith, some)) last;
       greatest = greatest_near xs k b (b + 1) near refl ∙ ap (λ ys. greatest_to ys k) (sym is);
     }
+
+-- what is found where it is what is wanted
+pub as_wanted : (found wanted : Option ℕ) → found ≡ wanted → IfSome found (λ p. Some p ≡ wanted)
+as_wanted None wanted is = tt
+as_wanted (Some p) wanted is = is
+
+-- where a block ends below k, and the one after it begins above k, that one begins with the least from k on
+pub least_behind_block : (xs part : List ℕ) (b next k : ℕ) → ArePostings xs → part ≡ block_of xs b → next ≡ b + 1 → next < blocks_of xs → 0 < length part → get_or part (length part - 1) 0 < k → k < get_or xs (64 * next) 0 →
+    slice_get xs (64 * next) ≡ least_from xs k
+least_behind_block xs part b next k r is on within some last above =
+    let behind = drop (64 * b) xs in
+    let begin : get_or xs (64 * b + 0) 0 ≡ get_or part 0 0 = sym (get_or-drop (64 * b) xs 0 0) ∙ sym (get_or-take 64 behind 0 0 (omega arith)) ∙ ap (λ ys. get_or ys 0 0) (sym is) in
+    let rises : ArePostings part = subst ArePostings (sym is) (block_rises xs b r) in
+    let up : get_or part 0 0 ≤ get_or part (length part - 1) 0 = climbs 0 (2 ^ 56) part 0 (length part - 1) rises (omega arith) (omega (arith, some)) in
+    let near : IsNear xs k next = record {
+      rising = r;
+      within = omega (arith, within);
+      before = λ _. let same : 64 * b + 0 ≡ 64 * (next - 1) = omega (arith, on) in subst (λ i. get_or xs i 0 ≤ k) same (omega (arith, begin, up, last));
+      after = λ _. above;
+    } in
+    least_not_found xs k b next near (omega (arith, on)) (omega (arith, within)) (subst (λ ys. None ≡ least_from ys k) is (none_behind part k rises some last))
 
 pub below-lt : (u k : ℕ) → u < k → one_below u k ≡ 1
 below-lt u k lt = ap (λ b. cond b 1 0) (lt-ltb u k lt)

@@ -1,4 +1,4 @@
-ghost use Rattle.std.specs.Prelude.{◌≡◌, ◌+◌, ◌*◌, ◌-◌, ◌<◌, ◌≤◌, length, slice_index, slice_get, take, IfSome, IsTrue};
+ghost use Rattle.std.specs.Prelude.{◌≡◌, ◌+◌, ◌*◌, ◌-◌, ◌<◌, ◌≤◌, Some, length, slice_index, slice_get, take, IfSome, IsTrue};
 ghost use Rattle.index_shard.specs.Searched.{nearest};
 ghost use Rattle.posting_code.specs.Postings.{ArePostings, block_of, blocks_of};
 ghost use Rattle.posting_access.specs.Search.{least_from, greatest_to};
@@ -177,6 +177,9 @@ impl<J: Naming> Finger<J> {
         requires { list.now ≡ list_of J.version.slots slot place }
         ensures { result ≡ least_from list.now k }
     {
+        if let Some(address) = self.first_behind(list, slot, place, k) {
+            return Some(address);
+        }
         let near = blocks_up_to(list, self.block, k, probes);
         if list.len() == 0 {
             return None;
@@ -184,6 +187,45 @@ impl<J: Naming> Finger<J> {
         match self.least_in_block(list, slot, place, near.saturating_sub(1), k, probes) {
             Some(address) => Some(address),
             None => self.first_of(list, slot, place, near),
+        }
+    }
+
+    /// The first address of the block after the one that was read last, where `k` lies between the two: it is the answer then. Most look-ups that
+    /// leave a block go on there.
+    #[inline]
+    fn first_behind(
+        &mut self,
+        list: &Postings<'_>,
+        slot: usize,
+        place: usize,
+        k: u64,
+    ) -> Option<u64>
+        requires { list.now ≡ list_of J.version.slots slot place }
+        ensures { IfSome result (λ p. Some p ≡ least_from list.now k) }
+    {
+        let next = self.block.checked_add(1)?;
+        if !self.ends_before(slot, place, k)
+            || next >= list.block_count()
+            || list.block_first(next) <= k
+        {
+            return None;
+        }
+        self.first_of(list, slot, place, next)
+    }
+
+    /// Whether the members that were read last are of this list, and all before `k`.
+    #[inline]
+    fn ends_before(&self, slot: usize, place: usize, k: u64) -> bool
+        ensures slot { IsTrue result → slot ≡ self.now.slot }
+        ensures place { IsTrue result → place ≡ self.now.place }
+        ensures count { IsTrue result → 0 < self.now.count }
+        ensures some { IsTrue result → 0 < length (take self.now.count self.now.members) }
+        ensures last { IsTrue result → slice_index (take self.now.count self.now.members) (length (take self.now.count self.now.members) - 1) < k }
+    {
+        let members = &self.members[..self.count];
+        match members.last() {
+            Some(last) => self.slot == slot && self.place == place && *last < k,
+            None => false,
         }
     }
 

@@ -178,7 +178,7 @@ impl<'a, J: Naming> Fingers<'a, J> {
     {
         for place in self.terms.as_slice() {
             if let Some(term) = place {
-                if term.bytes() == bytes {
+                if term.has_bytes(bytes) {
                     return Some(term);
                 }
             }

@@ -7,6 +7,8 @@ use gcl_model::Pair;
 
 /// An address from `k` on before which no member of the first list has one of the second right after it, whether one there does, and the
 /// place in each list up to which it was gone through. The places from which on they are gone through are only hints.
+// It stands apart, so that the walk has the registers for itself.
+#[inline(never)]
 pub(crate) fn earliest_pair_in(
     first: &[u64],
     second: &[u64],

@@ -39,10 +39,21 @@ impl<'a, J: Naming> Term<'a, J> {
         }
     }
 
-    pub(crate) fn bytes(&self) -> &[u8]
-        ensures { result.now ≡ self.now.bytes.now }
+    /// Whether its bytes are these.
+    // A term is compared at each look-up, and most are short: one byte after the other is quicker than a call that compares many.
+    #[inline(always)]
+    pub(crate) fn has_bytes(&self, bytes: &[u8]) -> bool
+        ensures { IsTrue result → self.now.bytes.now ≡ bytes.now }
     {
-        self.bytes
+        if self.bytes.len() != bytes.len() {
+            return false;
+        }
+        for i in 0..bytes.len() {
+            if self.bytes[i] != bytes[i] {
+                return false;
+            }
+        }
+        true
     }
 
     /// The posting that is nearest to `k` on one side, in the index of the slot with this number.

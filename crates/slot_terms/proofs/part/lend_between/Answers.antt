@@ -1,7 +1,7 @@
-use Rattle.std.proofs.Common.{ap, subst, ◌∙◌}
+use Rattle.std.proofs.Common.{◌<◌, ap, subst, ◌∙◌}
 use Rattle.std.specs.List.{concat}
 use Rattle.gcl_model.specs.Slots.{SlotRange, slot_range}
-use Rattle.slot_terms.proofs.Between.{IsParted, between_goes, between_ends}
+use Rattle.slot_terms.proofs.Between.{IsParted, between_apart, between_goes, between_ends}
 use Rattle.slot_terms.proofs.Firsts.{concat_push}
 use Rattle.slot_terms.proofs.part.lend_between.Goals as goal
 
@@ -16,12 +16,19 @@ loop-range-preserved c =
       behind = c.split.ensures.from;
     } in
     let parted = subst (λ (r : SlotRange). IsParted r c.loop-range.rest c.split-live.result.0 c.split-live.result.1 c.split.result.0 c.split.result.1) c.range.view_is parted in
-    between_goes c.args.ranges.now c.args.block (concat c.args.lists.now.items) (concat c.loop-range.lists.items) c.loop-range.rest (concat c.push.new.self.items) c.split-live.result.0 c.split-live.result.1 c.split.result.0 c.split.result.1
+    between_goes c.args.ranges.now c.args.block (concat c.args.lists.now.items) (concat c.loop-range.lists.items) c.loop-range.rest (concat c.push-in-loop-range.new.self.items) c.split-live.result.0 c.split-live.result.1 c.split.result.0 c.split.result.1
     c.loop-range.range-index c.range-item.result c.loop-range-test.true c.range-item.is c.requires.apart c.loop-range.invariant parted
-    (ap concat c.in_ok-push.ensures.items ∙ concat_push c.loop-range.lists.items c.split-live.result.0)
+    (ap concat c.in_ok-push-2.ensures.items ∙ concat_push c.loop-range.lists.items c.split-live.result.0)
+
+pub returns-then-last-range : goal.returns-then-last-range
+returns-then-last-range c =
+    let range = c.range-item.result in
+    between_apart c.args.ranges.now c.args.block (concat c.args.lists.now.items) (concat c.loop-range.lists.items) c.loop-range.rest (concat c.push.new.self.items) c.loop-range.range-index range c.loop-range-test.true
+    c.range-item.is c.requires.apart c.len.ensures.rising (subst (λ l. l < range.first) c.last.ensures (subst (λ (r : SlotRange). c.last.result < r.first) c.range.view_is c.if-last-range.true)) c.loop-range.invariant
+    (ap concat c.in_ok-push.ensures.items ∙ concat_push c.loop-range.lists.items c.loop-range.rest)
 
 pub returns : goal.returns
 returns c =
-    ap concat c.in_ok-push-2.ensures.items
+    ap concat c.in_ok-push-3.ensures.items
     ∙ concat_push c.loop-range.lists.items c.loop-range.rest
     ∙ between_ends c.args.ranges.now c.args.block (concat c.args.lists.now.items) (concat c.loop-range.lists.items) c.loop-range.rest c.loop-range.range-index c.loop-range-test.false c.loop-range.invariant

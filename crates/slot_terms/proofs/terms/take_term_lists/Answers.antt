@@ -4,21 +4,21 @@ use Rattle.slot_terms.specs.Parts.{PartContent, alive, head_postings, past}
 use Rattle.slot_terms.proofs.Taken.{taken_all, taken_alone, taken_first, taken_length, taken_more}
 use Rattle.slot_terms.proofs.terms.take_term_lists.Goals as goal
 
-pub returns-then-least-clause-lists : goal.returns-then-least-clause-lists
-returns-then-least-clause-lists c =
+pub returns-then-least-eq0-clause-lists : goal.returns-then-least-eq0-clause-lists
+returns-then-least-eq0-clause-lists c =
     let parts = c.args.parts.now in
     let least = c.args.least.now in
     let base = concat c.args.lists.now.items in
     let first = taken_first parts least base (concat c.take_first.new.lists.items) c.index-parts-least.result c.take_first.new.self c.requires c.in_ok-take_first.ensures.lists c.in_ok-take_first.ensures.past in
-    (taken_all least.first.term.now parts _ base _ (length parts) (le_refl (length parts)) (taken_alone parts _ least base _ c.requires c.if-least.true first)).0
+    (taken_all least.first.term.now parts _ base _ (length parts) (le_refl (length parts)) (taken_alone parts _ least base _ c.requires c.if-least-eq0.true first)).0
 
-pub returns-then-least-clause-past : goal.returns-then-least-clause-past
-returns-then-least-clause-past c =
+pub returns-then-least-eq0-clause-past : goal.returns-then-least-eq0-clause-past
+returns-then-least-eq0-clause-past c =
     let parts = c.args.parts.now in
     let least = c.args.least.now in
     let base = concat c.args.lists.now.items in
     let first = taken_first parts least base (concat c.take_first.new.lists.items) c.index-parts-least.result c.take_first.new.self c.requires c.in_ok-take_first.ensures.lists c.in_ok-take_first.ensures.past in
-    (taken_all least.first.term.now parts _ base _ (length parts) (le_refl (length parts)) (taken_alone parts _ least base _ c.requires c.if-least.true first)).1
+    (taken_all least.first.term.now parts _ base _ (length parts) (le_refl (length parts)) (taken_alone parts _ least base _ c.requires c.if-least-eq0.true first)).1
 
 pub loop-place-init : goal.loop-place-init
 loop-place-init c =
