@@ -33,8 +33,20 @@ for readers in 1 4 16; do
   cmp lines1 "lines$readers"
 done
 cat lines1
-read -r _ adding <<< "$(measure adds "$program")"
-read -r one _ <<< "$(measure /dev/null "$program" "${made[@]}" --readers 1)"
-read -r four memory <<< "$(measure /dev/null "$program" "${made[@]}" --readers 4)"
-awk -v a="$four" -v b="$one" -v p="$(nproc)" 'BEGIN { printf "four readers %.3f s, one %.3f s on %s processors: ratio %.2f (target 0.6 on four)\n", a, b, p, a / b }'
+# in turn, and the medians: what the machine does beside them falls on both alike, and one run alone may have a core that four share
+read -r one four quickest_one quickest_four <<< "$(python3 - "$program" "${made[@]}" <<'P'
+import statistics, subprocess, sys, time
+took = {1: [], 4: []}
+for _ in range(15):
+    for readers in took:
+        begin = time.time()
+        subprocess.run([*sys.argv[1:], "--readers", str(readers)], stdin=subprocess.DEVNULL, stdout=subprocess.DEVNULL)
+        took[readers].append(time.time() - begin)
+print(*(statistics.median(took[n]) for n in took), *(min(took[n]) for n in took))
+P
+)"
+awk -v a="$four" -v b="$one" -v c="$quickest_four" -v d="$quickest_one" -v p="$(nproc)" 'BEGIN {
+  printf "four readers %.3f s, one %.3f s on %s processors, the medians of 15 runs: ratio %.2f (target 0.6 on four); the quickest %.3f s and %.3f s\n", a, b, p, a / b, c, d }'
+adding=$(memory "$program" < adds)
+memory=$(memory "$program" "${made[@]}" --readers 4 < /dev/null)
 awk -v a="$memory" -v b="$adding" 'BEGIN { printf "memory %.1f MB, of adding the same files %.1f MB: ratio %.2f (target 2)\n", a / 1024, b / 1024, a / b }'

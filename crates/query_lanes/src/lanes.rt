@@ -40,9 +40,9 @@ fn run_one<G: Gate>(
     }
 }
 
-/// Answers the queries of all lanes from the one at `from` on, each lane's in its turn. The lanes are halved at each step, and
-/// another thread takes one half, if there is a query for the other.
-#[cycle(halves)]
+/// Answers the queries of all lanes from the one at `from` on, each lane's in its turn. At each step another thread takes the first lane, if there is
+/// a query for those after it: so this thread makes all others, and none of them waits for the start of another one.
+#[cycle(parts)]
 pub fn run_lanes<R: Threads + Sync, G: Gate + Sync>(
     rt: &R,
     alloc: Global,
@@ -62,11 +62,10 @@ pub fn run_lanes<R: Threads + Sync, G: Gate + Sync>(
         run_one(alloc, gate, asks, from, lanes, works, readers);
         return;
     }
-    let half = readers.len() / 2;
-    let up = from + half;
-    let (works_low, works_high) = works.split_at_mut(half);
-    let (readers_low, readers_high) = readers.split_at_mut(half);
-    run_halves(
+    let up = from + 1;
+    let (works_low, works_high) = works.split_at_mut(1);
+    let (readers_low, readers_high) = readers.split_at_mut(1);
+    run_parts(
         rt,
         alloc,
         gate,
@@ -82,8 +81,8 @@ pub fn run_lanes<R: Threads + Sync, G: Gate + Sync>(
 }
 
 // A function of its own, so that what the closures require is what it is given, and what they leave is what it leaves.
-#[cycle(halves)]
-fn run_halves<R: Threads + Sync, G: Gate + Sync>(
+#[cycle(parts)]
+fn run_parts<R: Threads + Sync, G: Gate + Sync>(
     rt: &R,
     alloc: Global,
     gate: &G,

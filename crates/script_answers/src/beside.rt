@@ -28,6 +28,7 @@ use script_lang::LineCut;
 use std::alloc::{AllocError, Global};
 use std::mem;
 use std::sync::Wait;
+use std::sync::atomic::{AtomicBool, Ordering};
 use std::thread::{Threads, join_mut};
 
 // A function of its own, so that what the closure leaves is what it leaves.
@@ -38,6 +39,7 @@ fn answer_waiting<R: Threads + Sync, G: Gate + Sync>(
     asks: &[Ask],
     works: &mut [Work],
     readers: &mut [Reader],
+    is_answered: &AtomicBool,
 ) -> Result<Vec<Found>, AllocError>
     requires put_off { ArePutOff asks.now }
     requires same { length works.old ≡ length readers.old }
@@ -47,7 +49,9 @@ fn answer_waiting<R: Threads + Sync, G: Gate + Sync>(
     ensures count { length readers.new ≡ length readers.old }
     ensures works { length works.new ≡ length works.old }
 {
-    answer_put_off(rt, alloc, gate, asks, works, readers)
+    let answers = answer_put_off(rt, alloc, gate, asks, works, readers);
+    is_answered.store(true, Ordering::SeqCst);
+    answers
 }
 
 /// The lanes on one side, and the lines for a window on the other. The latter have this thread.
@@ -63,6 +67,7 @@ fn run_beside<R: Threads + Wait + Sync, F: Files, G: Gate + Sync>(
     asks: &[Ask],
     works: &mut [Work],
     readers: &mut [Reader],
+    is_answered: &AtomicBool,
 ) -> (Result<Vec<Found>, AllocError>, Result<(), RunFault>)
     requires ready { IsReady setting.now.limits script.now
         (stand opened.old.lines (F.held files.old) opened.old.engine course.old.wanted course.old.refused)
@@ -108,7 +113,7 @@ fn run_beside<R: Threads + Wait + Sync, F: Files, G: Gate + Sync>(
             ensures of { KeepPublisher readers.entry.now readers.exit.now }
             ensures count { length readers.exit.now ≡ length readers.entry.now }
             ensures works { length works.exit.now ≡ length works.entry.now }
-        { answer_waiting(rt, alloc, gate, asks, works, readers) },
+        { answer_waiting(rt, alloc, gate, asks, works, readers, is_answered) },
         &mut || -> Result<(), RunFault>
             requires { IsSync R.row × (IsReady setting.now.limits script.now
                 (stand opened.now.lines (F.held files.now) opened.now.engine course.now.wanted course.now.refused)
@@ -131,7 +136,19 @@ fn run_beside<R: Threads + Wait + Sync, F: Files, G: Gate + Sync>(
             ensures causes { HasCauses 0 0 (F.faults files.entry.now) (F.faults files.exit.now) result }
             ensures files_calm { OnOk result (F.faults files.exit.now ≡ F.faults files.entry.now) }
             ensures unkept { F.unkept files.exit.now ≡ F.unkept files.entry.now }
-        { fill(setting, files, opened, course, script, window, batch, cut) },
+        {
+            fill(
+                setting,
+                files,
+                opened,
+                course,
+                script,
+                window,
+                batch,
+                cut,
+                is_answered,
+            )
+        },
     )
 }
 
@@ -184,6 +201,8 @@ fn answer_beside<R: Threads + Wait + Sync, F: Files, G: Gate + Sync>(
     // lent to the lanes, while all else is lent to the lines
     let mut readers = mem::replace(&mut opened.readers, Vec::new(setting.alloc));
     let mut works = mem::replace(&mut course.works, Vec::new(setting.alloc));
+    // whoever fills the window looks at it, and no answer depends on it
+    let is_answered = AtomicBool::new(false);
     let (answers, filled) = run_beside(
         setting,
         files,
@@ -196,6 +215,7 @@ fn answer_beside<R: Threads + Wait + Sync, F: Files, G: Gate + Sync>(
         asks,
         works.as_mut_slice(),
         readers.as_mut_slice(),
+        &is_answered,
     );
     opened.readers = readers;
     course.works = works;

@@ -18,7 +18,7 @@ use crate::limits::Limits;
 use crate::run_fault::RunFault;
 use crate::script_line::ScriptLine;
 use crate::setting::Setting;
-use crate::window::{Window, last_width};
+use crate::window::{Window, last_index, merge_ahead, most_queries};
 use collection::{Engine, Opened};
 use outside::{Files, Gate};
 use query_lanes::Ask;
@@ -26,6 +26,7 @@ use script_lang::{Command, LineCut, command, line_at};
 use std::alloc::{AllocError, Global};
 use std::mem;
 use std::sync::Wait;
+use std::sync::atomic::{AtomicBool, Ordering};
 
 /// Whether a line may be done before the queries in front of it are answered. A file that is saved or opened is never ahead of the answers.
 fn is_gone_over(alloc: Global, line: &[u8]) -> Result<bool, AllocError>
@@ -109,6 +110,7 @@ fn go_over<R: Wait, F: Files, G: Gate>(
     let refused = window.put_all(setting.alloc, &opened.engine, asks)?;
     opened.lines += count;
     let number = opened.engine.version().number();
+    let merged = merge_ahead(opened.engine.version(), *wanted);
     let refused_here = answer_line(
         setting,
         out,
@@ -122,10 +124,17 @@ fn go_over<R: Wait, F: Files, G: Gate>(
     let made = if version.number() == number {
         0
     } else {
-        last_width(version)
+        last_index(version).saturating_add(merged)
     };
     window.say(out.as_slice(), made)?;
     Ok(refused | refused_here)
+}
+
+/// How many queries of the batch after it a window has room for.
+fn room_for(batch: usize, window: &Window) -> usize {
+    most_queries(batch)
+        .saturating_sub(window.asks.len())
+        .min(batch)
 }
 
 /// Does the line after a batch, whose queries are put off, and takes the batch after it.
@@ -200,7 +209,7 @@ fn go_on<R: Wait, F: Files, G: Gate>(
         script,
         course.at,
         setting.limits.line as usize,
-        (setting.limits.batch as usize).saturating_sub(window.asks.len()),
+        room_for(setting.limits.batch as usize, window),
         course.asked + 1,
     )?;
     Ok(next)
@@ -287,16 +296,22 @@ pub(crate) fn next_over<R, G>(
     Ok(cut)
 }
 
-/// Whether a window that is filled beside another takes the line after the queries at hand too.
+/// Whether a window that is filled beside another takes the line after the queries at hand too: until it has enough queries and the other one is
+/// answered, so that nobody waits, or it has as many as it may.
 fn is_filled_on<R, G>(
     setting: &Setting<R, G>,
     engine: &Engine,
     wanted: bool,
     window: &Window,
     batch: &Batch,
+    is_answered: &AtomicBool,
 ) -> bool {
-    !window.is_full(setting.limits.batch as usize)
-        && is_open(setting, engine, wanted, window, batch)
+    let most = setting.limits.batch as usize;
+    let count = window.asks.len().saturating_add(batch.asks.len());
+    if window.is_full(most) && is_answered.load(Ordering::SeqCst) {
+        return false;
+    }
+    count < most_queries(most) && window.has_room(engine.version(), wanted)
 }
 
 /// Fills a window on, as long as it is open: the queries at hand are put off, and the line after them is done.
@@ -308,6 +323,7 @@ fn fill_on<R: Wait, F: Files, G: Gate>(
     script: &[u8],
     window: &mut Window,
     batch: &mut Batch,
+    is_answered: &AtomicBool,
 ) -> Result<(), RunFault>
     requires ready { IsReady setting.now.limits script.now
         (stand opened.old.lines (F.held files.old) opened.old.engine course.old.wanted course.old.refused)
@@ -337,14 +353,22 @@ fn fill_on<R: Wait, F: Files, G: Gate>(
         setting,
         script,
         batch,
-        is_filled_on(setting, &opened.engine, course.wanted, window, batch),
+        is_filled_on(
+            setting,
+            &opened.engine,
+            course.wanted,
+            window,
+            batch,
+            is_answered,
+        ),
     )? {
         advance(setting, files, opened, course, script, window, batch, next)?;
     }
     Ok(())
 }
 
-/// Fills a window with the queries at hand, the line after them, and what comes after that.
+/// Fills a window with the queries at hand, the line after them, and what comes after that. `is_answered` says whether the window before it is
+/// answered by now.
 pub(crate) fn fill<R: Wait, F: Files, G: Gate>(
     setting: &Setting<R, G>,
     files: &mut F,
@@ -354,6 +378,7 @@ pub(crate) fn fill<R: Wait, F: Files, G: Gate>(
     window: &mut Window,
     batch: &mut Batch,
     cut: LineCut,
+    is_answered: &AtomicBool,
 ) -> Result<(), RunFault>
     requires ready { IsReady setting.now.limits script.now
         (stand opened.old.lines (F.held files.old) opened.old.engine course.old.wanted course.old.refused)
@@ -382,6 +407,15 @@ pub(crate) fn fill<R: Wait, F: Files, G: Gate>(
     ensures unkept { F.unkept files.new ≡ F.unkept files.old }
 {
     advance(setting, files, opened, course, script, window, batch, cut)?;
-    fill_on(setting, files, opened, course, script, window, batch)?;
+    fill_on(
+        setting,
+        files,
+        opened,
+        course,
+        script,
+        window,
+        batch,
+        is_answered,
+    )?;
     Ok(())
 }

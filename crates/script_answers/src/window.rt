@@ -12,8 +12,14 @@ use query_lanes::{Ask, put_off};
 use std::alloc::{AllocError, Global};
 use std::mem;
 
-/// The most that windows may weigh together: a byte of an answer weighs one, and so does an address whose index may be kept for it alone.
-const MOST: u64 = 1 << 18;
+/// The most that windows may weigh together, in bytes: of the answers that are kept, and of each index that may be kept for a query alone.
+const MOST: u64 = 3 << 19;
+
+/// The bytes that a term takes in an index.
+const TERM_BYTES: u64 = 64;
+
+/// The bytes that an address takes in an index, or a few more.
+const ADDRESS_BYTES: u64 = 2;
 
 /// From so many queries on a window is worth threads: to make and join them takes as long as some queries.
 const WORTH: usize = 16;
@@ -33,24 +39,39 @@ pub(crate) struct Window {
     most: u64,
 }
 
-/// What one line more may take, where a merge is wanted: it leaves a new index of all.
-fn merge_ahead(version: &Version, wanted: bool) -> u64 {
+/// The bytes of an index of so many terms and addresses, about.
+fn index_bytes(terms: usize, addresses: u64) -> u64 {
+    (terms as u64)
+        .saturating_mul(TERM_BYTES)
+        .saturating_add(addresses.saturating_mul(ADDRESS_BYTES))
+}
+
+/// The bytes of the index that a line more leaves, where a merge is wanted: one of all, whose terms are not known yet.
+pub(crate) fn merge_ahead(version: &Version, wanted: bool) -> u64 {
     if wanted {
-        version.next().saturating_sub(version.first())
+        index_bytes(0, version.next().saturating_sub(version.first()))
     } else {
         0
     }
 }
 
-/// How many addresses the last slot has: as many as the index that an add or a merge made.
-pub(crate) fn last_width(version: &Version) -> u64 {
+/// The bytes of the last slot's index: an add or a merge made it.
+pub(crate) fn last_index(version: &Version) -> u64 {
     match version.slots().last() {
         Some(slot) => {
             let range = slot.range();
-            range.last.saturating_sub(range.first)
+            index_bytes(
+                slot.shard().term_count(),
+                range.last.saturating_sub(range.first),
+            )
         }
         None => 0,
     }
+}
+
+/// How many queries a window has at most, where a batch has so many: twice as many, since it is filled on while the one before it is still answered.
+pub(crate) fn most_queries(batch: usize) -> usize {
+    batch.saturating_mul(2)
 }
 
 impl Window {
@@ -74,10 +95,11 @@ impl Window {
         self.weight.saturating_add(merge_ahead(version, wanted)) <= self.most
     }
 
-    /// Whether the window has as many queries as it should, where the next one is filled while it is answered. A quarter of a batch is left to the
-    /// queries at hand, so that these are seldom cut off from those after them.
-    pub(crate) fn is_full(&self, most: usize) -> bool {
-        self.asks.len() >= most - most / 4
+    /// Whether the window is as large as it should be, where the next one is filled while it is answered: a batch and a half, or three quarters of the
+    /// most that it may weigh. What is left up to the most is for the queries at hand, which are seldom cut off so from those after them.
+    pub(crate) fn is_full(&self, batch: usize) -> bool {
+        self.asks.len() >= batch.saturating_add(batch / 2)
+            || self.weight >= self.most - self.most / 4
     }
 
     /// Whether the next window may be filled while this one is answered: that is worth threads, and there is room for the line after it.
@@ -126,7 +148,7 @@ impl Window {
         Ok(refused)
     }
 
-    /// Keeps the answer to a line that was done, which made an index of so many addresses.
+    /// Keeps the answer to a line that was done, which made indexes of so many bytes.
     pub(crate) fn say(&mut self, answer: &[u8], made: u64) -> Result<(), AllocError>
         requires { IsPaired self.old }
         ensures owes { OnOk result ((text : Text) →
