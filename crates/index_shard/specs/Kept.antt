@@ -1,5 +1,5 @@
 -- How a shard keeps its terms, for this crate alone but for the first two: their bytes in one row, the packed differences of short lists in
--- another one, and longer lists each in memory of its own.
+-- another one, and longer lists in rows of theirs.
 use Rattle.std.specs.Prelude.{◌≡◌, ℕ, zero, suc, ◌+◌, ◌*◌, ◌<◌, ◌≤◌, List, [], ◌∷◌, length, map, take, drop, get_or}
 use Rattle.std.specs.List.{AllByRecursion}
 use Rattle.std.specs.Ordering.{nat_cmp, ordering_then}

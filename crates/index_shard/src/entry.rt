@@ -1,7 +1,7 @@
 ghost use Rattle.std.specs.Prelude.{◌≡◌, get_or};
 ghost use Rattle.index_shard.specs.Kept.{AreBytes, IsListIn, leading, list_in, part_of, order_in};
 
-use posting_code::{PostingList, Postings};
+use posting_code::{PostingRows, Postings};
 use std::cmp::Ordering;
 
 /// Where a term stands among the bytes of all terms, and where its postings are kept.
@@ -15,8 +15,8 @@ pub(crate) struct Entry {
 }
 
 /// Where the postings of a term are kept: up to 64 of them by their packed differences, which stand among those of all terms, and
-/// more as a list of its own, by its place among these.
-// Most terms have few postings. So a table of thousands of them takes four pieces of memory.
+/// more by the place of their list among the long ones.
+// Most terms have few postings, and a table of thousands of them takes six pieces of memory.
 #[derive(Clone, Copy)]
 pub(crate) enum Kept {
     Short {
@@ -63,7 +63,7 @@ impl Entry {
 
 /// The postings that are kept at a place of the packed differences or of the lists.
 #[inline]
-pub(crate) fn lent<'a>(packed: &'a [u8], long: &'a [PostingList], list: Kept) -> Postings<'a>
+pub(crate) fn lent<'a>(packed: &'a [u8], long: &'a PostingRows, list: Kept) -> Postings<'a>
     requires { IsListIn packed.now long.now list }
     ensures { result ≡ list_in packed.now long.now list }
 {
@@ -75,7 +75,7 @@ pub(crate) fn lent<'a>(packed: &'a [u8], long: &'a [PostingList], list: Kept) ->
             size,
             count,
         } => Postings::of_block(part(packed, at, size as usize), first, last, count as usize),
-        Kept::Long(place) => long[place].as_postings(),
+        Kept::Long(place) => long.list(place),
     }
 }
 

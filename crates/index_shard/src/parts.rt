@@ -4,8 +4,8 @@ ghost use Rattle.posting_code.specs.Postings.{ArePostings};
 ghost use Rattle.index_shard.specs.Kept.{AreEndsOf, IsPutShort, kept_entry, leading};
 
 use crate::entry::{Entry, Kept};
-use posting_code::{PostingList, PostingMaker, Postings, put_joined};
-use std::alloc::{AllocError, Global};
+use posting_code::{Postings, put_joined};
+use std::alloc::AllocError;
 
 /// The first and the last member of some lists one after another, and how many they have.
 #[derive(Clone, Copy)]
@@ -80,37 +80,6 @@ pub(crate) fn put_short(
         size: (end - at) as u16,
         count: ends.count as u8,
     })
-}
-
-/// How many bytes the difference between two lists takes at most.
-const STEP_BYTES: usize = 8;
-
-/// How many bytes the lists take as one list, or a few more.
-fn room_of(lists: &[Postings<'_>]) -> usize {
-    let mut room = 0usize;
-    for list in lists {
-        room = room
-            .saturating_add(list.packed_len())
-            .saturating_add(STEP_BYTES);
-    }
-    room
-}
-
-/// The list of all addresses, of which there are so many, in memory of its own.
-pub(crate) fn one_list(
-    alloc: Global,
-    lists: &[Postings<'_>],
-    count: usize,
-) -> Result<PostingList, AllocError>
-    requires { ArePostings (concat lists.now) }
-    ensures { IfOk result (λ list. list ≡ concat lists.now) }
-{
-    let mut maker = PostingMaker::new(alloc);
-    maker.reserve(room_of(lists), count)?;
-    for list in lists {
-        maker.append(list)?;
-    }
-    Ok(maker.finish())
 }
 
 /// Puts an entry after the others, and its term after the bytes of theirs.

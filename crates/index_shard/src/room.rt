@@ -1,9 +1,12 @@
-/// What a table takes: so many terms, so many bytes of them, and so many of packed differences beside lists with memory of their own.
+use posting_code::RowsRoom;
+
+/// What a table takes: so many terms, so many bytes of them, so many of packed differences of lists of up to 64, and the rows of longer lists.
 #[derive(Clone, Copy)]
 pub struct Room {
     pub terms: usize,
     pub bytes: usize,
     pub packed: usize,
+    pub long: RowsRoom,
 }
 
 impl Room {
@@ -13,6 +16,27 @@ impl Room {
             terms: self.terms.saturating_add(other.terms),
             bytes: self.bytes.saturating_add(other.bytes),
             packed: self.packed.saturating_add(other.packed),
+            long: self.long.and(other.long),
         }
     }
 }
+
+/// The room for long lists in a table that is made of tables with this room in all: a long list may take over what short ones had, and has a
+/// step between any two.
+pub(crate) fn long_room(room: Room) -> RowsRoom {
+    if room.long.lists == 0 {
+        return RowsRoom::NONE;
+    }
+    let steps = room.long.lists.saturating_mul(STEP_BYTES);
+    RowsRoom {
+        packed: room
+            .long
+            .packed
+            .saturating_add(room.packed)
+            .saturating_add(steps),
+        ..room.long
+    }
+}
+
+/// How many bytes the step between two lists takes at most.
+const STEP_BYTES: usize = 8;

@@ -2,25 +2,26 @@ ghost use Rattle.std.specs.Prelude.{◌≡◌, ◌<◌, ◌++◌, ◌∷◌, [],
 ghost use Rattle.std.specs.List.{concat};
 ghost use Rattle.gcl_model.specs.Slots.{SlotRange};
 ghost use Rattle.posting_code.specs.Postings.{ArePostings};
-ghost use Rattle.index_shard.specs.Kept.{AreBytes, leading};
+ghost use Rattle.index_shard.specs.Kept.{AreBytes, AreEndsOf, leading};
 ghost use Rattle.index_shard.specs.Tables.{IsTable, TermEntry, postings_of, addresses_at, place_of, least_term};
 
 use crate::entry::{Entry, Kept, head_of, lent};
 use crate::find::{find_place, place_from};
-use crate::parts::{ends_of, one_list, put_entry, put_short};
-use crate::room::Room;
-use posting_code::{BLOCK, PostingList, Postings};
+use crate::parts::{Ends, ends_of, put_entry, put_short};
+use crate::room::{Room, long_room};
+use posting_code::{BLOCK, PostingList, PostingRows, Postings};
 use std::alloc::{AllocError, Global};
 use std::marker::Model;
 
-/// Terms with their postings. The bytes of all terms stand in one row, and so do the packed differences of all lists of up to 64.
+/// Terms with their postings. The bytes of all terms stand in one row, and so do the packed differences of all lists of up to 64. Longer
+/// ones that were put together have rows of their own.
 #[derive(Drop)]
 pub(crate) struct TermTable {
     bytes: Vec<u8>,
     packed: Vec<u8>,
     entries: Vec<Entry>,
     // the lists of more than 64
-    long: Vec<PostingList>,
+    long: PostingRows,
 }
 
 impl Model for TermTable {
@@ -30,9 +31,9 @@ impl Model for TermTable {
 
     ghost Value = { List TermEntry };
 
-    ghost view = { λ t. table_in t.bytes.items t.packed.items t.long.items t.entries.items };
+    ghost view = { λ t. table_in t.bytes.items t.packed.items t.long t.entries.items };
 
-    ghost invariant = { λ t. AreKeptIn t.bytes.items t.packed.items t.long.items t.entries.items };
+    ghost invariant = { λ t. AreKeptIn t.bytes.items t.packed.items t.long t.entries.items };
 }
 
 impl TermTable {
@@ -44,7 +45,7 @@ impl TermTable {
             bytes: Vec::new(alloc),
             packed: Vec::new(alloc),
             entries: Vec::new(alloc),
-            long: Vec::new(alloc),
+            long: PostingRows::new(alloc),
         }
     }
 
@@ -53,16 +54,34 @@ impl TermTable {
         *self.entries.allocator()
     }
 
-    /// Puts a term with its postings after the others. A long list is moved, and a short one copied.
+    /// Puts a term with its postings after the others. A long list keeps its memory, and a short one is copied.
     pub(crate) fn push(&mut self, term: &[u8], postings: PostingList) -> Result<(), AllocError>
         ensures ok { OnOk result (self.new ≡ self.old ++ record { term = term.now; addresses = postings } ∷ []) }
         ensures err { OnErr result (self.new ≡ self.old) }
     {
         if postings.len() > BLOCK {
-            return self.push_long(term, postings);
+            return self.push_own(term, postings);
         }
         let lent = postings.as_postings();
         self.push_parts(head_of(term), term, &[lent])?;
+        Ok(())
+    }
+
+    /// The same with a list that keeps its memory.
+    fn push_own(&mut self, term: &[u8], postings: PostingList) -> Result<(), AllocError>
+        ensures ok { OnOk result (self.new ≡ self.old ++ record { term = term.now; addresses = postings } ∷ []) }
+        ensures err { OnErr result (self.new ≡ self.old) }
+    {
+        let place = self.long.len();
+        self.long.push(postings)?;
+        let kept = Kept::Long(place);
+        put_entry(
+            &mut self.bytes,
+            &mut self.entries,
+            head_of(term),
+            term,
+            kept,
+        )?;
         Ok(())
     }
 
@@ -81,29 +100,32 @@ impl TermTable {
     {
         let ends = ends_of(parts);
         if ends.count > BLOCK {
-            let joined = one_list(self.alloc(), parts, ends.count)?;
-            return self.push_long(term, joined);
+            return self.push_long(head, term, ends, parts);
         }
         let kept = put_short(&mut self.packed, ends, parts)?;
         put_entry(&mut self.bytes, &mut self.entries, head, term, kept)?;
         Ok(())
     }
 
-    /// The same with a list that keeps its own memory.
-    fn push_long(&mut self, term: &[u8], postings: PostingList) -> Result<(), AllocError>
-        ensures ok { OnOk result (self.new ≡ self.old ++ record { term = term.now; addresses = postings } ∷ []) }
+    /// The same with more than 64 postings in all.
+    fn push_long(
+        &mut self,
+        head: u64,
+        term: &[u8],
+        ends: Ends,
+        parts: &[Postings<'_>],
+    ) -> Result<(), AllocError>
+        requires head { head ≡ leading 8 0 term.now }
+        requires postings { ArePostings (concat parts.now) }
+        requires ends { AreEndsOf ends (concat parts.now) }
+        ensures ok { OnOk result (self.new ≡ self.old ++ record { term = term.now; addresses = concat parts.now } ∷ []) }
         ensures err { OnErr result (self.new ≡ self.old) }
     {
         let place = self.long.len();
-        self.long.push(postings)?;
+        self.long
+            .push_joined(parts, ends.first, ends.last, ends.count)?;
         let kept = Kept::Long(place);
-        put_entry(
-            &mut self.bytes,
-            &mut self.entries,
-            head_of(term),
-            term,
-            kept,
-        )?;
+        put_entry(&mut self.bytes, &mut self.entries, head, term, kept)?;
         Ok(())
     }
 
@@ -115,6 +137,7 @@ impl TermTable {
             terms: self.entries.len(),
             bytes: self.bytes.len(),
             packed: self.packed.len(),
+            long: self.long.room(),
         }
     }
 
@@ -125,6 +148,7 @@ impl TermTable {
         self.entries.reserve(room.terms)?;
         self.bytes.reserve(room.bytes)?;
         self.packed.reserve(room.packed)?;
+        self.long.reserve(long_room(room))?;
         Ok(())
     }
 
@@ -135,7 +159,7 @@ impl TermTable {
         self.bytes.shrink_to_fit();
         self.packed.shrink_to_fit();
         self.entries.shrink_to_fit();
-        self.long.shrink_to_fit();
+        self.long.fit();
     }
 
     /// The number of terms.

@@ -6,9 +6,7 @@ use Rattle.std.proofs.lemmas.List.{get_or_append_left, get_or-append-add, drop-a
 use Rattle.posting_code.specs.Numbers.{spelling, IsNumberAt}
 use Rattle.posting_code.specs.Postings.{RiseWithin, ArePostings}
 use Rattle.posting_code.specs.Packed.{unpacked, members_behind, kept, packed_from, packed_of, CanUnpack, IsHead, IsKept, StandsAt, head_at, last_of}
-use Rattle.posting_code.specs.Blocks.{AreBlocks}
 use Rattle.posting_code.specs.declared.head.Head.{Head}
-use Rattle.posting_code.specs.declared.blocks.Blocks.{Blocks}
 use Rattle.posting_code.proofs.Packed.{unpacked-packed, last_behind}
 use Rattle.posting_code.proofs.Around.{head_block}
 
@@ -38,53 +36,12 @@ kept_of (x ∷ xs) zero first packed r some is first_is packed_is = absurd (omeg
 kept_of (x ∷ xs) (suc n) first packed r some is first_is packed_is =
     ap (λ f. f ∷ unpacked f 0 1 packed) first_is ∙ ap (λ bs. x ∷ unpacked x 0 1 bs) packed_is ∙ ap (λ ps. x ∷ ps) (unpacked-packed x xs r.2)
 
-kept_first : (list : List ℕ) (count first : ℕ) (packed : List ℕ) → kept count first packed ≡ list → 0 < length list → first ≡ get_or list 0 0
-kept_first list zero first packed is some = absurd (let e = ap length is in omega (arith, e, some))
-kept_first list (suc n) first packed is some = ap (λ l. get_or l 0 0) is
-
 -- what rises after a list begins above its last member
 pub rise_step : (low end : ℕ) (xs ys : List ℕ) → RiseWithin low end (xs ++ ys) → 0 < length xs → 0 < length ys → (last_of xs < get_or ys 0 0) × (get_or ys 0 0 < end)
 rise_step low end [] ys r some more = absurd (omega (arith, some))
 rise_step low end (x ∷ xs) [] r some more = absurd (omega (arith, more))
 rise_step low end (x ∷ []) (y ∷ ys) r some more = let a = r.2.0 in (omega (arith, a), r.2.1)
 rise_step low end (x ∷ z ∷ xs) (y ∷ ys) r some more = rise_step (x + 1) end (z ∷ xs) (y ∷ ys) r.2 (omega arith) more
-
--- the same of lists as they are kept
-pub step_between : (xs ys : List ℕ) (last count first : ℕ) (packed : List ℕ) → kept count first packed ≡ ys → last ≡ last_of xs → (0 < length xs) × (0 < length ys) → ArePostings (xs ++ ys) → (last < first) × (first < 2 ^ 56)
-step_between xs ys last count first packed is last_is some rising =
-    let first_is = kept_first ys count first packed is some.1 in
-    let step = rise_step 0 (2 ^ 56) xs ys rising some.0 some.1 in
-    let a = step.0 in let b = step.1 in (omega (arith, a, first_is, last_is), omega (arith, b, first_is))
-
--- the bytes that were put one after the other are those of both lists
-pub record ArePut (xs ys front more : List ℕ) : Type 0 where
-  pub all : more ≡ packed_of (xs ++ ys)
-  pub parts : packed_of (xs ++ ys) ≡ front ++ packed_of ys
-
-pub are_put : (xs ys : List ℕ) (count first last : ℕ) (packed : List ℕ) (heads : List Head) (count' first' : ℕ) (packed' : List ℕ) (heads' : List Head) (front bytes more : List ℕ) →
-    IsKept count first packed heads → kept count first packed ≡ xs → IsKept count' first' packed' heads' → kept count' first' packed' ≡ ys → last ≡ last_of xs → (0 < length xs) × (0 < length ys) →
-    front ≡ packed ++ spelling (first' - last) → bytes ≡ packed' → more ≡ front ++ bytes → ArePut xs ys front more
-are_put xs ys count first last packed heads count' first' packed' heads' front bytes more k is k' is' last_is some front_is bytes_is more_is =
-    let mine : packed ≡ packed_of xs = k.differences ∙ ap packed_of is in
-    let other : bytes ≡ packed_of ys = bytes_is ∙ k'.differences ∙ ap packed_of is' in
-    let first_is = kept_first ys count' first' packed' is' some.1 in
-    let front_of : front ≡ packed_of xs ++ spelling (get_or ys 0 0 - last_of xs) =
-    front_is ∙ ap (λ bs. bs ++ spelling (first' - last)) mine ∙ ap (λ f. packed_of xs ++ spelling (f - last)) first_is ∙ ap (λ l. packed_of xs ++ spelling (get_or ys 0 0 - l)) last_is in
-    let parts : packed_of (xs ++ ys) ≡ front ++ packed_of ys = packed_joined xs ys some.0 some.1 ∙ ap (λ bs. bs ++ packed_of ys) (sym front_of) in
-    record { all = more_is ∙ ap (λ bs. front ++ bs) other ∙ sym parts; parts = parts }
-
--- what was made of both is kept
-pub joined_list : (xs ys : List ℕ) (count first : ℕ) (packed : List ℕ) (heads : List Head) (count' first' : ℕ) (packed' : List ℕ) (heads' : List Head) (front more : List ℕ) →
-    IsKept count first packed heads → kept count first packed ≡ xs → IsKept count' first' packed' heads' → kept count' first' packed' ≡ ys → (0 < length xs) × (0 < length ys) → ArePostings (xs ++ ys) → ArePut xs ys front more →
-    (count + count' ≡ length (xs ++ ys)) × (kept (count + count') first more ≡ xs ++ ys)
-joined_list xs ys count first packed heads count' first' packed' heads' front more k is k' is' some rising put =
-    let counted = k.counted ∙ ap length is in
-    let counted' = k'.counted ∙ ap length is' in
-    let long = length-append xs ys in
-    let some_xs = some.0 in
-    let count_is : count + count' ≡ length (xs ++ ys) = omega (arith, counted, counted', long) in
-    let first_is : first ≡ get_or (xs ++ ys) 0 0 = kept_first xs count first packed is some.0 ∙ sym (get_or_append_left xs ys 0 0 some.0) in
-    (count_is, kept_of (xs ++ ys) (count + count') first more rising (omega (arith, long, some_xs)) count_is first_is put.all)
 
 -- a head of the earlier list
 pub head_before : (xs ys : List ℕ) (place : ℕ) (head : Head) → place < length xs → IsHead xs (packed_of xs) place head → IsHead (xs ++ ys) (packed_of (xs ++ ys)) place head
@@ -189,18 +146,6 @@ one_head_more list heads longer head place are is at h = record {
       ]);
 }
 
--- the heads of a list are those of what comes after it too
-pub heads_before : (xs ys : List ℕ) (count first : ℕ) (packed : List ℕ) (heads : List Head) → IsKept count first packed heads → kept count first packed ≡ xs → AreHeads (xs ++ ys) heads
-heads_before xs ys count first packed heads k is = record {
-  blocks = λ b d lt.
-      let counted = k.counted in
-      let marked = k.marked in
-      let long = ap length is in
-      let mine = subst (λ l. IsHead l packed (64 * (b + 1)) (get_or heads b d)) is (k.blocks b d lt) in
-      head_before xs ys (64 * (b + 1)) (get_or heads b d) (omega (arith, lt, counted, marked, long))
-      (subst (λ bs. IsHead xs bs (64 * (b + 1)) (get_or heads b d)) (k.differences ∙ ap packed_of is) mine);
-}
-
 -- what was joined is kept
 pub kept_joined : (list : List ℕ) (count first : ℕ) (packed : List ℕ) (heads : List Head) → ArePostings list → kept count first packed ≡ list → packed ≡ packed_of list → count ≡ length list → length heads ≡ (count + 63) / 64 - 1 → AreHeads list heads →
     IsKept count first packed heads
@@ -226,12 +171,3 @@ last_of-append [] ys some = refl
 last_of-append (x ∷ xs) [] some = absurd (omega (arith, some))
 last_of-append (x ∷ []) (y ∷ ys) some = refl
 last_of-append (x ∷ z ∷ xs) (y ∷ ys) some = last_of-append (z ∷ xs) (y ∷ ys) some
-
--- and so it is of what was made of them
-pub last_joined : (xs ys made : List ℕ) (last : ℕ) → made ≡ xs ++ ys → 0 < length ys → last ≡ last_of ys → last ≡ last_of made
-last_joined xs ys made last is some end = end ∙ sym (last_of-append xs ys some) ∙ ap last_of (sym is)
-
--- the blocks of both lists, by the numbers that were read of each
-pub of_both : (blocks : Blocks) (front behind first count count' first' : ℕ) (heads : List Head) → front ≡ count → behind ≡ count' → first ≡ first' → AreBlocks blocks (front + behind) first heads → AreBlocks blocks (count + count') first' heads
-of_both blocks front behind first count count' first' heads front_is behind_is first_is are =
-    record { counted = are.counted ∙ ap (λ n. n + behind) front_is ∙ ap (λ n. count + n) behind_is; begun = are.begun ∙ first_is; marked = are.marked }

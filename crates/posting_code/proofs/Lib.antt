@@ -5,6 +5,7 @@ pub mod Packed
 pub mod Joining
 pub mod Shorts
 pub mod Steps
+pub mod InRows
 pub mod Around
 pub mod Unpacking
 pub mod Runs

@@ -1,6 +1,7 @@
 -- Laws of strictly rising lists.
-use Rattle.std.proofs.Common.{ℕ, zero, suc, ◌+◌, ◌<◌, ◌≤◌, List, [], ◌∷◌, ◌++◌, length, take, drop, get_or, ◌-◌, ◌≡◌, refl, arith}
-use Rattle.posting_code.specs.Postings.{RiseWithin}
+use Rattle.std.proofs.Common.{ℕ, zero, suc, ◌+◌, ◌^◌, ◌<◌, ◌≤◌, List, [], ◌∷◌, ◌++◌, length, take, drop, get_or, ◌-◌, ◌≡◌, refl, sym, subst, arith}
+use Rattle.std.proofs.lemmas.List.{take-append-drop}
+use Rattle.posting_code.specs.Postings.{RiseWithin, ArePostings}
 use Rattle.posting_code.specs.Packed.{last_of}
 
 -- wider bounds hold too
@@ -56,3 +57,11 @@ pub last_of-push : (xs : List ℕ) (y : ℕ) → last_of (xs ++ y ∷ []) ≡ y
 last_of-push [] y = refl
 last_of-push (x ∷ []) y = refl
 last_of-push (x ∷ z ∷ xs) y = last_of-push (z ∷ xs) y
+
+-- the first members of a list of addresses are one too
+pub front_of : (list part : List ℕ) (n : ℕ) → part ≡ take n list → ArePostings list → ArePostings part
+front_of list part n is rising = subst ArePostings (sym is) (rise_front 0 (2 ^ 56) (take n list) (drop n list) (subst ArePostings (sym (take-append-drop n list)) rising))
+
+-- and so are the others
+pub rest_of : (list part : List ℕ) (n : ℕ) → part ≡ drop n list → ArePostings list → ArePostings part
+rest_of list part n is rising = subst ArePostings (sym is) (rise_drop 0 (2 ^ 56) list n rising)

@@ -7,7 +7,8 @@ use Rattle.posting_code.specs.Postings.{ArePostings}
 use Rattle.posting_code.specs.Packed.{kept, packed_from, packed_of, last_of, IsKeptTo}
 use Rattle.posting_code.proofs.Joining.{kept_of}
 
-kept_short : (list : List ℕ) (count first : ℕ) (packed : List ℕ) → ArePostings list → count ≡ length list → first ≡ get_or list 0 0 → packed ≡ packed_of list → kept count first packed ≡ list
+-- what is kept by its first member, its length and its differences
+pub kept_short : (list : List ℕ) (count first : ℕ) (packed : List ℕ) → ArePostings list → count ≡ length list → first ≡ get_or list 0 0 → packed ≡ packed_of list → kept count first packed ≡ list
 kept_short [] count first packed rising counted first_is packed_is = ap (λ n. kept n first packed) counted
 kept_short (x ∷ xs) count first packed rising counted first_is packed_is = kept_of (x ∷ xs) count first packed rising (omega arith) counted first_is packed_is
 

@@ -7,3 +7,4 @@ pub mod Numbers
 pub mod Packed
 pub mod Postings
 pub mod Reader
+pub mod Rows

@@ -3,6 +3,7 @@
 //! Contracts see a `PostingList` as a list of addresses that rises strictly and stays below 2^56. It is lent as
 //! `Postings`, and read in blocks of 64: block `b` has the members from place `64 b` on. That only a block's first
 //! address is a fixed number, and each other member the packed difference from the one before, is seen by no contract.
+//! `PostingRows` is seen as a list of such lists: those that are put together of others share their memory.
 //!
 //! The layer above asks for the first address of a block, reads a block where that one decides, or goes through it as
 //! far as an answer. Of the 70 addresses `0, 2, .. 138` block 1 begins with 128 and has 6 members.
@@ -21,13 +22,16 @@ mod number;
 mod posting_list;
 mod room;
 mod row;
+mod rows;
 mod unpack;
 
 pub use laws::{each_number_has_one_spelling, no_spelling_begins_another};
 pub use maker::{PostingMaker, encode};
 pub use number::{NUMBER_END, Number, get_number, put_number};
 pub use posting_list::{ADDRESS_END, BLOCK, PostingList, Postings};
+pub use room::RowsRoom;
 pub use row::put_joined;
+pub use rows::PostingRows;
 
 #[cfg(test)]
 mod tests;

@@ -30,14 +30,6 @@ impl PostingMaker {
         }
     }
 
-    /// Makes room for so many bytes of packed differences more and for so many members in all, so that the list need not be moved while it
-    /// grows.
-    pub fn reserve(&mut self, bytes: usize, count: usize) -> Result<(), AllocError>
-        ensures { self.new ≡ self.old }
-    {
-        self.list.reserve(bytes, count)
-    }
-
     /// Puts an address after the others.
     pub fn push(&mut self, address: u64) -> Result<(), AllocError>
         requires { ArePostings (self.old ++ address ∷ []) }
@@ -45,25 +37,6 @@ impl PostingMaker {
         ensures err { OnErr result (self.new ≡ self.old) }
     {
         self.list.push_behind(address)
-    }
-
-    /// Puts the addresses of a list after the others. They are not unpacked. After an Err none are left.
-    pub fn append(&mut self, list: &Postings<'_>) -> Result<(), AllocError>
-        requires { ArePostings (self.old ++ list.now) }
-        ensures { OnOk result (self.new ≡ self.old ++ list.now) }
-    {
-        if list.len() == 0 {
-            return Ok(());
-        }
-        let count = self.list.len();
-        // most lists stay short, and are not moved for it
-        if 0 < count && count <= BLOCK && list.len() <= BLOCK - count {
-            return self.list.join_short(list);
-        }
-        let alloc = self.list.alloc();
-        let front = mem::replace(&mut self.list, PostingList::new(alloc));
-        self.list = both(front, list)?;
-        Ok(())
     }
 
     /// The number of addresses so far.
@@ -106,31 +79,15 @@ impl PostingMaker {
             return copy;
         }
         let alloc = self.list.alloc();
-        let mut list = mem::replace(&mut self.list, PostingList::new(alloc));
-        list.fit();
-        Ok(list)
+        Ok(mem::replace(&mut self.list, PostingList::new(alloc)))
     }
 
     /// The same of a maker that is done with.
     pub fn finish(self) -> PostingList
         ensures { result ≡ self }
     {
-        let mut list = self.list;
-        list.fit();
-        list
+        self.list
     }
-}
-
-/// The members of a list, and those of another one after them.
-fn both(front: PostingList, list: &Postings<'_>) -> Result<PostingList, AllocError>
-    requires some { 0 < length list.now }
-    requires rising { ArePostings (front ++ list.now) }
-    ensures { IfOk result (λ all. all ≡ front ++ list.now) }
-{
-    if front.len() == 0 {
-        return front.filled(list);
-    }
-    front.joined(list)
 }
 
 /// The list of exactly these addresses.

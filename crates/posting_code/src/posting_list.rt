@@ -2,12 +2,10 @@ ghost use Rattle.std.specs.Prelude.{◌≡◌, ◌+◌, ◌*◌, ◌^◌, ◌<�
 ghost use Rattle.posting_code.specs.Postings.{ArePostings, RiseWithin, blocks_of, block_of};
 ghost use Rattle.posting_code.specs.Packed.{IsHead, IsKeptTo, kept, last_of, packed_of};
 ghost use Rattle.posting_code.specs.Cuts.{IsCut};
-ghost use Rattle.posting_code.specs.Numbers.{spelling};
 
 use crate::blocks::Blocks;
 use crate::head::{Head, head_of};
 use crate::number::{NUMBER_END, put_number};
-use crate::room::is_roomy;
 use crate::unpack::{Cut, around_in, cut_before, member_before, unpack, walk};
 use std::alloc::{AllocError, Global};
 use std::marker::Model;
@@ -102,23 +100,6 @@ impl PostingList {
         })
     }
 
-    /// An equal list, in the memory of this one.
-    pub(crate) fn filled(self, list: &Postings<'_>) -> Result<PostingList, AllocError>
-        ensures { IfOk result (λ filled. filled ≡ list.now) }
-    {
-        let alloc = self.alloc();
-        let mut packed = self.packed;
-        packed.clear();
-        packed.extend_from_slice(list.packed)?;
-        Ok(PostingList {
-            packed,
-            last: list.last,
-            blocks: self
-                .blocks
-                .filled(alloc, list.count, list.first, list.heads)?,
-        })
-    }
-
     /// Takes all members away, and keeps their memory.
     pub(crate) fn clear(&mut self)
         ensures { self.new ≡ [] }
@@ -126,73 +107,6 @@ impl PostingList {
         self.packed.clear();
         self.last = 0;
         self.blocks.clear();
-    }
-
-    /// The members of both lists. The differences of the later one are copied as they are packed.
-    pub(crate) fn joined(self, list: &Postings<'_>) -> Result<PostingList, AllocError>
-        requires some { (0 < length self) × (0 < length list.now) }
-        requires rising { ArePostings (self ++ list.now) }
-        ensures { IfOk result (λ joined. joined ≡ self ++ list.now) }
-    {
-        let alloc = self.alloc();
-        let front = self.blocks.count();
-        let behind = list.count;
-        let first = self.blocks.first();
-        let last = list.last;
-        let mut packed = self.packed;
-        put_number(&mut packed, list.first - self.last)?;
-        let shift = packed.len();
-        packed.extend_from_slice(list.packed)?;
-        let (mut heads, spare) = self.blocks.into_heads(alloc);
-        let mut place = (BLOCK - front % BLOCK) % BLOCK;
-        while place < behind {
-            let head = list.head(place);
-            heads.push(Head {
-                first: head.first,
-                at: shift + head.at,
-            })?;
-            place += BLOCK;
-        }
-        let blocks = Blocks::of(alloc, spare, front + behind, first, heads)?;
-        Ok(PostingList {
-            packed,
-            last,
-            blocks,
-        })
-    }
-
-    /// Puts the members of a list after the others, where all of them are one block.
-    pub(crate) fn join_short(&mut self, list: &Postings<'_>) -> Result<(), AllocError>
-        requires some { (0 < length self.old) × (0 < length list.now) }
-        requires few { length self.old + length list.now ≤ 64 }
-        requires rising { ArePostings (self.old ++ list.now) }
-        ensures ok { OnOk result (self.new ≡ self.old ++ list.now) }
-        ensures err { OnErr result (self.new ≡ self.old) }
-    {
-        put_differences(&mut self.packed, list.first - self.last, list.packed)?;
-        self.last = list.last;
-        self.blocks.count_more(list.count);
-        Ok(())
-    }
-
-    /// Makes room for so many bytes of packed differences more, and for so many members in all.
-    pub(crate) fn reserve(&mut self, bytes: usize, count: usize) -> Result<(), AllocError>
-        ensures { self.new ≡ self.old }
-    {
-        let alloc = self.alloc();
-        self.packed.reserve(bytes)?;
-        self.blocks.reserve(alloc, count.saturating_sub(1) / BLOCK)?;
-        Ok(())
-    }
-
-    /// Gives back the memory that growing took and no address needs, where that is much.
-    pub(crate) fn fit(&mut self)
-        ensures { self.new ≡ self.old }
-    {
-        if is_roomy(self.packed.capacity(), self.packed.len()) {
-            self.packed.shrink_to_fit();
-        }
-        self.blocks.fit();
     }
 
     /// The number of addresses.
@@ -257,6 +171,26 @@ impl<'a> Postings<'a> {
         }
     }
 
+    /// A list by all that it is kept by.
+    pub(crate) fn of_parts(
+        packed: &'a [u8],
+        heads: &'a [Head],
+        first: u64,
+        last: u64,
+        count: usize,
+    ) -> Self
+        requires { IsKeptTo last count first packed.now heads.now }
+        ensures { result ≡ kept count first packed.now }
+    {
+        Postings {
+            packed,
+            heads,
+            first,
+            last,
+            count,
+        }
+    }
+
     /// How many bytes its packed differences take.
     pub fn packed_len(&self) -> usize
         ensures { result ≡ length (packed_of self.now) }
@@ -286,7 +220,7 @@ impl<'a> Postings<'a> {
     }
 
     /// Where a member stands.
-    fn head(&self, place: usize) -> Head
+    pub(crate) fn head(&self, place: usize) -> Head
         requires { place < length self.now }
         ensures { IsHead self.now (packed_of self.now) place result }
     {
@@ -422,22 +356,5 @@ impl<'a> Postings<'a> {
         let behind = BLOCK.min(self.count - BLOCK * block) - 1;
         let head = head_of(self.first, self.heads, block);
         around_in(self.packed, head.first, head.at, behind, k)
-    }
-}
-
-/// Puts a difference after others, and then those of a list.
-fn put_differences(packed: &mut Vec<u8>, step: u64, behind: &[u8]) -> Result<(), AllocError>
-    requires { step < 2 ^ 56 }
-    ensures ok { OnOk result (packed.new.items ≡ (packed.old.items ++ spelling step) ++ behind.now) }
-    ensures err { OnErr result (packed.new.items ≡ packed.old.items) }
-{
-    let before = packed.len();
-    put_number(packed, step)?;
-    match packed.extend_from_slice(behind) {
-        Ok(()) => Ok(()),
-        Err(fault) => {
-            packed.truncate(before);
-            Err(fault)
-        }
     }
 }

@@ -28,7 +28,7 @@ pub fn put_joined(packed: &mut Vec<u8>, lists: &[Postings<'_>]) -> Result<(), Al
 }
 
 /// Puts the packed differences of one list more after those of others, of which the last member is given, and gives the last of all.
-fn put_next(
+pub(crate) fn put_next(
     packed: &mut Vec<u8>,
     last: Option<u64>,
     list: &Postings<'_>,

@@ -1,10 +1,11 @@
-ghost use Rattle.std.specs.Prelude.{◌++◌, IfOk};
+ghost use Rattle.std.specs.Prelude.{◌≡◌, ◌<◌, ◌++◌, length, IfOk};
 ghost use Rattle.posting_code.specs.Postings.{ArePostings};
 
 use crate::maker::{PostingMaker, encode};
 use crate::number::{Number, get_number, put_number};
 use crate::posting_list::{ADDRESS_END, BLOCK, PostingList, Postings};
 use crate::row::put_joined;
+use crate::rows::PostingRows;
 use std::alloc::{AllocError, Global};
 
 /// Some addresses from `first` on, each `gap` above the one before, and no more than fit.
@@ -66,6 +67,48 @@ fn put_in_three(
     let mut packed = vec![in alloc; 7u8]?;
     put_three(&mut packed, &front, &middle, &behind)?;
     Ok(packed)
+}
+
+/// Puts three lists in rows, as one list that is there in one piece, too.
+fn push_three(
+    rows: &mut PostingRows,
+    whole: &Postings<'_>,
+    front: &PostingList,
+    middle: &PostingList,
+    behind: &PostingList,
+) -> Result<(), AllocError>
+    requires some { 0 < length whole.now }
+    requires same { whole.now ≡ front.now ++ middle.now ++ behind.now }
+    requires rising { ArePostings whole.now }
+{
+    let lists = [
+        front.as_postings(),
+        middle.as_postings(),
+        behind.as_postings(),
+    ];
+    rows.push_joined(&lists, whole.first(), whole.last(), whole.len())
+}
+
+/// Rows with some members that are put as those of three lists, and with the same ones as a list of its own.
+fn rows_of_three(
+    alloc: Global,
+    members: &[u64],
+    first: usize,
+    second: usize,
+) -> Result<PostingRows, AllocError>
+    requires some { 0 < length members.now }
+    requires rising { ArePostings members.now }
+{
+    let (front, rest) = members.split_at(first.min(members.len()));
+    let (middle, behind) = rest.split_at(second.min(rest.len()));
+    let whole = encode(alloc, members)?;
+    let front = encode(alloc, front)?;
+    let middle = encode(alloc, middle)?;
+    let behind = encode(alloc, behind)?;
+    let mut rows = PostingRows::new(alloc);
+    push_three(&mut rows, &whole.as_postings(), &front, &middle, &behind)?;
+    rows.push(whole)?;
+    Ok(rows)
 }
 
 #[test]
@@ -199,24 +242,6 @@ fn the_least_and_the_greatest_address_are_kept(rt: HostRuntime) -> Result<(), Al
 }
 
 #[test]
-fn what_is_put_behind_a_joined_list_comes_behind_its_last_member(
-    rt: HostRuntime,
-) -> Result<(), AllocError> {
-    let behind = encode(rt.alloc(), &[5, 9])?;
-    let mut maker = PostingMaker::new(rt.alloc());
-    maker.push(3)?;
-    maker.append(&behind.as_postings())?;
-    maker.push(12)?;
-    let list = maker.finish();
-    let list = list.as_postings();
-    let mut members = [0; 64];
-    assert_eq!(rt; list.block_count(), 1);
-    assert_eq!(rt; list.read_block(0, &mut members), 4);
-    assert!(rt; members.starts_with(&[3, 5, 9, 12]));
-    Ok(())
-}
-
-#[test]
 fn lists_that_are_put_behind_each_other_have_the_bytes_of_one(
     rt: HostRuntime,
 ) -> Result<(), AllocError> {
@@ -243,6 +268,47 @@ fn lists_that_are_put_behind_each_other_have_the_bytes_of_one(
                     && joined.len() == bytes.len().wrapping_add(1),
                 "{name} by {gap}"
             );
+        }
+    }
+    Ok(())
+}
+
+#[test]
+fn lists_that_are_put_in_rows_as_one_have_its_blocks(rt: HostRuntime) -> Result<(), AllocError> {
+    let cases = [
+        ("one block", 5, 2, 2),
+        ("none in front", 130, 0, 64),
+        ("none between", 130, 65, 0),
+        ("blocks that begin in the second", 200, 10, 150),
+        ("blocks that begin where a list does", 200, 64, 64),
+        ("a second that begins none", 200, 70, 5),
+    ];
+    for (name, count, first, second) in cases {
+        for gap in [1, 200, 1 << 40] {
+            let members = addresses(rt.alloc(), 3, count, gap)?;
+            if members.is_empty() {
+                continue;
+            }
+            let rows = rows_of_three(rt.alloc(), &members, first, second)?;
+            assert_eq!(rt; rows.len(), 2, "{name}");
+            for place in 0..rows.len() {
+                let list = rows.list(place);
+                assert_eq!(rt;
+                    list.block_count(),
+                    members.chunks(BLOCK).count(),
+                    "{name} by {gap}"
+                );
+                for (block, chunk) in members.chunks(BLOCK).enumerate() {
+                    if block < list.block_count() {
+                        let mut read = [7; 64];
+                        let found = list.read_block(block, &mut read);
+                        assert!(rt;
+                            read.starts_with(chunk) && found == chunk.len(),
+                            "block {block} of {name} by {gap}"
+                        );
+                    }
+                }
+            }
         }
     }
     Ok(())

@@ -16,7 +16,7 @@ use crate::seen::Seen;
 use address_space::Range;
 use index_shard::{Room, Shard, ShardMaker};
 use indexmap::IndexMap;
-use posting_code::PostingMaker;
+use posting_code::{PostingMaker, RowsRoom};
 use std::alloc::{AllocError, Global};
 use std::marker::Model;
 
@@ -157,6 +157,7 @@ fn roomy(alloc: Global, range: Range, terms: usize) -> Result<ShardMaker, AllocE
         terms,
         bytes: terms.saturating_mul(NAME_BYTES),
         packed: terms.saturating_mul(LIST_BYTES),
+        long: RowsRoom::NONE,
     })?;
     Ok(maker)
 }

@@ -10,7 +10,7 @@ use crate::least::{Least, least_of};
 use crate::part::Part;
 use index_shard::Room;
 use live_version::Slot;
-use posting_code::Postings;
+use posting_code::{Postings, RowsRoom};
 use std::alloc::{AllocError, Global};
 use std::marker::Model;
 
@@ -64,6 +64,7 @@ impl<'a> SlotTerms<'a> {
             terms: 0,
             bytes: 0,
             packed: 0,
+            long: RowsRoom::NONE,
         };
         for part in &self.parts {
             room = room.and(part.room());

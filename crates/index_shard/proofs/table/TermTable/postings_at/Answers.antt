@@ -7,20 +7,20 @@ pub lent-requires : goal.lent-requires
 lent-requires c =
     let i = c.self.inside in
     let e = c.index-entry.result.now in
-    let lt = place_within i.bytes.items i.packed.items i.long.items i.entries.items c.args.self.now c.args.place c.self.view_is c.requires in
-    let held = (kept_here i.bytes.items i.packed.items i.long.items i.entries.items c.args.place e c.self.invariant lt c.index-entry.ensures).1 in
-    subst (λ p. IsListIn p c.deref-2.result.now e.list) (sym c.deref.ensures.value) (subst (λ l. IsListIn i.packed.items l e.list) (sym c.deref-2.ensures.value) held)
+    let lt = place_within i.bytes.items i.packed.items i.long i.entries.items c.args.self.now c.args.place c.self.view_is c.requires in
+    let held = (kept_here i.bytes.items i.packed.items i.long i.entries.items c.args.place e c.self.invariant lt c.index-entry.ensures).1 in
+    subst (λ p. IsListIn p i.long e.list) (sym c.deref.ensures.value) held
 
 pub returns-clause-at : goal.returns-clause-at
 returns-clause-at c =
     let i = c.self.inside in
     let e = c.index-entry.result.now in
-    let at = entry_here i.bytes.items i.packed.items i.long.items i.entries.items c.args.self.now c.args.place e c.self.view_is c.requires c.index-entry.ensures in
-    c.lent.ensures ∙ ap (λ p. list_in p c.deref-2.result.now e.list) c.deref.ensures.value ∙ ap (λ l. list_in i.packed.items l e.list) c.deref-2.ensures.value ∙ sym at.addresses
+    let at = entry_here i.bytes.items i.packed.items i.long i.entries.items c.args.self.now c.args.place e c.self.view_is c.requires c.index-entry.ensures in
+    c.lent.ensures ∙ ap (λ p. list_in p i.long e.list) c.deref.ensures.value ∙ sym at.addresses
 
 pub returns-clause-entry : goal.returns-clause-entry
 returns-clause-entry c =
     let i = c.self.inside in
     let e = c.index-entry.result.now in
-    let at = entry_here i.bytes.items i.packed.items i.long.items i.entries.items c.args.self.now c.args.place e c.self.view_is c.requires c.index-entry.ensures in
-    at.postings ∙ ap Some (sym (c.lent.ensures ∙ ap (λ p. list_in p c.deref-2.result.now e.list) c.deref.ensures.value ∙ ap (λ l. list_in i.packed.items l e.list) c.deref-2.ensures.value))
+    let at = entry_here i.bytes.items i.packed.items i.long i.entries.items c.args.self.now c.args.place e c.self.view_is c.requires c.index-entry.ensures in
+    at.postings ∙ ap Some (sym (c.lent.ensures ∙ ap (λ p. list_in p i.long e.list) c.deref.ensures.value))
