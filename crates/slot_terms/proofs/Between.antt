@@ -150,6 +150,29 @@ between_goes ranges block out put rest more live others dead after i range lt at
       few = omega (arith, long, long_others, few);
     }
 
+none_of : {X : Type 0} (xs : List X) → length xs ≡ 0 → xs ≡ []
+none_of [] none = refl
+none_of (x ∷ xs) none = absurd (omega (arith, none))
+
+-- one range more, in which none lies
+pub between_passes : (ranges : List SlotRange) (block out put rest live others dead after : List ℕ) (i : ℕ) (range : SlotRange) → i < length ranges → range ≡ get_or ranges i range → AreRangesWithin 0 address_end ranges →
+    IsBetween ranges block out put rest i → IsParted range rest live others dead after → length others ≤ length after → IsBetween ranges block out put rest (i + 1)
+between_passes ranges block out put rest live others dead after i range lt at apart was is as_many =
+    let later = drop (i + 1) ranges in
+    let cut : drop i ranges ≡ range ∷ later = drop_more ranges i range lt ∙ ap (λ r. r ∷ later) (sym at) in
+    let left = subst (AreRangesWithin 0 address_end) cut (apart_drop 0 address_end ranges i apart) in
+    let long = ap length is.others_are ∙ length-append dead after in
+    let whole : rest ≡ live ++ after = is.whole ∙ ap (λ l. live ++ l) (is.others_are ∙ ap (λ l. l ++ after) (none_of dead (omega (arith, long, as_many)))) in
+    let some = left.1 in
+    let before = alive_where later 0 range.first live is.below (λ p le below. is_dead-before (range.last + 1) address_end later p left.3 (omega (arith, below, some))) in
+    record {
+      all = ap (λ l. put ++ l) (ap (alive later) whole ∙ filter-append (is_alive later) live after ∙ ap (λ l. l ++ alive later after) before)
+          ∙ ap (λ l. put ++ l) (sym (parted range later 0 address_end rest live others dead after left is))
+          ∙ ap (λ m. put ++ alive m rest) (sym cut)
+          ∙ was.all;
+      few = was.few;
+    }
+
 -- where all of the rest is before the next range, all of it is left
 pub between_apart : (ranges : List SlotRange) (block out put rest more : List ℕ) (i : ℕ) (range : SlotRange) → i < length ranges → range ≡ get_or ranges i range → AreRangesWithin 0 address_end ranges → ArePostings rest →
     last_of rest < range.first → IsBetween ranges block out put rest i → more ≡ put ++ rest → more ≡ out ++ alive ranges block

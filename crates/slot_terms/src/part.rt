@@ -218,8 +218,13 @@ fn lend_between<'a>(
             return Ok(());
         }
         let (live, others) = rest.split(range.first);
+        let behind = others.split(range.last + 1).1;
+        // often none is in it
+        if behind.len() == others.len() {
+            continue;
+        }
         lists.push(live)?;
-        rest = others.split(range.last + 1).1;
+        rest = behind;
     }
     lists.push(rest)?;
     Ok(())

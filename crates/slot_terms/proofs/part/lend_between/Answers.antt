@@ -1,7 +1,7 @@
-use Rattle.std.proofs.Common.{◌<◌, ap, subst, ◌∙◌}
+use Rattle.std.proofs.Common.{◌<◌, ap, subst, ◌∙◌, arith}
 use Rattle.std.specs.List.{concat}
 use Rattle.gcl_model.specs.Slots.{SlotRange, slot_range}
-use Rattle.slot_terms.proofs.Between.{IsParted, between_apart, between_goes, between_ends}
+use Rattle.slot_terms.proofs.Between.{IsParted, between_apart, between_goes, between_ends, between_passes}
 use Rattle.slot_terms.proofs.Firsts.{concat_push}
 use Rattle.slot_terms.proofs.part.lend_between.Goals as goal
 
@@ -32,3 +32,18 @@ returns c =
     ap concat c.in_ok-push-3.ensures.items
     ∙ concat_push c.loop-range.lists.items c.loop-range.rest
     ∙ between_ends c.args.ranges.now c.args.block (concat c.args.lists.now.items) (concat c.loop-range.lists.items) c.loop-range.rest c.loop-range.range-index c.loop-range-test.false c.loop-range.invariant
+
+pub loop-range-preserved-then-len : goal.loop-range-preserved-then-len
+loop-range-preserved-then-len c =
+    let parted : IsParted (slot_range c.range.inside.first c.range.inside.last) c.loop-range.rest c.split-live.result.0 c.split-live.result.1 c.split.result.0 c.split.result.1 = record {
+      whole = c.split-live.ensures.whole;
+      below = c.split-live.ensures.below;
+      from = c.split-live.ensures.from;
+      others_are = c.split.ensures.whole;
+      within = c.split.ensures.below;
+      behind = c.split.ensures.from;
+    } in
+    let parted = subst (λ (r : SlotRange). IsParted r c.loop-range.rest c.split-live.result.0 c.split-live.result.1 c.split.result.0 c.split.result.1) c.range.view_is parted in
+    between_passes c.args.ranges.now c.args.block (concat c.args.lists.now.items) (concat c.loop-range.lists.items) c.loop-range.rest c.split-live.result.0 c.split-live.result.1 c.split.result.0 c.split.result.1
+    c.loop-range.range-index c.range-item.result c.loop-range-test.true c.range-item.is c.requires.apart c.loop-range.invariant parted
+    (omega (arith, c.if-len.true, c.len-in-loop-range.ensures.value, c.len-in-loop-range-2.ensures.value))
