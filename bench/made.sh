@@ -33,20 +33,28 @@ for readers in 1 4 16; do
   cmp lines1 "lines$readers"
 done
 cat lines1
-# in turn, and the medians: what the machine does beside them falls on both alike, and one run alone may have a core that four share
-read -r one four quickest_one quickest_four <<< "$(python3 - "$program" "${made[@]}" <<'P'
+# in turn, and the medians: what the machine does beside them falls on all alike, and one run alone may have a core that four share. Four runs with one
+# reader at the same time tell how many processors the machine lends in fact: where other work takes some, the ratio says little of the program
+read -r one four quickest_one quickest_four at_once <<< "$(python3 - "$program" "${made[@]}" <<'P'
 import statistics, subprocess, sys, time
-took = {1: [], 4: []}
-for _ in range(15):
-    for readers in took:
-        begin = time.time()
-        subprocess.run([*sys.argv[1:], "--readers", str(readers)], stdin=subprocess.DEVNULL, stdout=subprocess.DEVNULL)
-        took[readers].append(time.time() - begin)
-print(*(statistics.median(took[n]) for n in took), *(min(took[n]) for n in took))
+
+def start(readers):
+    return subprocess.Popen([*sys.argv[1:], "--readers", str(readers)], stdin=subprocess.DEVNULL, stdout=subprocess.DEVNULL)
+
+def seconds(*readers):
+    begin = time.time()
+    for run in [start(n) for n in readers]:
+        run.wait()
+    return time.time() - begin
+
+took = [(seconds(1), seconds(4), seconds(1, 1, 1, 1)) for _ in range(15)]
+one, four, at_once = zip(*took)
+print(*map(statistics.median, (one, four)), min(one), min(four), statistics.median(at_once))
 P
 )"
-awk -v a="$four" -v b="$one" -v c="$quickest_four" -v d="$quickest_one" -v p="$(nproc)" 'BEGIN {
-  printf "four readers %.3f s, one %.3f s on %s processors, the medians of 15 runs: ratio %.2f (target 0.6 on four); the quickest %.3f s and %.3f s\n", a, b, p, a / b, c, d }'
+awk -v a="$four" -v b="$one" -v c="$quickest_four" -v d="$quickest_one" -v e="$at_once" -v p="$(nproc)" 'BEGIN {
+  printf "four readers %.3f s, one %.3f s on %s processors, the medians of 15 runs: ratio %.2f (target 0.6 on four); the quickest %.3f s and %.3f s\n", a, b, p, a / b, c, d
+  printf "four runs with one reader at the same time %.3f s: the machine lent %.1f processors\n", e, 4 * b / e }'
 adding=$(memory "$program" < adds)
 memory=$(memory "$program" "${made[@]}" --readers 4 < /dev/null)
 awk -v a="$memory" -v b="$adding" 'BEGIN { printf "memory %.1f MB, of adding the same files %.1f MB: ratio %.2f (target 2)\n", a / 1024, b / 1024, a / b }'

@@ -1,13 +1,14 @@
 -- What is told of a text, counted byte by byte.
-use Rattle.std.proofs.Common.{◌≡◌, ℕ, ◌+◌, ◌==◌, Bool, true, false, List, [], ◌∷◌, ◌++◌, length, refl, sym, ap, ◌∙◌, arith, length-append, cond}
+use Rattle.std.proofs.Common.{◌≡◌, ℕ, ◌+◌, ◌==◌, Bool, true, false, List, [], ◌∷◌, ◌++◌, length, refl, sym, ap, subst, ◌∙◌, append_assoc, arith, length-append, cond}
 use Rattle.std.specs.Prelude.{if◌then◌else◌, drop}
 use Rattle.std.specs.List.{filter, slice_split, onto_first, sum}
+use Rattle.std.proofs.lemmas.List.{append-nil}
 use Rattle.std.proofs.lemmas.List.Splits.{slice_split-cons_yes, slice_split-cons_no}
 use Rattle.std.proofs.lemmas.List.Sums.{sum_by-append}
 use Rattle.std.proofs.lemmas.Map.Views.{exact_unsigned_eq}
 use Rattle.gcl_model.specs.Tokens.{starts_with_byte}
 use Rattle.made_corpus.specs.Summary.{refusals}
-use Rattle.made_corpus.specs.Counted.{marks, counts_with, begins_behind, AreCountsOf}
+use Rattle.made_corpus.specs.Counted.{marks, counts_with, counts_with_all, begins_behind, AreCountsOf}
 use Rattle.made_corpus.specs.declared.counts.Counts.{Counts}
 
 -- the lines that begin so, from a place on
@@ -86,3 +87,10 @@ counts-snoc counts text b are = record {
   sum = ap (λ n. n + b) are.sum ∙ sym (sum-snoc text b);
   begins = sym (begins-snoc true text b);
 }
+
+-- the numbers of a text with a piece after it
+pub counts-append : (counts : Counts) (text piece : List ℕ) → AreCountsOf counts text → AreCountsOf (counts_with_all counts piece) (text ++ piece)
+counts-append counts text [] are = subst (AreCountsOf counts) (sym (append-nil text)) are
+counts-append counts text (b ∷ rest) are =
+    subst (AreCountsOf (counts_with_all (counts_with counts b) rest)) (append_assoc text (b ∷ []) rest)
+    (counts-append (counts_with counts b) (text ++ b ∷ []) rest (counts-snoc counts text b are))

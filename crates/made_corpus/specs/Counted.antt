@@ -16,6 +16,11 @@ counts_with counts b = record {
   begins = b == 10;
 }
 
+-- the numbers once a piece more was counted, from its front
+abbrev pub counts_with_all : Counts → List ℕ → Counts
+counts_with_all counts [] = counts
+counts_with_all counts (b ∷ rest) = counts_with_all (counts_with counts b) rest
+
 -- whether a byte after the text begins a line, where it does so before the text or not
 abbrev pub begins_behind : Bool → List ℕ → Bool
 begins_behind begins [] = begins

@@ -1,5 +1,5 @@
 ghost use Rattle.std.specs.Prelude.{◌≡◌, [], IfSome};
-ghost use Rattle.made_corpus.specs.Counted.{AreCountsOf, counts_with};
+ghost use Rattle.made_corpus.specs.Counted.{AreCountsOf, counts_with, counts_with_all};
 
 /// What is told of a text, as it is counted byte by byte.
 #[derive(Clone, Copy, Debug, PartialEq, Eq)]
@@ -36,6 +36,30 @@ impl Counts {
             bytes: self.bytes.checked_add(1)?,
             sum: self.sum.checked_add(u64::from(byte))?,
             begins: byte == b'\n',
+        })
+    }
+
+    /// Those with a piece more, None where a number might have no room for it, or the piece is longer than some 16 MiB.
+    pub(crate) fn with_all(self, piece: &[u8]) -> Option<Counts>
+        ensures { IfSome result (λ counts. counts ≡ counts_with_all self piece.now) }
+    {
+        // a byte adds at most 255 to each number, so one look before the loop spares one at every byte
+        let most = u32::try_from(piece.len()).ok()?.checked_mul(255)?;
+        self.refused.checked_add(u64::from(most))?;
+        self.bytes.checked_add(u64::from(most))?;
+        self.sum.checked_add(u64::from(most))?;
+        // in the loop they have 32 bits, with which a processor counts twice as many bytes at once as with 64
+        let (mut refused, mut sum, mut begins) = (0u32, 0u32, self.begins);
+        for byte in piece {
+            refused += u32::from(begins & (*byte == b'!'));
+            sum += u32::from(*byte);
+            begins = *byte == b'\n';
+        }
+        Some(Counts {
+            refused: self.refused + u64::from(refused),
+            bytes: self.bytes + piece.len() as u64,
+            sum: self.sum + u64::from(sum),
+            begins,
         })
     }
 }

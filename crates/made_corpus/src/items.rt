@@ -30,6 +30,8 @@ pub fn put_content(out: &mut Vec<u8>, state: u64) -> Result<(), AllocError>
 {
     let mut draws = Draws { state };
     let later = 19 + draws.draw(200);
+    // an item has at most four bytes, and each later one a space before it
+    out.reserve(5 * (later as usize + 1))?;
     put_item(out, &mut draws)?;
     for _i in 0..later {
         put_text(out, b" ")?;

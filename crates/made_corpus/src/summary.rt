@@ -1,4 +1,5 @@
-ghost use Rattle.std.specs.Prelude.{◌≡◌, ◌++◌, ◌∷◌, [], Some, IfSome, OnOk, length, decimal};
+ghost use Rattle.std.specs.Prelude.{◌≡◌, ◌++◌, ◌∷◌, [], Some, ◌<◌, ◌≤◌, IfSome, IfOk, OnOk, OnErr, IsErrOf, length, decimal};
+ghost use Rattle.std.specs.Io.KnownBytes.{WriteAppends};
 ghost use Rattle.made_corpus.specs.Counted.{AreCountsOf};
 ghost use Rattle.made_corpus.specs.MadeLines.{made_lines};
 ghost use Rattle.made_corpus.specs.Summary.{summary};
@@ -37,6 +38,35 @@ impl SummarySink {
         Some(SummarySink { counts, taken })
     }
 
+    /// One that took a piece more, None where it has no byte, or where it is not counted as a whole.
+    fn with_all(&self, piece: &[u8]) -> Option<SummarySink>
+        ensures { IfSome result (λ sink. sink.taken ≡ self.now.taken ++ piece.now) }
+    {
+        let (first, rest) = piece.split_first()?;
+        let counts = self.counts.with_all(piece)?;
+        let taken = self.taken.with(*first).with_all(rest);
+        Some(SummarySink { counts, taken })
+    }
+
+    /// Takes bytes from the front of a piece, one by one, for as long as the numbers have room.
+    fn write_each(&mut self, piece: &[u8]) -> Result<usize, WriteError>
+        ensures bound { IfOk result (λ n. n ≤ length piece.now) }
+        ensures some { IfOk result (λ n. 0 < length piece.now → 0 < n) }
+        ensures bytes { WriteAppends (Some self.old.taken) (Some self.new.taken) result piece.now }
+        ensures full { OnErr result (IsErrOf result WriteError.NoMemory) }
+    {
+        let mut count = 0;
+        for byte in piece {
+            match self.with(*byte) {
+                Some(sink) => *self = sink,
+                None if count > 0 => return Ok(count),
+                None => return Err(WriteError::NoMemory),
+            }
+            count += 1;
+        }
+        Ok(count)
+    }
+
     /// Appends what is told of a run over so many files from this number, whose script has so many lines: five lines, of which the
     /// last three are those of the text that was taken.
     pub fn put_summary(
@@ -67,16 +97,13 @@ impl Sink for SummarySink {
     ghost faults = { λ _. 0 };
 
     fn write(&mut self, piece: &[u8]) -> Result<usize, WriteError> {
-        let mut count = 0;
-        for byte in piece {
-            match self.with(*byte) {
-                Some(sink) => *self = sink,
-                None if count > 0 => return Ok(count),
-                None => return Err(WriteError::NoMemory),
+        match self.with_all(piece) {
+            Some(sink) => {
+                *self = sink;
+                Ok(piece.len())
             }
-            count += 1;
+            None => self.write_each(piece),
         }
-        Ok(count)
     }
 }
 

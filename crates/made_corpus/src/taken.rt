@@ -3,7 +3,7 @@ ghost use Rattle.std.specs.Prelude.{◌≡◌, [], ◌∷◌, ◌++◌};
 use std::marker::Model;
 use std::snapshot::Snapshot;
 
-/// Bytes that only clauses read: all that were taken so far, in the room of the last one.
+/// Bytes that only clauses read: all that were taken so far, in the room of a flag that says whether there is one.
 #[cycle(taken)]
 #[derive(Drop)]
 pub struct Taken {
@@ -14,7 +14,7 @@ pub struct Taken {
 #[derive(Drop)]
 enum Last {
     None,
-    Byte(Snapshot<Taken>, u8),
+    Byte(Snapshot<Taken>, Snapshot<u8>),
 }
 
 impl Model for Taken {
@@ -46,7 +46,18 @@ impl Taken {
         ensures { result ≡ self.now ++ byte ∷ [] }
     {
         Taken {
-            last: Last::Byte(Snapshot::of(self), byte),
+            last: Last::Byte(Snapshot::of(self), Snapshot::of(&byte)),
         }
+    }
+
+    /// These bytes, and a piece after them.
+    pub(crate) fn with_all(self, piece: &[u8]) -> Taken
+        ensures { result ≡ self ++ piece.now }
+    {
+        let mut all = self;
+        for byte in piece {
+            all = all.with(*byte);
+        }
+        all
     }
 }

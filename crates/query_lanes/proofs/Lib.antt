@@ -4,6 +4,5 @@ pub mod MergeLemmas
 pub mod LaneLemmas
 pub mod EachLane
 pub mod OwnLemmas
-pub mod OwnLaneLemmas
 pub mod PageLemmas
 mod Worked

@@ -1,5 +1,5 @@
 -- A window that is answered while the next one is filled: the lines for the latter are done while what the former has is owed, and that is written then.
-use Rattle.std.proofs.Common.{◌≡◌, ℕ, ◌+◌, ◌≤◌, Bool, List, [], ◌∷◌, ◌++◌, length, take, drop, refl, sym, ap, ◌∙◌, subst, arith, append_assoc, append-nil, take_all, Option}
+use Rattle.std.proofs.Common.{◌≡◌, ℕ, ◌+◌, ◌≤◌, Bool, List, [], ◌++◌, take, refl, sym, ap, ◌∙◌, subst, arith, append_assoc, append-nil, Option}
 use Rattle.std.specs.Prelude.{Result}
 use Rattle.std.specs.Io.KnownBytes.{Appends}
 use Rattle.std.proofs.KnownBytes.{Appends-trans}
@@ -7,9 +7,6 @@ use Rattle.outside.specs.Contents.{Contents}
 use Rattle.gcl_model.specs.Texts.{Text}
 use Rattle.collection.specs.Engines.{EngineContent}
 use Rattle.script_lang.specs.Lines.{Line}
-use Rattle.logbook.specs.Pages.{Book}
-use Rattle.manifest_publish.specs.Accounts.{ReaderContent}
-use Rattle.query_lanes.specs.Readers.{AreOf}
 use Rattle.script_answers.specs.States.{State}
 use Rattle.script_answers.specs.Progress.{GoesBetween, GoesOn, HasCauses, Stand, WhoseLines, lines_from}
 use Rattle.script_answers.specs.Stopped.{GetsPart}
@@ -111,16 +108,3 @@ causes_at n a b result causes = record {
   write = λ is. let none = causes.write is in absurd (omega (arith, none));
   files = causes.files;
 }
-
--- readers that were lent and came back are of the publisher still
-pub kept_of : (after before : Book) (readers lent back : List ReaderContent) (n : ℕ) → after ≡ before → lent ≡ readers → length back ≡ length lent → n ≡ length lent → (AreOf before lent → AreOf before back) → AreOf before readers →
-    AreOf after (take n (back ++ drop (length back) lent))
-kept_of after before readers lent back n same is count long keep of =
-    let none : drop (length back) lent ≡ [] = ap (λ (k : ℕ). drop k lent) count ∙ drop_all lent in
-    let whole : take n (back ++ drop (length back) lent) ≡ back =
-    ap (λ l. take n (back ++ l)) none ∙ ap (take n) (append-nil back) ∙ take_all n back (omega (arith, count, long)) in
-    subst (λ (p : Book). AreOf p (take n (back ++ drop (length back) lent))) (sym same) (subst (AreOf before) (sym whole) (keep (subst (AreOf before) (sym is) of)))
-  where
-    drop_all : (xs : List ReaderContent) → drop (length xs) xs ≡ []
-    drop_all [] = refl
-    drop_all (x ∷ xs) = drop_all xs

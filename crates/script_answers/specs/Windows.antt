@@ -11,10 +11,7 @@ use Rattle.collection.specs.Engines.{EngineContent}
 use Rattle.script_lang.specs.Lines.{Line, text_of_lines}
 use Rattle.script_lang.specs.Answers.{is_refusal}
 use Rattle.query_lanes.specs.declared.asks.Ask.{Ask}
-use Rattle.logbook.specs.Pages.{Book}
-use Rattle.manifest_publish.specs.Accounts.{ReaderContent}
 use Rattle.query_lanes.specs.PutOff.{ArePutOff}
-use Rattle.query_lanes.specs.Readers.{AreOf}
 use Rattle.script_answers.specs.States.{State, Keeps}
 use Rattle.script_answers.specs.Answers.{Reply, answer, answers, state_after, AllAnswered, AreRead}
 use Rattle.script_answers.specs.Batches.{AreAsked, BeginsAt, ask_lines}
@@ -145,10 +142,6 @@ pub record IsReady (limits : Limits) (script : List ℕ) (now : Stand) (at asked
   pub asked_is : asked ≤ now.completed
   pub savable : CanBeSaved now.engine.version
   pub numbers : now.engine.version.number + wish now.wanted ≤ now.completed
-
--- readers that are all of one publisher are so still
-pub record KeepPublisher (before after : List ReaderContent) : Type 0 where
-  pub of : (publisher : Book) → AreOf publisher before → AreOf publisher after
 
 -- it has come to a later place, with the lines up to there, and is ready again
 pub record GoesFurther (limits : Limits) (script : List ℕ) (before after : Stand) (from to asked : ℕ) (window : Window) (batch : Batch) : Type 0 where

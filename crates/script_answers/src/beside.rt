@@ -11,7 +11,7 @@ ghost use Rattle.script_answers.specs.States.{AreLimits};
 ghost use Rattle.script_answers.specs.Answers.{names_kept_of_line, names_of};
 ghost use Rattle.script_answers.specs.Batches.{asks_query};
 ghost use Rattle.script_answers.specs.Progress.{ComesNext, HasCauses, lines_from, stand};
-ghost use Rattle.script_answers.specs.Windows.{DoesAhead, GoesFurther, HaltsAhead, HaltsWritingAhead, IsReady, KeepPublisher, WritesAhead};
+ghost use Rattle.script_answers.specs.Windows.{DoesAhead, GoesFurther, HaltsAhead, HaltsWritingAhead, IsReady, WritesAhead};
 
 use crate::batches::Batch;
 use crate::course::Course;
@@ -21,9 +21,8 @@ use crate::run_fault::RunFault;
 use crate::setting::Setting;
 use crate::window::Window;
 use collection::Opened;
-use manifest_publish::Reader;
 use outside::{Files, Gate, Sink};
-use query_lanes::{Ask, Found, Work, answer_put_off};
+use query_lanes::{Ask, Found, answer_put_off};
 use script_lang::LineCut;
 use std::alloc::{AllocError, Global};
 use std::mem;
@@ -37,19 +36,13 @@ fn answer_waiting<R: Threads + Sync, G: Gate + Sync>(
     alloc: Global,
     gate: &G,
     asks: &[Ask],
-    works: &mut [Work],
-    readers: &mut [Reader],
+    lanes: usize,
     is_answered: &AtomicBool,
 ) -> Result<Vec<Found>, AllocError>
     requires put_off { ArePutOff asks.now }
-    requires same { length works.old ≡ length readers.old }
-    requires lanes { length readers.old ≤ most_readers }
     ensures answers { (text : Text) → IfOk result (λ answers. answers.items ≡ map (answer_in text) asks.now) }
-    ensures of { KeepPublisher readers.old readers.new }
-    ensures count { length readers.new ≡ length readers.old }
-    ensures works { length works.new ≡ length works.old }
 {
-    let answers = answer_put_off(rt, alloc, gate, asks, works, readers);
+    let answers = answer_put_off(rt, alloc, gate, asks, lanes);
     is_answered.store(true, Ordering::SeqCst);
     answers
 }
@@ -65,8 +58,7 @@ fn run_beside<R: Threads + Wait + Sync, F: Files, G: Gate + Sync>(
     batch: &mut Batch,
     cut: LineCut,
     asks: &[Ask],
-    works: &mut [Work],
-    readers: &mut [Reader],
+    lanes: usize,
     is_answered: &AtomicBool,
 ) -> (Result<Vec<Found>, AllocError>, Result<(), RunFault>)
     requires ready { IsReady setting.now.limits script.now
@@ -79,12 +71,7 @@ fn run_beside<R: Threads + Wait + Sync, F: Files, G: Gate + Sync>(
     requires room { opened.old.lines + (length script.now - course.old.at) ≤ most_script }
     requires limits { AreLimits setting.now.limits }
     requires put_off { ArePutOff asks.now }
-    requires same { length works.old ≡ length readers.old }
-    requires lanes { length readers.old ≤ most_readers }
     ensures answers { (text : Text) → IfOk result.0 (λ answers. answers.items ≡ map (answer_in text) asks.now) }
-    ensures of { KeepPublisher readers.old readers.new }
-    ensures count { length readers.new ≡ length readers.old }
-    ensures works { length works.new ≡ length works.old }
     ensures goes { OnOk result.1 (GoesFurther setting.now.limits script.now
         (stand opened.old.lines (F.held files.old) opened.old.engine course.old.wanted course.old.refused)
         (stand opened.new.lines (F.held files.new) opened.new.engine course.new.wanted course.new.refused)
@@ -95,6 +82,8 @@ fn run_beside<R: Threads + Wait + Sync, F: Files, G: Gate + Sync>(
     ensures halts { OnErr result.1 (HaltsAhead setting.now.limits (lines_from setting.now.limits.line script.now course.old.at)
         (stand opened.old.lines (F.held files.old) opened.old.engine course.old.wanted course.old.refused)
         (stand opened.new.lines (F.held files.new) opened.new.engine course.new.wanted course.new.refused) window.old) }
+    ensures readers { opened.new.readers.items ≡ opened.old.readers.items }
+    ensures works { course.new.works.items ≡ course.old.works.items }
     ensures publisher { opened.new.engine.publisher ≡ opened.old.engine.publisher }
     ensures quiet { names_of (lines_from setting.now.limits.line script.now course.old.at) ≡ [] → files.new ≡ files.old }
     ensures unsaved { F.held files.new ≡ F.held files.old }
@@ -108,12 +97,9 @@ fn run_beside<R: Threads + Wait + Sync, F: Files, G: Gate + Sync>(
     join_mut(
         rt,
         &mut || -> Result<Vec<Found>, AllocError>
-            requires { IsSync R.row × IsSync G.row × (length works.now ≡ length readers.now) × (length readers.now ≤ most_readers) × ArePutOff asks.now }
+            requires { IsSync R.row × IsSync G.row × ArePutOff asks.now }
             ensures answers { (text : Text) → IfOk result (λ answers. answers.items ≡ map (answer_in text) asks.entry.now) }
-            ensures of { KeepPublisher readers.entry.now readers.exit.now }
-            ensures count { length readers.exit.now ≡ length readers.entry.now }
-            ensures works { length works.exit.now ≡ length works.entry.now }
-        { answer_waiting(rt, alloc, gate, asks, works, readers, is_answered) },
+        { answer_waiting(rt, alloc, gate, asks, lanes, is_answered) },
         &mut || -> Result<(), RunFault>
             requires { IsSync R.row × (IsReady setting.now.limits script.now
                 (stand opened.now.lines (F.held files.now) opened.now.engine course.now.wanted course.now.refused)
@@ -130,6 +116,8 @@ fn run_beside<R: Threads + Wait + Sync, F: Files, G: Gate + Sync>(
             ensures halts { OnErr result (HaltsAhead setting.entry.now.limits (lines_from setting.entry.now.limits.line script.entry.now course.entry.now.at)
                 (stand opened.entry.now.lines (F.held files.entry.now) opened.entry.now.engine course.entry.now.wanted course.entry.now.refused)
                 (stand opened.exit.now.lines (F.held files.exit.now) opened.exit.now.engine course.exit.now.wanted course.exit.now.refused) window.entry.now) }
+            ensures readers { opened.exit.now.readers.items ≡ opened.entry.now.readers.items }
+            ensures works { course.exit.now.works.items ≡ course.entry.now.works.items }
             ensures publisher { opened.exit.now.engine.publisher ≡ opened.entry.now.engine.publisher }
             ensures quiet { names_of (lines_from setting.entry.now.limits.line script.entry.now course.entry.now.at) ≡ [] → files.exit.now ≡ files.entry.now }
             ensures unsaved { F.held files.exit.now ≡ F.held files.entry.now }
@@ -173,9 +161,6 @@ fn answer_beside<R: Threads + Wait + Sync, F: Files, G: Gate + Sync>(
     requires unsaved { names_kept_of_line (line_of_cut script.now cut) ≡ [] }
     requires room { opened.old.lines + (length script.now - course.old.at) ≤ most_script }
     requires limits { AreLimits setting.now.limits }
-    requires same { length course.old.works.items ≡ length opened.old.readers.items }
-    requires lanes { length opened.old.readers.items ≤ most_readers }
-    requires of { AreOf opened.old.engine.publisher opened.old.readers.items }
     requires put_off { ArePutOff asks.now }
     ensures answers { (text : Text) → IfOk result (λ answers. answers.items ≡ map (answer_in text) asks.now) }
     ensures goes { OnOk result (GoesFurther setting.now.limits script.now
@@ -188,19 +173,16 @@ fn answer_beside<R: Threads + Wait + Sync, F: Files, G: Gate + Sync>(
     ensures halts { OnErr result (HaltsAhead setting.now.limits (lines_from setting.now.limits.line script.now course.old.at)
         (stand opened.old.lines (F.held files.old) opened.old.engine course.old.wanted course.old.refused)
         (stand opened.new.lines (F.held files.new) opened.new.engine course.new.wanted course.new.refused) window.old) }
+    ensures readers { opened.new.readers.items ≡ opened.old.readers.items }
+    ensures works { course.new.works.items ≡ course.old.works.items }
     ensures publisher { opened.new.engine.publisher ≡ opened.old.engine.publisher }
     ensures quiet { names_of (lines_from setting.now.limits.line script.now course.old.at) ≡ [] → files.new ≡ files.old }
     ensures unsaved { F.held files.new ≡ F.held files.old }
     ensures causes { HasCauses 0 0 (F.faults files.old) (F.faults files.new) result }
     ensures files_calm { OnOk result (F.faults files.new ≡ F.faults files.old) }
     ensures unkept { F.unkept files.new ≡ F.unkept files.old }
-    ensures of { AreOf opened.new.engine.publisher opened.new.readers.items }
-    ensures same { length course.new.works.items ≡ length opened.new.readers.items }
-    ensures lanes { length opened.new.readers.items ≤ most_readers }
 {
-    // lent to the lanes, while all else is lent to the lines
-    let mut readers = mem::replace(&mut opened.readers, Vec::new(setting.alloc));
-    let mut works = mem::replace(&mut course.works, Vec::new(setting.alloc));
+    let lanes = opened.readers.len();
     // whoever fills the window looks at it, and no answer depends on it
     let is_answered = AtomicBool::new(false);
     let (answers, filled) = run_beside(
@@ -213,12 +195,9 @@ fn answer_beside<R: Threads + Wait + Sync, F: Files, G: Gate + Sync>(
         batch,
         cut,
         asks,
-        works.as_mut_slice(),
-        readers.as_mut_slice(),
+        lanes,
         &is_answered,
     );
-    opened.readers = readers;
-    course.works = works;
     filled?;
     let answers = answers?;
     Ok(answers)

@@ -342,6 +342,8 @@ fn fill_on<R: Wait, F: Files, G: Gate>(
     ensures halts { OnErr result (HaltsAhead setting.now.limits (lines_from setting.now.limits.line script.now course.old.at)
         (stand opened.old.lines (F.held files.old) opened.old.engine course.old.wanted course.old.refused)
         (stand opened.new.lines (F.held files.new) opened.new.engine course.new.wanted course.new.refused) window.old) }
+    ensures readers { opened.new.readers.items ≡ opened.old.readers.items }
+    ensures works { course.new.works.items ≡ course.old.works.items }
     ensures publisher { opened.new.engine.publisher ≡ opened.old.engine.publisher }
     ensures quiet { names_of (lines_from setting.now.limits.line script.now course.old.at) ≡ [] → files.new ≡ files.old }
     ensures unsaved { F.held files.new ≡ F.held files.old }
@@ -399,6 +401,8 @@ pub(crate) fn fill<R: Wait, F: Files, G: Gate>(
     ensures halts { OnErr result (HaltsAhead setting.now.limits (lines_from setting.now.limits.line script.now course.old.at)
         (stand opened.old.lines (F.held files.old) opened.old.engine course.old.wanted course.old.refused)
         (stand opened.new.lines (F.held files.new) opened.new.engine course.new.wanted course.new.refused) window.old) }
+    ensures readers { opened.new.readers.items ≡ opened.old.readers.items }
+    ensures works { course.new.works.items ≡ course.old.works.items }
     ensures publisher { opened.new.engine.publisher ≡ opened.old.engine.publisher }
     ensures quiet { names_of (lines_from setting.now.limits.line script.now course.old.at) ≡ [] → files.new ≡ files.old }
     ensures unsaved { F.held files.new ≡ F.held files.old }

@@ -1,6 +1,5 @@
 //! What queries find that were put off.
-ghost use Rattle.std.specs.Prelude.{◌≡◌, ◌≤◌, ◌<◌, ◌+◌, length, IfOk};
-ghost use Rattle.logbook.specs.Pages.{Book};
+ghost use Rattle.std.specs.Prelude.{◌≤◌, length, IfOk};
 ghost use Rattle.gcl_model.specs.Limits.{most_readers};
 ghost use Rattle.query_lanes.specs.PutOff.{ArePutOff};
 ghost use Rattle.query_lanes.specs.Readers.{AreOf};
@@ -63,16 +62,11 @@ fn answers_on_passes<R: Threads + Sync>(
     rt: &R,
     alloc: Global,
     asks: &[Ask],
-    readers: &mut [Reader],
+    lanes: usize,
 ) -> Result<bool, AllocError>
-    requires few { length readers.old ≤ most_readers }
-    requires put_off { ArePutOff asks.now }
-    ensures of { (publisher : Book) → AreOf publisher readers.old → AreOf publisher readers.new }
-    ensures count { length readers.new ≡ length readers.old }
+    requires { ArePutOff asks.now }
 {
-    let mut works = Work::of_lanes(alloc, readers.len())?;
-    let works = works.as_mut_slice();
-    let answers = answer_put_off(rt, alloc, &FreeGate, asks, works, readers)?;
+    let answers = answer_put_off(rt, alloc, &FreeGate, asks, lanes)?;
     are_those_of_the_table(alloc, TABLE.len(), answers.as_slice())
 }
 
@@ -95,7 +89,7 @@ fn answers_late<R: Threads + Wait + Sync>(
     if !added(rt, engine) {
         return Ok(false);
     }
-    if !answers_on_passes(rt, alloc, asks.as_slice(), readers)? {
+    if !answers_on_passes(rt, alloc, asks.as_slice(), readers.len())? {
         return Ok(false);
     }
     asks.push(count(alloc)?)?;

@@ -1,12 +1,11 @@
-use Rattle.std.proofs.Common.{◌≡◌, List, length, map, subst, rules, Result}
+use Rattle.std.proofs.Common.{◌≡◌, List, map, subst, rules, Result}
 use Rattle.std.specs.Prelude.{IfOk, OnOk}
 use Rattle.gcl_model.proofs.Cases.{on_err}
 use Rattle.script_lang.specs.Lines.{Line}
 use Rattle.query_lanes.specs.Answers.{answer_in}
-use Rattle.query_lanes.specs.Readers.{AreOf}
 use Rattle.script_answers.specs.Progress.{WhoseLines, lines_from, stand}
 use Rattle.script_answers.specs.Windows.{DoesAhead, GoesFurther, HaltsOver}
-use Rattle.script_answers.proofs.Turns.{done_halts, kept_of}
+use Rattle.script_answers.proofs.Turns.{done_halts}
 use Rattle.script_answers.proofs.beside.answer_beside.Goals as goal
 
 pub returns-in_err-filled-clause-causes : goal.returns-in_err-filled-clause-causes
@@ -14,15 +13,6 @@ returns-in_err-filled-clause-causes g c =
     let causes = c.run_beside-answers.ensures.causes in
     let was = c.in_err-filled.was in
     search rules
-
-pub returns-in_err-filled-clause-of : goal.returns-in_err-filled-clause-of
-returns-in_err-filled-clause-of g c =
-    let same = c.requires.same in
-    let readers : c.replace-readers.result.items ≡ c.args.opened.now.readers.items = search rules in
-    let lent : c.replace-readers.result.items ≡ c.as_mut_slice-2.result.now = search rules in
-    let count : length c.run_beside-answers.new.readers ≡ length c.replace-readers.result.items = search rules in
-    kept_of c.run_beside-answers.new.opened.engine.publisher c.args.opened.now.engine.publisher c.args.opened.now.readers.items c.replace-readers.result.items c.run_beside-answers.new.readers c.replace-readers.result.len
-    c.run_beside-answers.ensures.publisher readers count (search rules) (λ of. c.run_beside-answers.ensures.of.of c.args.opened.now.engine.publisher (subst (AreOf c.args.opened.now.engine.publisher) lent of)) c.requires.of
 
 pub returns-in_err-answers-clause-halts : goal.returns-in_err-answers-clause-halts
 returns-in_err-answers-clause-halts g c =
@@ -42,24 +32,6 @@ returns-in_err-answers-clause-halts g c =
     (done_halts limits ahead (lines_from limits.line script c.run_beside-answers.new.course.at) c.args.opened.now.lines c.run_beside-answers.new.opened.lines held c.args.opened.now.engine c.run_beside-answers.new.opened.engine
     c.args.course.now.wanted c.run_beside-answers.new.course.wanted c.args.course.now.refused c.run_beside-answers.new.course.refused c.args.window.now c.run_beside-answers.new.window goes.goes does)
 
-pub returns-in_err-answers-clause-of : goal.returns-in_err-answers-clause-of
-returns-in_err-answers-clause-of g c =
-    let same = c.requires.same in
-    let readers : c.replace-readers.result.items ≡ c.args.opened.now.readers.items = search rules in
-    let lent : c.replace-readers.result.items ≡ c.as_mut_slice-2.result.now = search rules in
-    let count : length c.run_beside-answers.new.readers ≡ length c.replace-readers.result.items = search rules in
-    kept_of c.run_beside-answers.new.opened.engine.publisher c.args.opened.now.engine.publisher c.args.opened.now.readers.items c.replace-readers.result.items c.run_beside-answers.new.readers c.replace-readers.result.len
-    c.run_beside-answers.ensures.publisher readers count (search rules) (λ of. c.run_beside-answers.ensures.of.of c.args.opened.now.engine.publisher (subst (AreOf c.args.opened.now.engine.publisher) lent of)) c.requires.of
-
 pub returns-clause-answers : goal.returns-clause-answers
 returns-clause-answers g c = λ text.
     subst (λ (r : Result _ _). IfOk r (λ answers. answers.items ≡ map (answer_in text) c.args.asks.now)) c.in_ok-answers.was (c.run_beside-answers.ensures.answers text)
-
-pub returns-clause-of : goal.returns-clause-of
-returns-clause-of g c =
-    let same = c.requires.same in
-    let readers : c.replace-readers.result.items ≡ c.args.opened.now.readers.items = search rules in
-    let lent : c.replace-readers.result.items ≡ c.as_mut_slice-2.result.now = search rules in
-    let count : length c.run_beside-answers.new.readers ≡ length c.replace-readers.result.items = search rules in
-    kept_of c.run_beside-answers.new.opened.engine.publisher c.args.opened.now.engine.publisher c.args.opened.now.readers.items c.replace-readers.result.items c.run_beside-answers.new.readers c.replace-readers.result.len
-    c.run_beside-answers.ensures.publisher readers count (search rules) (λ of. c.run_beside-answers.ensures.of.of c.args.opened.now.engine.publisher (subst (AreOf c.args.opened.now.engine.publisher) lent of)) c.requires.of

@@ -16,6 +16,8 @@ loop-next-init g c = record {
   counted = omega arith;
   ready = c.requires.ready;
   does = λ all rest within cut front start old now read off. off;
+  readers = refl;
+  works = refl;
   publisher = refl;
   unsaved = refl;
   quiet = λ none. refl;
@@ -44,6 +46,8 @@ loop-next-preserved g c =
           c.advance.new.course.wanted c.advance.new.course.refused c.advance.new.window
           (subst (λ (h : Option Contents). WhoseLines mid c.loop-next.opened.lines (λ (all : List Line). DoesOn limits all c.loop-next.opened.lines c.advance.new.opened.lines h c.loop-next.opened.engine c.advance.new.opened.engine
           c.loop-next.course.wanted c.advance.new.course.wanted c.loop-next.course.refused c.advance.new.course.refused c.loop-next.window c.advance.new.window)) inv.unsaved step.does);
+      readers = step.readers ∙ inv.readers;
+      works = step.works ∙ inv.works;
       publisher = step.publisher ∙ inv.publisher;
       unsaved = step.unsaved ∙ inv.unsaved;
       quiet = λ none. step.quiet (none_left names_of_line ahead mid c.args.opened.now.lines c.loop-next.opened.lines inv.goes none) ∙ inv.quiet none;

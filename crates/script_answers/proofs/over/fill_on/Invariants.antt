@@ -14,6 +14,8 @@ invariant-loop-next g l = record {
   does : DoesAhead l.setting.limits (lines_from l.setting.limits.line l.script l.initial.course.at)
       (stand l.initial.opened.lines (g.F.Files.held l.initial.files) l.initial.opened.engine l.initial.course.wanted l.initial.course.refused)
       (stand l.opened.lines (g.F.Files.held l.files) l.opened.engine l.course.wanted l.course.refused) l.initial.window l.window;
+  readers : l.opened.readers.items ≡ l.initial.opened.readers.items;
+  works : l.course.works.items ≡ l.initial.course.works.items;
   publisher : l.opened.engine.publisher ≡ l.initial.opened.engine.publisher;
   unsaved : g.F.Files.held l.files ≡ g.F.Files.held l.initial.files;
   quiet : names_of (lines_from l.setting.limits.line l.script l.initial.course.at) ≡ [] → l.files ≡ l.initial.files;

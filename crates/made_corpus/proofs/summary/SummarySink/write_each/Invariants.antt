@@ -1,5 +1,5 @@
 use Rattle.std.proofs.Common.{◌≡◌, ◌++◌, take}
-use Rattle.made_corpus.proofs.summary.SummarySinkSink.write.Given as goal
+use Rattle.made_corpus.proofs.summary.SummarySink.write_each.Given as goal
 
 -- the bytes up to here were taken
 abbrev pub invariant-loop-byte : goal.invariant-loop-byte
