@@ -87,7 +87,3 @@ IsTrusted asks lanes last text at work = (k : ℕ) (made : Made) (ask : Ask) →
 -- the same of each lane
 abbrev pub AreTrusted : List Ask → ℕ → Text → List Work → Type 0
 AreTrusted asks last text works = (i : ℕ) (e : Work) → i < length works → IsTrusted asks (length works) last text i (slice_index_or works i e)
-
--- each answer of a lane on a query's own pass is the one over whatever text
-abbrev pub AreOfAnyText : List Ask → List Work → Type 0
-AreOfAnyText asks works = (text : Text) → AreTrusted asks 0 text works

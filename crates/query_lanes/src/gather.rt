@@ -34,7 +34,7 @@ fn counts(last: u64, is_settled: bool, number: Option<u64>) -> bool
 }
 
 /// Takes the answer that a lane made to the query at `j`, where it counts beside the last version.
-pub(crate) fn take_kept(last: u64, works: &mut [Work], asks: &[Ask], j: usize) -> Option<Found>
+fn take_kept(last: u64, works: &mut [Work], asks: &[Ask], j: usize) -> Option<Found>
     ensures trusted { (text : Text) → AreTrusted asks.now last text works.old → AreTrusted asks.now last text works.new }
     ensures found { (text : Text) (ask : Ask) → AreTrusted asks.now last text works.old → slice_get asks.now j ≡ Some ask →
         IfSome result (λ found. found ≡ answer_in text ask) }
