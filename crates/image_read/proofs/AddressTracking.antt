@@ -18,7 +18,7 @@ use Rattle.image_file.specs.declared.format.Format.{Format}
 use Rattle.image_file.specs.declared.format.Format.TheVariants.{One, Two}
 use Rattle.image_file.proofs.Decoding.{eight_same}
 use Rattle.image_read.specs.declared.places.Role.{Role}
-use Rattle.image_read.specs.Reading.{FillRole, HasNoAddresses, HasNoCount, HasNoPacked, IsAddressesFront, IsCountFront, IsPacked, SeenContent, Sees, SeesAll, count_bytes, count_end, is_seen, role_in}
+use Rattle.image_read.specs.Reading.{FillRole, HasNoAddresses, HasNoCount, HasNoNextAddress, HasNoPacked, IsAddressesFront, IsNextAddress, IsCountFront, IsPacked, SeenContent, Sees, SeesAll, count_bytes, count_end, is_seen, role_in}
 
 pub lacks_later : (low bound : ℕ) (ps : List ℕ) (p : ℕ) → RiseWithin low bound ps → bound ≤ p → has_address ps p ≡ false
 lacks_later low bound [] p rise le = refl
@@ -127,15 +127,30 @@ has_next_address first next number start role whole i before now addresses rest 
       },
     )
 
--- the gap that stands there is that of the address
-pub next_is : (bound next : ℕ) (start : SeenContent) (role : Role) (before : ℕ) (addresses rest all end : List ℕ) (p : ℕ) (more : List ℕ) (gap : ℕ) (behind : List ℕ) → next ≤ 2 ^ 56 → before ≤ bound →
-    HasNextAddress bound next start role before addresses rest all end p more → IsPacked rest gap behind → (before + gap ≡ p) × (behind ≡ packed_from p more ++ end)
-next_is bound next start role before addresses rest all end p more gap behind end_le le has packed =
-    let from = has.from in
-    let below = has.below in
-    let cut = prefix_free gap (p - before) behind (packed_from p more ++ end) packed.small (omega (arith, below, end_le)) (sym packed.bytes ∙ has.bytes) in
+-- the difference that stands there is that of the address
+pub same_next : (before bound next gap : ℕ) (whole behind : List ℕ) (p : ℕ) (rest : List ℕ) → next ≤ 2 ^ 56 → before ≤ bound → IsPacked whole gap behind → bound ≤ p → p < next → whole ≡ spelling (p - before) ++ rest →
+    (before + gap ≡ p) × (behind ≡ rest)
+same_next before bound next gap whole behind p rest end_le le packed from below is =
+    let cut = prefix_free gap (p - before) behind rest packed.small (omega (arith, below, end_le)) (sym packed.bytes ∙ is) in
     let same = cut.0 in
     (omega (arith, same, from, le), cut.1)
+
+-- no number that stands there is none of an address
+pub next_unpacked : (before bound next : ℕ) (start : SeenContent) (role : Role) (whole : List ℕ) → next ≤ 2 ^ 56 → HasNoPacked whole → HasNoNextAddress bound next start role before whole
+next_unpacked before bound next start role whole end_le none p rest from below place fresh is = none (p - before) rest (omega (arith, below, end_le)) is
+
+-- nor is one whose address is refused
+pub next_refused : (before bound next gap : ℕ) (start : SeenContent) (role : Role) (whole behind : List ℕ) → next ≤ 2 ^ 56 → before ≤ bound → IsPacked whole gap behind →
+    (bound ≤ before + gap → before + gap < next → role_in start.files (before + gap) ≡ Some role → is_seen start (before + gap) ≡ false → ⊥) → HasNoNextAddress bound next start role before whole
+next_refused before bound next gap start role whole behind end_le le packed none p rest from below place fresh is =
+    let same = sym (same_next before bound next gap whole behind p rest end_le le packed from below is).0 in
+    none (subst (λ q. bound ≤ q) same from) (subst (λ q. q < next) same below) (subst (λ q. role_in start.files q ≡ Some role) same place) (subst (λ q. is_seen start q ≡ false) same fresh)
+
+pub next_met : (before bound next gap : ℕ) (start after : SeenContent) (role : Role) (whole behind : List ℕ) → IsPacked whole gap behind → bound ≤ before + gap → before + gap < next → role_in start.files (before + gap) ≡ Some role →
+    is_seen start (before + gap) ≡ false → Sees start after (before + gap) → IsNextAddress bound next start after role before whole (before + gap) behind
+next_met before bound next gap start after role whole behind packed from below place fresh sees =
+    let apart : gap ≡ before + gap - before = omega arith in
+    record { from = from; below = below; place = place; fresh = fresh; sees = sees; bytes = packed.bytes ∙ ap (λ n. spelling n ++ behind) apart }
 
 or_turned : (a b c : Bool) → (a || (b || c)) ≡ ((b || (a || false)) || c)
 or_turned true true c = refl
@@ -166,15 +181,18 @@ pub fresh_at : (start now : SeenContent) (addresses : List ℕ) (p : ℕ) (role 
 fresh_at start now addresses p role sees is none =
     (or_parts (has_address addresses p) (is_seen start p) (sym (sees.seen p (role_of_files start.files p role is)) ∙ none)).1
 
-pub addresses_step : (first next number : ℕ) (start : SeenContent) (role : Role) (whole : List ℕ) (i before : ℕ) (now : SeenContent) (addresses rest : List ℕ) (bound gap : ℕ) (behind : List ℕ) (after : SeenContent) → next ≤ 2 ^ 56 → i < number →
-    AreRead first next number start role whole i before now addresses rest bound → IsPacked rest gap behind → bound ≤ before + gap → before + gap < next → role_in start.files (before + gap) ≡ Some role → is_seen now (before + gap) ≡ false →
-    Sees now after (before + gap) → AreRead first next number start role whole (i + 1) (before + gap) after (addresses ++ (before + gap) ∷ []) behind (before + gap + 1)
-addresses_step first next number start role whole i before now addresses rest bound gap behind after end_le lt read packed from below is none sees =
-    let p = before + gap in
+pub addresses_step : (first next number : ℕ) (start : SeenContent) (role : Role) (whole : List ℕ) (i before : ℕ) (now : SeenContent) (addresses rest : List ℕ) (bound p : ℕ) (behind : List ℕ) (after : SeenContent) → next ≤ 2 ^ 56 → i < number →
+    AreRead first next number start role whole i before now addresses rest bound → IsNextAddress bound next now after role before rest p behind →
+    AreRead first next number start role whole (i + 1) p after (addresses ++ p ∷ []) behind (p + 1)
+addresses_step first next number start role whole i before now addresses rest bound p behind after end_le lt read met =
     let counted = read.counted in
     let low = read.low in
+    let from = met.from in
+    let below = met.below in
     let less : before ≤ bound = bound_from first next number start role whole i before now addresses rest bound read in
-    let apart : p - before ≡ gap = omega arith in
+    let place : role_in start.files p ≡ Some role = ap (λ fs. role_in fs p) (sym read.sees.files) ∙ met.place in
+    let packed : IsPacked rest (p - before) behind = record { small = omega (arith, below, end_le); bytes = met.bytes } in
+    let whole_p : before + (p - before) ≡ p = omega (arith, from, less) in
     record {
       counted = omega (arith, counted, length-append addresses (p ∷ []));
       low = omega (arith, low, from);
@@ -184,20 +202,21 @@ addresses_step first next number start role whole i before now addresses rest bo
       rising = rise_push first bound (p + 1) addresses p read.rising read.low from (omega arith);
       last = last_of-push (first ∷ addresses) p;
       bytes =
-          read.bytes ∙ ap (λ l. packed_from first addresses ++ l) packed.bytes ∙ sym (append_assoc (packed_from first addresses) (spelling gap) behind)
-          ∙ ap (λ n. packed_from first addresses ++ spelling n ++ behind) (sym (ap (λ b. p - b) read.last ∙ apart))
+          read.bytes ∙ ap (λ l. packed_from first addresses ++ l) met.bytes ∙ sym (append_assoc (packed_from first addresses) (spelling (p - before)) behind)
+          ∙ ap (λ b. packed_from first addresses ++ spelling (p - b) ++ behind) (sym read.last)
           ∙ ap (λ l. l ++ behind) (sym (packed_from-push first addresses p));
-      roles = all_push (λ q. role_in start.files q ≡ Some role) addresses p read.roles is;
-      unseen = all_push (λ q. is_seen start q ≡ false) addresses p read.unseen (fresh_at start now addresses p role read.sees is none);
-      sees = sees_push start now after addresses p read.sees sees;
+      roles = all_push (λ q. role_in start.files q ≡ Some role) addresses p read.roles place;
+      unseen = all_push (λ q. is_seen start q ≡ false) addresses p read.unseen (fresh_at start now addresses p role read.sees place met.fresh);
+      sees = sees_push start now after addresses p read.sees met.sees;
       track = λ all end image.
           let has = has_next_address first next number start role whole i before now addresses rest bound lt read all end image in
-          let same = next_is bound next start role before addresses rest all end has.0 has.1 gap behind end_le less has.2 packed in (
+          let cut = same_next before bound next (p - before) rest behind has.0 (packed_from has.0 has.1 ++ end) end_le less packed has.2.from has.2.below has.2.bytes in
+          let same : p ≡ has.0 = sym whole_p ∙ cut.0 in (
             has.1,
             record {
-              whole = has.2.whole ∙ ap (λ q. addresses ++ (q ∷ has.1)) (sym same.0) ∙ sym (append_assoc addresses (p ∷ []) has.1);
-              bytes = same.1 ∙ ap (λ q. packed_from q has.1 ++ end) (sym same.0);
-              rising = subst (λ q. RiseWithin (q + 1) next has.1) (sym same.0) has.2.rising;
+              whole = has.2.whole ∙ ap (λ q. addresses ++ (q ∷ has.1)) (sym same) ∙ sym (append_assoc addresses (p ∷ []) has.1);
+              bytes = cut.1 ∙ ap (λ q. packed_from q has.1 ++ end) (sym same);
+              rising = subst (λ q. RiseWithin (q + 1) next has.1) (sym same) has.2.rising;
               roles = has.2.roles;
               unseen = has.2.unseen;
             },
@@ -208,34 +227,16 @@ addresses_step first next number start role whole i before now addresses rest bo
 abbrev pub HaveNone : (first next number : ℕ) → SeenContent → Role → List ℕ → Type 0
 HaveNone first next number start role whole = (all end : List ℕ) → AreAllAddresses first next number start role whole all end → ⊥
 
-pub addresses_stop : (first next number : ℕ) (start : SeenContent) (role : Role) (whole : List ℕ) (i before : ℕ) (now : SeenContent) (addresses rest : List ℕ) (bound : ℕ) → next ≤ 2 ^ 56 → i < number →
-    AreRead first next number start role whole i before now addresses rest bound → HasNoPacked rest → HaveNone first next number start role whole
-addresses_stop first next number start role whole i before now addresses rest bound end_le lt read none all end is =
+pub addresses_stop : (first next number : ℕ) (start : SeenContent) (role : Role) (whole : List ℕ) (i before : ℕ) (now : SeenContent) (addresses rest : List ℕ) (bound : ℕ) → i < number →
+    AreRead first next number start role whole i before now addresses rest bound → HasNoNextAddress bound next now role before rest → HaveNone first next number start role whole
+addresses_stop first next number start role whole i before now addresses rest bound lt read none all end is =
     let has = has_next_address first next number start role whole i before now addresses rest bound lt read all end is in
-    let below = has.2.below in
-    none (has.0 - before) (packed_from has.0 has.1 ++ end) (omega (arith, below, end_le)) has.2.bytes
-
-pub addresses_beyond : (first next number : ℕ) (start : SeenContent) (role : Role) (whole : List ℕ) (i before : ℕ) (now : SeenContent) (addresses rest : List ℕ) (bound gap : ℕ) (behind : List ℕ) → next ≤ 2 ^ 56 → i < number →
-    AreRead first next number start role whole i before now addresses rest bound → IsPacked rest gap behind → (bound ≤ before + gap → before + gap < next → ⊥) → HaveNone first next number start role whole
-addresses_beyond first next number start role whole i before now addresses rest bound gap behind end_le lt read packed none all end is =
-    let has = has_next_address first next number start role whole i before now addresses rest bound lt read all end is in
-    let less = bound_from first next number start role whole i before now addresses rest bound read in
-    let same = (next_is bound next start role before addresses rest all end has.0 has.1 gap behind end_le less has.2 packed).0 in
-    none (subst (λ q. bound ≤ q) (sym same) has.2.from) (subst (λ q. q < next) (sym same) has.2.below)
-
-pub addresses_refuse : (first next number : ℕ) (start : SeenContent) (role : Role) (whole : List ℕ) (i before : ℕ) (now : SeenContent) (addresses rest : List ℕ) (bound gap : ℕ) (behind : List ℕ) → next ≤ 2 ^ 56 → i < number →
-    AreRead first next number start role whole i before now addresses rest bound → IsPacked rest gap behind → (role_in start.files (before + gap) ≡ Some role → is_seen now (before + gap) ≡ true) → HaveNone first next number start role whole
-addresses_refuse first next number start role whole i before now addresses rest bound gap behind end_le lt read packed none all end is =
-    let has = has_next_address first next number start role whole i before now addresses rest bound lt read all end is in
-    let less = bound_from first next number start role whole i before now addresses rest bound read in
-    let same = (next_is bound next start role before addresses rest all end has.0 has.1 gap behind end_le less has.2 packed).0 in
     let p = has.0 in
     let role_is = has.2.role_is in
-    let seen : is_seen now p ≡ true = subst (λ q. role_in start.files q ≡ Some role → is_seen now q ≡ true) same none role_is in
     let lacks : has_address addresses p ≡ false = lacks_later first bound addresses p read.rising has.2.from in
     let was : is_seen now p ≡ (has_address addresses p || is_seen start p) = read.sees.seen p (role_of_files start.files p role role_is) in
-    let none : is_seen now p ≡ false = was ∙ ap (λ b. b || is_seen start p) lacks ∙ has.2.fresh in
-    true≢false (sym seen ∙ none)
+    let fresh : is_seen now p ≡ false = was ∙ ap (λ b. b || is_seen start p) lacks ∙ has.2.fresh in
+    none p (packed_from p has.1 ++ end) has.2.from has.2.below (ap (λ fs. role_in fs p) read.sees.files ∙ role_is) fresh has.2.bytes
 
 -- the number of the addresses that stand there is one
 count_same : (format : Format) (whole : List ℕ) (n m : ℕ) (r s : List ℕ) → IsCountFront format whole n r → IsCountFront format whole m s → (n ≡ m) × (r ≡ s)
@@ -284,19 +285,24 @@ addresses_end format first next start role whole number behind i before now addr
       bytes = count.bytes ∙ ap (λ l. count_bytes format number ++ l) read.bytes ∙ ap (λ n. count_bytes format n ++ (packed_from first addresses ++ rest)) (sym counted);
     }
 
-pub address_small : (first next number : ℕ) (start : SeenContent) (role : Role) (whole : List ℕ) (i before : ℕ) (now : SeenContent) (addresses rest : List ℕ) (bound : ℕ) → AreRead first next number start role whole i before now addresses rest bound → before ≤ next
-address_small first next number start role whole i before now addresses rest bound read =
-    let less = bound_from first next number start role whole i before now addresses rest bound read in
-    let high = read.high in
-    omega (arith, less, high)
-
 pub address_rises : (first next number : ℕ) (start : SeenContent) (role : Role) (whole : List ℕ) (i before : ℕ) (now : SeenContent) (addresses rest : List ℕ) (bound p : ℕ) → next ≤ 2 ^ 56 → AreRead first next number start role whole i before now addresses rest bound →
     bound ≤ p → p < next → ArePostings (addresses ++ p ∷ [])
 address_rises first next number start role whole i before now addresses rest bound p le read from below =
     rise_wider first 0 (2 ^ 56) (2 ^ 56) (addresses ++ p ∷ []) (rise_push first bound (2 ^ 56) addresses p read.rising read.low from (omega (arith, below, le))) (omega arith) (le_refl (2 ^ 56))
 
--- the same under another name of the list
-pub addresses_as : (first next number : ℕ) (start : SeenContent) (role : Role) (whole : List ℕ) (i before : ℕ) (now : SeenContent) (addresses more rest : List ℕ) (bound : ℕ) → AreRead first next number start role whole i before now addresses rest bound →
-    more ≡ addresses → AreRead first next number start role whole i before now more rest bound
-addresses_as first next number start role whole i before now addresses more rest bound read same =
-    subst (λ l. AreRead first next number start role whole i before now l rest bound) (sym same) read
+last_some : (first : ℕ) (ps : List ℕ) → 0 < length ps → last_of (first ∷ ps) ≡ last_of ps
+last_some first [] some = absurd (omega (arith, some))
+last_some first (p ∷ ps) some = refl
+
+-- the last address that was read is the one before
+pub last_read : (first next number : ℕ) (start : SeenContent) (role : Role) (whole : List ℕ) (i before : ℕ) (now : SeenContent) (addresses rest : List ℕ) (bound : ℕ) → 0 < i → AreRead first next number start role whole i before now addresses rest bound →
+    last_of addresses ≡ before
+last_read first next number start role whole i before now addresses rest bound some read =
+    let counted = read.counted in
+    sym (last_some first addresses (omega (arith, counted, some))) ∙ read.last
+
+-- the same under other names of the list and of what comes after it
+pub addresses_as : (first next number : ℕ) (start : SeenContent) (role : Role) (whole : List ℕ) (i before : ℕ) (now : SeenContent) (addresses more rest behind : List ℕ) (bound : ℕ) → AreRead first next number start role whole i before now addresses rest bound →
+    more ≡ addresses → behind ≡ rest → AreRead first next number start role whole i before now more behind bound
+addresses_as first next number start role whole i before now addresses more rest behind bound read same left =
+    subst (λ l. AreRead first next number start role whole i before now l behind bound) (sym same) (subst (λ r. AreRead first next number start role whole i before now addresses r bound) (sym left) read)

@@ -5,6 +5,7 @@ pub mod TermTracking
 pub mod Candidates
 pub mod Made
 pub mod PlaceLemmas
+pub mod StretchLemmas
 pub mod MarkLemmas
 pub mod Spans
 pub mod Spelled

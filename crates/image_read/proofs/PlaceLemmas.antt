@@ -1,16 +1,15 @@
 -- Each address of some files has a rank of its own.
-use Rattle.std.proofs.Common.{◌≡◌, ℕ, zero, suc, ◌+◌, ◌-◌, ◌<◌, ◌≤◌, Bool, true, false, ◌||◌, eqb, List, [], ◌∷◌, ◌++◌, length, take, get_or, set, Some, None, inl, inr, refl, sym, ap, ◌∙◌, subst, arith, length-append, le_refl}
+use Rattle.std.proofs.Common.{◌≡◌, ℕ, zero, suc, ◌+◌, ◌-◌, ◌<◌, ◌≤◌, Bool, true, false, ◌||◌, eqb, List, [], ◌∷◌, length, take, get_or, set, Some, None, inl, inr, refl, sym, ap, ◌∙◌, subst, arith, le_refl}
 use Rattle.std.specs.List.{AllByRecursion, prefix_len}
 use Rattle.std.specs.List.Sorted.{IsNonDecreasingBy}
 use Rattle.std.proofs.lemmas.Bool.{cases_Bool, cases_lt, or_cases, or_left, or_right, eqb-true, eqb-false, leb-true, leb-false, le-leb, lt-leb}
-use Rattle.std.proofs.lemmas.Grind.{get_or_default_zero}
-use Rattle.std.proofs.lemmas.List.{get_or-append_right, get_or-set_other, get_or-set_same, get_or_append_left}
+use Rattle.std.proofs.lemmas.List.{get_or-set_other, get_or-set_same}
 use Rattle.std.proofs.lemmas.List.Sums.{prefix_len_stops}
 use Rattle.address_space.specs.Runs.{FileEntry, IsFileRun, Precedes}
 use Rattle.live_version.specs.Contents.{is_of_file, is_of_files}
 use Rattle.live_version.proofs.ChangeFiles.{is_of_file-inside, is_of_file-behind, is_of_file-bounds, is_of_file-before}
 use Rattle.image_read.specs.declared.places.Role.{Role}
-use Rattle.image_read.specs.Reading.{IsPlaces, IsRankOf, SeenContent, Sees, ends_by, rank, role_in, role_of_file, widths}
+use Rattle.image_read.specs.Reading.{IsRankOf, Sees, ends_by, rank, role_in, role_of_file, widths}
 use Rattle.image_read.proofs.AddressTracking.{role_of_files}
 use Rattle.image_read.proofs.Candidates.{role_here, role_later}
 
@@ -133,13 +132,6 @@ first_left files p i e at lt here =
       until = leb-false (e.base + e.len) p on;
     }
 
--- what a look-up in the files of some content met
-pub met : (s : SeenContent) (files : List FileEntry) (p i : ℕ) (e item : FileEntry) → files ≡ s.files → i ≡ prefix_len (ends_by p) s.files → i ≤ length s.files → (i ≡ length files → ⊥) → item ≡ get_or files i item → e ≡ get_or files i item → IsFirstLeft files p i e
-met s files p i e item same at within some here is =
-    let long : length files ≡ length s.files = ap length same in
-    let equal : e ≡ item = is ∙ sym here in
-    first_left files p i e (at ∙ ap (prefix_len (ends_by p)) (sym same)) (omega (arith, within, some, long)) (subst (λ (f : FileEntry). f ≡ get_or files i f) (sym equal) here)
-
 pub left_of : (files : List FileEntry) (p i : ℕ) (e : FileEntry) → IsFirstLeft files p i e → e.base ≤ p → is_of_file p e ≡ true
 left_of files p i e left le = is_of_file-inside p e le left.until
 
@@ -147,24 +139,6 @@ pub left_rank : (files : List FileEntry) (p i : ℕ) (e : FileEntry) → IsFirst
 left_rank files p i e left le =
     let of : is_of_file p (get_or files i e) ≡ true = ap (is_of_file p) (sym left.here) ∙ left_of files p i e left le in
     sym (rank-at files i p e left.within left.before of ∙ ap (λ (f : FileEntry). widths (take i files) + (p - f.base)) (sym left.here))
-
--- the rank is what stands before the file, and the place in it
-pub ranked : (files : List FileEntry) (before : List ℕ) (seen : List Bool) (p i : ℕ) (e : FileEntry) (n base : ℕ) → IsPlaces files before seen → IsFirstLeft files p i e → base ≡ e.base → base ≤ p → n ≡ get_or before i n → n + (p - base) ≡ rank files p
-ranked files before seen p i e n base is left same le read =
-    let within = left.within in
-    let counted = is.counted in
-    let at : n ≡ widths (take i files) = read ∙ get_or_default_zero before i n (omega (arith, within, counted)) ∙ is.each i left.within in
-    let rank : widths (take i files) + (p - e.base) ≡ rank files p = left_rank files p i e left (omega (arith, le, same)) in
-    omega (arith, at, rank, same)
-
-pub ranked_small : (files : List FileEntry) (before : List ℕ) (seen : List Bool) (p i : ℕ) (e : FileEntry) (n base : ℕ) → IsPlaces files before seen → IsFirstLeft files p i e → base ≡ e.base → base ≤ p → n ≡ get_or before i n → n + (p - base) < length seen
-ranked_small files before seen p i e n base is left same le read =
-    let at = ranked files before seen p i e n base is left same le read in
-    let within = left.within in
-    let of : is_of_file p (get_or files i e) ≡ true = ap (is_of_file p) (sym left.here) ∙ left_of files p i e left (omega (arith, le, same)) in
-    let small = rank-small files p (of_files_at files i p e left.within of) in
-    let marks = is.marks in
-    omega (arith, at, small, marks)
 
 pub left_role : (files : List FileEntry) (p i : ℕ) (e : FileEntry) → IsFirstLeft files p i e → e.base ≤ p → role_in files p ≡ Some (role_of_file p e)
 left_role files p i e left le =
@@ -236,14 +210,7 @@ full_from files seen run marks full i lt =
 pub full_at : (files : List FileEntry) (seen : List Bool) → length seen ≡ widths files → ((i : ℕ) → i < length seen → get_or seen i false ≡ true) → (p : ℕ) → is_of_files files p ≡ true → get_or seen (rank files p) false ≡ true
 full_at files seen marks all p of = let small = rank-small files p of in all (rank files p) (omega (arith, small, marks))
 
--- so many files were gone through: before each stand the addresses of those before it, and there are not too many
-pub record AreCounted (files : List FileEntry) (i : ℕ) (before : List ℕ) (total most : ℕ) : Type 0 where
-  pub each : (j : ℕ) → j < i → get_or before j 0 ≡ widths (take j files)
-  pub counted : length before ≡ i
-  pub sum : total ≡ widths (take i files)
-  pub few : total ≤ most
-
-widths_more : (files : List FileEntry) (i : ℕ) (d : FileEntry) → i < length files → widths (take (i + 1) files) ≡ widths (take i files) + (get_or files i d).len
+pub widths_more : (files : List FileEntry) (i : ℕ) (d : FileEntry) → i < length files → widths (take (i + 1) files) ≡ widths (take i files) + (get_or files i d).len
 widths_more [] i d lt = absurd (omega arith)
 widths_more (file ∷ files) zero d lt = omega arith
 widths_more (file ∷ files) (suc i) d lt =
@@ -251,40 +218,11 @@ widths_more (file ∷ files) (suc i) d lt =
     let next : suc i + 1 ≡ suc (i + 1) = omega arith in
     ap (λ n. widths (take n (file ∷ files))) next ∙ omega (arith, rest)
 
-widths_take : (files : List FileEntry) (n : ℕ) → widths (take n files) ≤ widths files
+pub widths_take : (files : List FileEntry) (n : ℕ) → widths (take n files) ≤ widths files
 widths_take [] zero = omega arith
 widths_take [] (suc n) = omega arith
 widths_take (file ∷ files) zero = omega arith
 widths_take (file ∷ files) (suc n) = let rest = widths_take files n in omega (arith, rest)
-
--- one file more
-pub counted_step : (files : List FileEntry) (i : ℕ) (before more : List ℕ) (total most len : ℕ) (e : FileEntry) → AreCounted files i before total most → i < length files → e ≡ get_or files i e → len ≡ e.len → len ≤ most - total → more ≡ before ++ total ∷ [] →
-    AreCounted files (i + 1) more (total + len) most
-counted_step files i before more total most len e are lt here same fits pushed =
-    let counted = are.counted in
-    let sum = are.sum in
-    let few = are.few in
-    let wide : widths (take (i + 1) files) ≡ widths (take i files) + e.len = widths_more files i e lt ∙ ap (λ (f : FileEntry). widths (take i files) + f.len) (sym here) in
-    record {
-      each = λ j less. ap (λ l. get_or l j 0) pushed ∙ (elim (cases_lt j i) [
-        | inl h ↦ get_or_append_left before (total ∷ []) 0 j (omega (arith, h, counted)) ∙ are.each j h
-        | inr h ↦
-            let last : j ≡ i = omega (arith, h, less) in
-            let none : j - i ≡ 0 = omega (arith, h, less) in
-            get_or-append_right before (total ∷ []) i j 0 counted h ∙ ap (λ n. get_or (total ∷ []) n 0) none ∙ sum ∙ ap (λ n. widths (take n files)) (sym last)
-      ]);
-      counted = ap length pushed ∙ omega (arith, counted, length-append before (total ∷ []));
-      sum = omega (arith, wide, sum, same);
-      few = omega (arith, fits, few);
-    }
-
-pub counted_full : (files : List FileEntry) (i : ℕ) (before : List ℕ) (total most len : ℕ) (e : FileEntry) → AreCounted files i before total most → i < length files → e ≡ get_or files i e → len ≡ e.len → most - total < len → most < widths files
-counted_full files i before total most len e are lt here same more =
-    let sum = are.sum in
-    let few = are.few in
-    let wide : widths (take (i + 1) files) ≡ widths (take i files) + e.len = widths_more files i e lt ∙ ap (λ (f : FileEntry). widths (take i files) + f.len) (sym here) in
-    let part = widths_take files (i + 1) in
-    omega (arith, wide, part, sum, few, same, more)
 
 -- a marked rank is a mark for the address alone
 pub sees_marked : (files : List FileEntry) (seen : List Bool) (p at : ℕ) (role : Role) → IsRankOf files seen p role at → Sees (record { files = files; seen = seen }) (record { files = files; seen = set seen at true }) p

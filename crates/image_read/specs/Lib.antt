@@ -1,4 +1,5 @@
 pub mod Reading
+pub mod Stretches
 pub mod Tables
 pub mod Fronts
 pub mod Answers

@@ -1,5 +1,5 @@
 -- How an image is gone through, for this crate alone.
-use Rattle.std.specs.Prelude.{◌≡◌, ℕ, ◌+◌, ◌-◌, ◌*◌, ◌^◌, ◌<◌, ◌≤◌, Bool, true, false, ◌||◌, ◌==◌, bytes_eq, nat_le, List, [], ◌∷◌, ◌++◌, length, flat_map, find, get_or, take, Option, Some, if◌then◌else◌}
+use Rattle.std.specs.Prelude.{◌≡◌, ℕ, ◌+◌, ◌-◌, ◌*◌, ◌^◌, ◌<◌, ◌≤◌, Bool, true, false, ◌||◌, ◌==◌, bytes_eq, nat_le, List, [], ◌∷◌, ◌++◌, length, flat_map, find, get_or, Option, Some, if◌then◌else◌}
 use Rattle.std.specs.List.{AllByRecursion, list_any}
 use Rattle.std.specs.Option.{option_map}
 use Rattle.gcl_model.specs.Collections.{FitsHole, IsToken, file_start, file_end}
@@ -18,6 +18,8 @@ use Rattle.image_file.specs.Images.{end_of, most_term, TermsRise}
 use Rattle.image_file.specs.Written.{FitsLong, FitsShort}
 use Rattle.image_read.specs.declared.places.Role.{Role}
 use Rattle.image_read.specs.declared.places.Role.TheVariants.{Start, Inner, End}
+use Rattle.image_read.specs.declared.places.Stretch.{Stretch}
+use Rattle.image_read.specs.Stretches.{stretches_from}
 
 -- bytes begin with so many bytes
 pub record IsText (len : ℕ) (whole text rest : List ℕ) : Type 0 where
@@ -211,13 +213,22 @@ pub record IsRankOf (files : List FileEntry) (seen : List Bool) (p : ℕ) (role 
   pub ranked : at ≡ rank files p
   pub marked : at < length seen
 
--- before each file stand the addresses of those before it, and there is a mark for each address, of which there are no more than a number says
-pub record IsPlaces (files : List FileEntry) (before : List ℕ) (seen : List Bool) : Type 0 where
+-- the address is one of a token in the files, and so many addresses of them come before it
+pub record IsTokenAt (files : List FileEntry) (p at : ℕ) : Type 0 where
+  pub token : role_in files p ≡ Some Inner
+  pub ranked : at ≡ rank files p
+
+-- between the ends of the stretch stand tokens of the files
+abbrev pub IsNear : List FileEntry → Stretch → Type 0
+IsNear files near = (p : ℕ) → near.first < p → p < near.last → IsTokenAt files p (near.before + (p - near.first))
+
+-- the stretches are those of the files, there is a mark for each address, of which there are no more than a number says, and one stretch is near
+pub record IsPlaces (files : List FileEntry) (stretches : List Stretch) (seen : List Bool) (near : Stretch) : Type 0 where
   pub run : IsFileRun files
-  pub each : (i : ℕ) → i < length files → get_or before i 0 ≡ widths (take i files)
-  pub counted : length before ≡ length files
+  pub each : stretches ≡ stretches_from 0 files
   pub marks : length seen ≡ widths files
   pub small : widths files < 2 ^ 64
+  pub tokens : IsNear files near
 
 -- whether a word was seen at an address of the files
 abbrev pub is_seen : SeenContent → ℕ → Bool
@@ -227,6 +238,19 @@ is_seen places p = get_or places.seen (rank places.files p) false
 pub record Sees (before after : SeenContent) (address : ℕ) : Type 0 where
   pub files : after.files ≡ before.files
   pub seen : (q : ℕ) → is_of_files before.files q ≡ true → is_seen after q ≡ ((q == address) || is_seen before q)
+
+-- the bytes begin with the difference of an address of a role from the one before: no word was seen there, and now one is
+pub record IsNextAddress (bound next : ℕ) (start now : SeenContent) (role : Role) (before : ℕ) (whole : List ℕ) (p : ℕ) (rest : List ℕ) : Type 0 where
+  pub from : bound ≤ p
+  pub below : p < next
+  pub place : role_in start.files p ≡ Some role
+  pub fresh : is_seen start p ≡ false
+  pub sees : Sees start now p
+  pub bytes : whole ≡ spelling (p - before) ++ rest
+
+-- the bytes begin with no such difference
+abbrev pub HasNoNextAddress : (bound next : ℕ) → SeenContent → Role → ℕ → List ℕ → Type 0
+HasNoNextAddress bound next start role before whole = (p : ℕ) (rest : List ℕ) → bound ≤ p → p < next → role_in start.files p ≡ Some role → is_seen start p ≡ false → whole ≡ spelling (p - before) ++ rest → ⊥
 
 -- the bytes begin with the addresses of a role, of which no word was seen yet
 pub record IsAddressesFront (format : Format) (first next : ℕ) (places : SeenContent) (role : Role) (whole : List ℕ) (addresses rest : List ℕ) : Type 0 where

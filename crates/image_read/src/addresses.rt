@@ -1,32 +1,25 @@
 ghost use Rattle.std.specs.Prelude.{◌≡◌, ◌≤◌, IfOk, IfSome, IsNone};
 ghost use Rattle.gcl_model.specs.Limits.{address_end};
-ghost use Rattle.image_read.specs.Reading.{HasNoAddresses, HasNoCount, IsAddressesFront, IsCountFront, SeesAll};
+ghost use Rattle.image_read.specs.Reading.{HasNoAddresses, HasNoCount, HasNoNextAddress, IsAddressesFront, IsCountFront, IsNextAddress, SeesAll};
 
 use crate::front::{NumberFront, eight_in_front, packed_in_front};
 use crate::head::Head;
 use crate::places::{Places, Role};
 use image_file::Format;
-use posting_code::{PostingList, PostingMaker};
+use posting_code::PackedMaker;
 use std::alloc::{AllocError, Global};
 
-/// The addresses of a term at the front of some bytes, and what comes after them.
-#[derive(Drop)]
-pub(crate) struct AddressesFront<'a> {
-    pub(crate) list: PostingList,
-    pub(crate) rest: &'a [u8],
-}
-
-/// The addresses of a term, which are seen.
+/// The addresses of a term, which are seen. What comes after them is the rest behind the list.
 pub(crate) fn read_addresses<'a>(
     alloc: Global,
     head: Head,
     places: &mut Places<'_>,
     role: Role,
     bytes: &'a [u8],
-) -> Result<Option<AddressesFront<'a>>, AllocError>
+) -> Result<Option<PackedMaker<'a>>, AllocError>
     requires ordered { head.first ≤ head.next }
     requires in_range { head.next ≤ address_end }
-    ensures some { IfOk result (λ found. IfSome found (λ f. IsAddressesFront head.format head.first head.next places.old role bytes.now f.list f.rest.now)) }
+    ensures some { IfOk result (λ found. IfSome found (λ f. IsAddressesFront head.format head.first head.next places.old role bytes.now f.list f.rest)) }
     ensures files { IfOk result (λ found. places.new.files ≡ places.old.files) }
     ensures sees { IfOk result (λ found. IfSome found (λ f. SeesAll places.old places.new f.list)) }
     ensures none { IfOk result (λ found. IsNone found → HasNoAddresses head.format head.first head.next places.old role bytes.now) }
@@ -34,27 +27,54 @@ pub(crate) fn read_addresses<'a>(
     let Some(count) = count_in_front(head.format, bytes) else {
         return Ok(None);
     };
-    let mut list = PostingMaker::new(alloc);
-    let mut before = head.first;
-    let mut least = head.first;
-    let mut rest = count.rest;
-    for i in 0..count.value {
-        let Some(gap) = packed_in_front(rest) else {
+    let Some(first) = next_address(head, places, role, head.first, head.first, count.rest) else {
+        return Ok(None);
+    };
+    let mut list = PackedMaker::new(alloc, first.address, first.rest);
+    let mut before = first.address;
+    for i in 1..count.value {
+        let Some(next) = next_address(head, places, role, before, before + 1, list.rest()) else {
             return Ok(None);
         };
-        let address = before + gap.value;
-        if address < least || head.next <= address || !places.see(address, role) {
-            return Ok(None);
-        }
-        list.push(address)?;
-        before = address;
-        least = address + 1;
-        rest = gap.rest;
+        list.pass(next.address, next.rest)?;
+        before = next.address;
     }
-    Ok(Some(AddressesFront {
-        list: list.finish(),
-        rest,
-    }))
+    Ok(Some(list))
+}
+
+/// An address at the front of some bytes, and what comes after it.
+#[derive(Clone, Copy)]
+struct AddressFront<'a> {
+    address: u64,
+    rest: &'a [u8],
+}
+
+/// The next address of a term, which is seen: it is at least `least`, and the bytes have its difference from the one before.
+#[inline(always)]
+fn next_address<'a>(
+    head: Head,
+    places: &mut Places<'_>,
+    role: Role,
+    before: u64,
+    least: u64,
+    bytes: &'a [u8],
+) -> Option<AddressFront<'a>>
+    requires after { before ≤ least }
+    requires within { least ≤ head.next }
+    requires in_range { head.next ≤ address_end }
+    ensures some { IfSome result (λ f. IsNextAddress least head.next places.old places.new role before bytes.now f.address f.rest.now) }
+    ensures none { IsNone result → HasNoNextAddress least head.next places.old role before bytes.now }
+    ensures files { places.new.files ≡ places.old.files }
+{
+    let gap = packed_in_front(bytes)?;
+    let address = before + gap.value;
+    if address < least || head.next <= address || !places.see(address, role) {
+        return None;
+    }
+    Some(AddressFront {
+        address,
+        rest: gap.rest,
+    })
 }
 
 /// How many addresses a term has, which is at least one.

@@ -55,7 +55,34 @@ pub(crate) fn four_in_front(bytes: &[u8]) -> Option<NumberFront<'_>>
 }
 
 /// A packed number.
+// Most have one byte or two, and are read without a call.
+#[inline(always)]
 pub(crate) fn packed_in_front(bytes: &[u8]) -> Option<NumberFront<'_>>
+    ensures some { IfSome result (λ f. IsPacked bytes.now f.value f.rest.now) }
+    ensures none { IsNone result → HasNoPacked bytes.now }
+{
+    if let [byte, rest @ ..] = bytes {
+        if *byte < 128 {
+            return Some(NumberFront {
+                value: *byte as u64,
+                rest,
+            });
+        }
+    }
+    if let [low, high, rest @ ..] = bytes {
+        if 128 <= *low && 0 < *high && *high < 128 {
+            return Some(NumberFront {
+                value: (*low - 128) as u64 + 128 * *high as u64,
+                rest,
+            });
+        }
+    }
+    longer_in_front(bytes)
+}
+
+/// A packed number of any length.
+#[inline(never)]
+fn longer_in_front(bytes: &[u8]) -> Option<NumberFront<'_>>
     ensures some { IfSome result (λ f. IsPacked bytes.now f.value f.rest.now) }
     ensures none { IsNone result → HasNoPacked bytes.now }
 {

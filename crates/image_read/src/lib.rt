@@ -15,6 +15,7 @@ mod addresses;
 mod fault;
 mod files;
 mod front;
+mod guesses;
 mod head;
 mod marks;
 mod places;

@@ -1,4 +1,5 @@
-ghost use Rattle.std.specs.Prelude.{◌≡◌, ◌<◌, ◌↔◌, ℕ, true, false, length, get_or, set, replicate, IfOk, IsTrue};
+ghost use Rattle.std.specs.Prelude.{◌≡◌, ◌*◌, ◌<◌, ◌≤◌, ◌↔◌, ℕ, true, false, length, get_or, set, replicate, IfOk, IsTrue};
+ghost use Rattle.image_read.specs.Bits.{bit_of};
 
 use std::alloc::{AllocError, Global};
 use std::marker::Model;
@@ -33,6 +34,7 @@ impl Marks {
     }
 
     /// Whether a mark is set.
+    #[inline(always)]
     pub(crate) fn is_marked(&self, at: usize) -> bool
         requires { at < length self.now }
         ensures { result ≡ get_or self.now at false }
@@ -41,6 +43,7 @@ impl Marks {
     }
 
     /// Sets a mark.
+    #[inline(always)]
     pub(crate) fn mark(&mut self, at: usize)
         requires { at < length self.old }
         ensures { self.new ≡ set self.old at true }
@@ -52,11 +55,34 @@ impl Marks {
     pub(crate) fn all_marked(&self) -> bool
         ensures { IsTrue result ↔ ((i : ℕ) → i < length self.now → get_or self.now i false ≡ true) }
     {
-        for i in 0..self.count {
+        let whole = self.count / 64;
+        if !are_full(&self.words[..whole]) {
+            return false;
+        }
+        self.marked_from(64 * whole)
+    }
+
+    /// Whether the marks from a place on are set.
+    fn marked_from(&self, at: usize) -> bool
+        ensures { IsTrue result ↔ ((i : ℕ) → at ≤ i → i < length self.now → get_or self.now i false ≡ true) }
+    {
+        for i in at..self.count {
             if !self.is_marked(i) {
                 return false;
             }
         }
         true
     }
+}
+
+/// Whether each bit of some words is set.
+fn are_full(words: &[u64]) -> bool
+    ensures { IsTrue result ↔ ((i : ℕ) → i < 64 * length words.now → bit_of words.now i ≡ true) }
+{
+    for word in words {
+        if *word != u64::MAX {
+            return false;
+        }
+    }
+    true
 }

@@ -1,9 +1,12 @@
-ghost use Rattle.std.specs.Prelude.{◌≡◌, ◌≤◌, ◌<◌, ◌↔◌, ℕ, true, false, length, Some, IfOk, IfSome, IsNone, IsTrue, IsFalse};
+ghost use Rattle.std.specs.Prelude.{◌≡◌, ◌+◌, ◌≤◌, ◌<◌, ◌↔◌, ℕ, true, false, length, Some, IfOk, IfSome, IsNone, IsTrue, IsFalse};
 ghost use Rattle.std.specs.List.{prefix_len};
-ghost use Rattle.live_version.specs.Contents.{is_of_file, is_of_files};
-ghost use Rattle.address_space.specs.Runs.{FileEntry, IsFileRun, IsPlaced};
-ghost use Rattle.image_read.specs.Reading.{IsRankOf, Sees, ends_by, is_seen, role_in, role_of_file, widths};
+ghost use Rattle.live_version.specs.Contents.{is_of_files};
+ghost use Rattle.address_space.specs.Runs.{IsFileRun, IsPlaced};
+ghost use Rattle.image_read.specs.Reading.{IsRankOf, Sees, is_seen, role_in, widths};
+ghost use Rattle.image_read.specs.declared.places.Role.TheVariants.{Inner};
+ghost use Rattle.image_read.specs.Stretches.{AreInRow, ends_before, role_of_stretch, stretch_of};
 
+use crate::guesses::Guesses;
 use crate::marks::Marks;
 use address_space::{FileRecord, SharedRecord};
 use std::alloc::{AllocError, Global};
@@ -20,27 +23,35 @@ pub(crate) enum Role {
     End,
 }
 
+/// Where a file lies, and how many addresses the files before it have.
+#[derive(Clone, Copy, Drop)]
+pub(crate) struct Stretch {
+    pub(crate) first: u64,
+    pub(crate) last: u64,
+    before: usize,
+}
+
 /// The addresses of all files, and at which of them a word was seen.
+// Most addresses of a term are in the file of the one before, which is kept apart. The others are looked for among the stretches.
 #[derive(Drop)]
 pub(crate) struct Places<'a> {
     files: &'a [SharedRecord],
-    // how many addresses the files before each one have
-    before: Vec<usize>,
+    stretches: Vec<Stretch>,
+    guesses: Guesses,
     seen: Marks,
-    // The file of the address that was seen last. The next one is nearly always in it or in the one after it.
-    near: usize,
+    // the file of the address that was seen last, and its place
+    near: Stretch,
+    place: usize,
 }
 
 impl<'a> Model for Places<'a> {
-    ghost use Rattle.std.specs.Prelude.{◌≡◌};
-    ghost use Rattle.address_space.specs.Runs.{IsFileRun};
     ghost use Rattle.image_read.specs.Reading.{IsPlaces, SeenContent};
 
     ghost Value = { SeenContent };
 
     ghost view = { λ p. record { files = p.files.now; seen = p.seen } };
 
-    ghost invariant = { λ p. IsPlaces p.files.now p.before.items p.seen };
+    ghost invariant = { λ p. IsPlaces p.files.now p.stretches.items p.seen p.near };
 }
 
 impl<'a> Places<'a> {
@@ -55,25 +66,29 @@ impl<'a> Places<'a> {
         ensures seen { IfOk result (λ found. IfSome found (λ places. (p : ℕ) → is_seen places p ≡ false)) }
         ensures none { IfOk result (λ found. IsNone found → most < widths files.now) }
     {
-        let mut before = Vec::new(alloc);
+        let mut stretches = Vec::with_capacity(alloc, files.len())?;
         let mut total = 0;
         for file in files {
-            let len = file.record().len;
-            before.push(total)?;
-            if ((most - total) as u64) < len {
+            let file = file.record();
+            if ((most - total) as u64) < file.len {
                 return Ok(None);
             }
-            total += len as usize;
+            stretches.push(stretch_of(file, total))?;
+            total += file.len as usize;
         }
+        let guesses = Guesses::new(alloc, &stretches)?;
         Ok(Some(Places {
             files,
-            before,
+            stretches,
+            guesses,
             seen: Marks::new(alloc, total)?,
-            near: 0,
+            near: NOWHERE,
+            place: 0,
         }))
     }
 
     /// Sees a word with this role at an address. False where no file has the address, it has another role, or a word was seen there.
+    #[inline(always)]
     pub(crate) fn see(&mut self, address: u64, role: Role) -> bool
         ensures may { IsTrue result → role_in self.old.files address ≡ Some role }
         ensures fresh { IsTrue result → is_seen self.old address ≡ false }
@@ -81,11 +96,9 @@ impl<'a> Places<'a> {
         ensures refused { IsFalse result → role_in self.old.files address ≡ Some role → is_seen self.old address ≡ true }
         ensures files { self.new.files ≡ self.old.files }
     {
-        let i = self.ended_by(address);
-        let Some(at) = self.rank_in(i, address, role) else {
+        let Some(at) = self.rank_of(address, role) else {
             return false;
         };
-        self.near = i;
         if self.seen.is_marked(at) {
             return false;
         }
@@ -93,36 +106,39 @@ impl<'a> Places<'a> {
         true
     }
 
-    /// How many addresses of the files come before one of this role, where `i` files end by it. None where the address has not this role.
-    fn rank_in(&self, i: usize, address: u64, role: Role) -> Option<usize>
-        requires ended { i ≡ prefix_len (ends_by address) self.now.files }
-        requires within { i ≤ length self.now.files }
-        ensures some { IfSome result (λ at. IsRankOf self.now.files self.now.seen address role at) }
-        ensures none { IsNone result → role_in self.now.files address ≡ Some role → ⊥ }
+    /// How many addresses of the files come before one of this role. None where the address has not this role.
+    // Between the ends of the file that is near stand tokens alone.
+    #[inline(always)]
+    fn rank_of(&mut self, address: u64, role: Role) -> Option<usize>
+        ensures some { IfSome result (λ at. IsRankOf self.old.files self.old.seen address role at) }
+        ensures none { IsNone result → role_in self.old.files address ≡ Some role → ⊥ }
+        ensures same { self.new ≡ self.old }
     {
-        if i == self.files.len() {
-            return None;
+        let near = self.near;
+        if near.first < address && address < near.last && is_inner(role) {
+            return Some(near.before + (address - near.first) as usize);
         }
-        let file = self.files[i].record();
-        if address < file.base || !has_role(file, address, role) {
-            return None;
-        }
-        Some(self.before[i] + (address - file.base) as usize)
+        self.look_for(address, role)
     }
 
-    /// How many files end at an address or before: they are the first ones.
-    fn ended_by(&self, address: u64) -> usize
-        ensures value { result ≡ prefix_len (ends_by address) self.now.files }
-        ensures within { result ≤ length self.now.files }
+    /// The same in any file. That file is near afterwards.
+    #[inline(never)]
+    fn look_for(&mut self, address: u64, role: Role) -> Option<usize>
+        ensures some { IfSome result (λ at. IsRankOf self.old.files self.old.seen address role at) }
+        ensures none { IsNone result → role_in self.old.files address ≡ Some role → ⊥ }
+        ensures same { self.new ≡ self.old }
     {
-        if let Some(i) = file_near(self.files, self.near, address) {
-            return i;
+        let i = ended_by(&self.stretches, &self.guesses, self.place, address);
+        if i == self.stretches.len() {
+            return None;
         }
-        self.files.partition_point(
-            |file: &SharedRecord| -> bool
-                ensures { result ≡ ends_by address file.now }
-            { is_ended(file.record(), address) },
-        )
+        let stretch = self.stretches[i];
+        self.near = stretch;
+        self.place = i;
+        if address < stretch.first || !has_role(stretch, address, role) {
+            return None;
+        }
+        Some(stretch.before + (address - stretch.first) as usize)
     }
 
     /// Whether a word was seen at each address.
@@ -133,54 +149,86 @@ impl<'a> Places<'a> {
     }
 }
 
-/// The file at a place or the one after it, whichever has the address.
-fn file_near(files: &[SharedRecord], place: usize, address: u64) -> Option<usize>
-    requires { IsFileRun files.now }
-    ensures value { IfSome result (λ i. i ≡ prefix_len (ends_by address) files.now) }
-    ensures within { IfSome result (λ i. i < length files.now) }
-{
-    if files.len() <= place {
-        return None;
-    }
-    if has_address(files[place].record(), address) {
-        return Some(place);
-    }
-    let behind = place + 1;
-    if behind < files.len() && has_address(files[behind].record(), address) {
-        return Some(behind);
-    }
-    None
-}
+/// How many stretches are tried from a guess on.
+const GUESSES: usize = 4;
 
-fn has_address(file: &FileRecord, address: u64) -> bool
+/// No file: no address lies between its ends.
+const NOWHERE: Stretch = Stretch {
+    first: 0,
+    last: 0,
+    before: 0,
+};
+
+fn stretch_of(file: &FileRecord, before: usize) -> Stretch
     requires { IsPlaced file.now }
-    ensures { result ≡ is_of_file address file.now }
+    ensures { result ≡ stretch_of file.now before }
 {
-    file.base <= address && address < file.base + file.len
+    Stretch {
+        first: file.base,
+        last: file.base + (file.len - 1),
+        before,
+    }
 }
 
-fn is_ended(file: &FileRecord, address: u64) -> bool
-    requires { IsPlaced file.now }
-    ensures { result ≡ ends_by address file.now }
+/// How many stretches end before an address: they are the first ones.
+// The stretch behind the last one is tried, then a few at a guess. All of them are searched only where none of these is the one.
+fn ended_by(stretches: &[Stretch], guesses: &Guesses, place: usize, address: u64) -> usize
+    requires { AreInRow stretches.now }
+    ensures value { result ≡ prefix_len (ends_before address) stretches.now }
+    ensures within { result ≤ length stretches.now }
 {
-    file.base + file.len <= address
+    if is_met(stretches, place, 1, address) {
+        return place + 1;
+    }
+    let guess = guesses.of(address);
+    for more in 0..GUESSES {
+        if is_met(stretches, guess, more, address) {
+            return guess + more;
+        }
+    }
+    stretches.partition_point(
+        |stretch: &Stretch| -> bool
+            ensures { result ≡ ends_before address stretch.now }
+        { stretch.last < address },
+    )
 }
 
-fn has_role(file: &FileRecord, address: u64, role: Role) -> bool
-    requires { is_of_file address file.now ≡ true }
-    ensures { IsTrue result ↔ role_of_file address file.now ≡ role }
+/// Whether the stretch some places after another one is the first that does not end before an address.
+#[inline(always)]
+fn is_met(stretches: &[Stretch], place: usize, more: usize, address: u64) -> bool
+    requires { AreInRow stretches.now }
+    ensures value { IsTrue result → place + more ≡ prefix_len (ends_before address) stretches.now }
+    ensures within { IsTrue result → place + more < length stretches.now }
 {
-    role_at(file, address) == role
+    let len = stretches.len();
+    if len <= place || len - place <= more {
+        return false;
+    }
+    let i = place + more;
+    address <= stretches[i].last && (i == 0 || stretches[i - 1].last < address)
 }
 
-fn role_at(file: &FileRecord, address: u64) -> Role
-    requires { is_of_file address file.now ≡ true }
-    ensures { result ≡ role_of_file address file.now }
+fn has_role(stretch: Stretch, address: u64, role: Role) -> bool
+    ensures { IsTrue result ↔ role_of_stretch address stretch ≡ role }
 {
-    if address == file.base {
+    role_at(stretch, address) == role
+}
+
+/// Whether tokens have the role.
+#[inline(always)]
+fn is_inner(role: Role) -> bool
+    ensures { IsTrue result ↔ role ≡ Inner }
+{
+    role == Role::Inner
+}
+
+fn role_at(stretch: Stretch, address: u64) -> Role
+    ensures { result ≡ role_of_stretch address stretch }
+{
+    if address == stretch.first {
         return Role::Start;
     }
-    if address + 1 == file.base + file.len {
+    if address == stretch.last {
         return Role::End;
     }
     Role::Inner

@@ -1,6 +1,7 @@
-ghost use Rattle.std.specs.Prelude.{◌≡◌, ◌≤◌, ◌↔◌, ℕ, true, false, [], option_map, IfOk, IfSome, IsNone, IsTrue};
+ghost use Rattle.std.specs.Prelude.{◌≡◌, ◌≤◌, ◌↔◌, ℕ, true, false, [], ◌∷◌, ◌++◌, option_map, IfOk, IfSome, IsNone, IsTrue, OnErr, OnOk};
 ghost use Rattle.gcl_model.specs.Limits.{address_end};
-ghost use Rattle.index_shard.specs.Tables.{ComesBefore, IsShard};
+ghost use Rattle.std.specs.List.{AllByRecursion};
+ghost use Rattle.index_shard.specs.Tables.{AreApart, ArePostingsIn, ComesBefore, IsShard, last_entry};
 ghost use Rattle.live_version.specs.Contents.{is_of_files};
 ghost use Rattle.image_read.specs.Reading.{HasNoTerms, HasNoText, HasRole, IsTextFront, is_seen};
 ghost use Rattle.image_read.specs.Tables.{AreReadTerms, HasNoNextTerm, HasNoTerm, HoldsTerms, IsRangeOf, IsTermFront, PutsTerm, last_term};
@@ -12,7 +13,8 @@ use crate::places::{Places, Role};
 use address_space::Range;
 use gcl_model::{file_end, file_start};
 use image_file::Format;
-use index_shard::{Shard, ShardMaker};
+use index_shard::{Shard, ShardMaker, head_of};
+use posting_code::{BLOCK, PackedMaker};
 use std::alloc::{AllocError, Global};
 use std::cmp::Ordering;
 use word_tokens::is_token;
@@ -91,14 +93,35 @@ fn next_term<'a>(
     let Some(term) = term_in_front(head.format, last, bytes) else {
         return Ok(None);
     };
-    let Some(addresses) = read_addresses(alloc, head, places, term.role, term.rest)? else {
+    let Some(list) = read_addresses(alloc, head, places, term.role, term.rest)? else {
         return Ok(None);
     };
-    maker.push_list(term.text, addresses.list)?;
+    let rest = list.rest();
+    put_list(alloc, maker, term.text, list)?;
     Ok(Some(TextFront {
         text: term.text,
-        rest: addresses.rest,
+        rest,
     }))
+}
+
+/// Puts a term after the others. A list of one block is copied from the bytes to where those of all terms are.
+fn put_list(
+    alloc: Global,
+    maker: &mut ShardMaker,
+    term: &[u8],
+    list: PackedMaker<'_>,
+) -> Result<(), AllocError>
+    requires rising { IfSome (last_entry maker.old.table) (λ last. ComesBefore last.term term.now) }
+    requires postings { ArePostingsIn maker.old.range list.list }
+    requires apart { AllByRecursion (λ entry. AreApart entry.addresses list.list) maker.old.table }
+    ensures ok { OnOk result (maker.new ≡ record maker.old { table = maker.old.table ++ record { term = term.now; addresses = list.entry.list } ∷ [] }) }
+    ensures err { OnErr result (maker.new ≡ maker.old) }
+{
+    if list.len() > BLOCK {
+        let list = list.finish(alloc)?;
+        return maker.push_list(term, list);
+    }
+    maker.push_parts(head_of(term), term, &[list.as_block()])
 }
 
 /// The term at the front of some bytes, where it comes after the last one.

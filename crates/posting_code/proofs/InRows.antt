@@ -1,9 +1,9 @@
 -- Lists that stand in rows: more at the ends of the rows, one list more, and the heads of a list that comes behind others.
-use Rattle.std.proofs.Common.{◌≡◌, ℕ, zero, suc, ◌+◌, ◌-◌, ◌*◌, ◌/◌, ◌%◌, ◌^◌, ◌<◌, ◌≤◌, List, [], ◌∷◌, ◌++◌, length, length-drop, length-append, map, take, drop, get_or, append_assoc, refl, sym, ap, ◌∙◌, subst, arith, le_refl}
+use Rattle.std.proofs.Common.{◌≡◌, ℕ, ◌+◌, ◌-◌, ◌*◌, ◌/◌, ◌^◌, ◌<◌, ◌≤◌, List, [], ◌∷◌, ◌++◌, length, length-drop, length-append, take, drop, get_or, refl, sym, ap, ◌∙◌, subst, arith, le_refl}
 use Rattle.std.specs.Prelude.{Result, Ok, Err, OnErr}
 use Rattle.std.specs.List.{AllByRecursion}
 use Rattle.std.proofs.Math.Seq.{drop-append_seam, take-append_seam}
-use Rattle.std.proofs.lemmas.List.{append-nil, get_or-map, length-map, map-append, take-append-le, take-append-drop, drop-append-le, take_all}
+use Rattle.std.proofs.lemmas.List.{append-nil, map-append, take-append-le, take-append-drop, drop-append-le, take_all}
 use Rattle.posting_code.specs.Postings.{ArePostings}
 use Rattle.posting_code.specs.Packed.{IsHead, IsKeptTo, kept, last_of, packed_of}
 use Rattle.posting_code.specs.Joined.{last_in, step_from}

@@ -5,6 +5,7 @@ pub mod Packed
 pub mod Joining
 pub mod Shorts
 pub mod Steps
+mod Taking
 pub mod InRows
 pub mod Around
 pub mod Unpacking

@@ -8,3 +8,4 @@ pub mod Packed
 pub mod Postings
 pub mod Reader
 pub mod Rows
+pub mod Taken

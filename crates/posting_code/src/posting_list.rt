@@ -2,6 +2,7 @@ ghost use Rattle.std.specs.Prelude.{◌≡◌, ◌+◌, ◌*◌, ◌^◌, ◌<�
 ghost use Rattle.posting_code.specs.Postings.{ArePostings, RiseWithin, blocks_of, block_of};
 ghost use Rattle.posting_code.specs.Packed.{IsHead, IsKeptTo, kept, last_of, packed_of};
 ghost use Rattle.posting_code.specs.Cuts.{IsCut};
+ghost use Rattle.posting_code.specs.Blocks.{count_in, first_in, heads_in};
 
 use crate::blocks::Blocks;
 use crate::head::{Head, head_of};
@@ -49,6 +50,18 @@ impl PostingList {
             packed: Vec::new(alloc),
             last: 0,
             blocks: Blocks::One { count: 0, first: 0 },
+        }
+    }
+
+    /// A list by all that it is kept by.
+    pub(crate) fn of_parts(packed: Vec<u8>, last: u64, blocks: Blocks) -> Self
+        requires { IsKeptTo last (count_in blocks) (first_in blocks) packed.items (heads_in blocks) }
+        ensures { result ≡ kept (count_in blocks) (first_in blocks) packed.items }
+    {
+        PostingList {
+            packed,
+            last,
+            blocks,
         }
     }
 

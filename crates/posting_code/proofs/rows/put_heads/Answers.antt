@@ -1,4 +1,4 @@
-use Rattle.std.proofs.Common.{◌+◌, ◌-◌, ◌*◌, ◌/◌, ◌<◌, ◌^◌, ◌++◌, drop, length, ap, ◌∙◌, arith, le_refl}
+use Rattle.std.proofs.Common.{◌+◌, ◌-◌, ◌*◌, ◌/◌, ◌^◌, drop, ap, ◌∙◌, arith, le_refl}
 use Rattle.std.proofs.lemmas.List.{drop-append-le, take_all}
 use Rattle.posting_code.proofs.Rising.{rise_length}
 use Rattle.posting_code.proofs.InRows.{begins_pushed, head_fits, heads_still, no_shorter, placed_all, placed_before, placed_more}

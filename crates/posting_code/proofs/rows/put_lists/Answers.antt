@@ -1,4 +1,4 @@
-use Rattle.std.proofs.Common.{◌≡◌, ◌+◌, ◌++◌, ◌^◌, drop, length, length-append, take, sym, ap, ◌∙◌, subst, arith}
+use Rattle.std.proofs.Common.{◌++◌, ◌^◌, drop, length, length-append, take, sym, ap, ◌∙◌, subst, arith}
 use Rattle.std.specs.List.{concat}
 use Rattle.posting_code.specs.Joined.{last_in}
 use Rattle.posting_code.specs.Packed.{packed_of}
