@@ -1,5 +1,5 @@
 -- The accesses of the intervals of one width.
-use Rattle.std.proofs.Common.{◌≡◌, ℕ, ◌+◌, ◌-◌, ◌<◌, ◌≤◌, cond, leb, List, [], ◌∷◌, Some, None, min, max, inl, inr, refl, sym, ap, arith}
+use Rattle.std.proofs.Common.{◌≡◌, ℕ, ◌+◌, ◌-◌, ◌<◌, ◌≤◌, cond, leb, List, [], ◌∷◌, length, Some, None, min, max, inl, inr, refl, sym, ap, ◌∙◌, arith}
 use Rattle.std.proofs.lemmas.Bool.{leb-true, le-leb, lt-leb, eqb-true, eq-eqb, cases_lt}
 use Rattle.gcl_model.specs.Extents.{Extent, extent, all_extents, IsAhead, IsRising}
 use Rattle.gcl_model.specs.Access.{later_or, first_start, first_end, last_end, last_start}
@@ -42,19 +42,45 @@ last_found (x ∷ xs) r k b (inl same) le most =
     rw (← none, le-leb x.end k (omega arith)) (ap Some (sym same))
 last_found (x ∷ xs) r k b (inr m) le most = ap (λ o. later_or o (cond (leb x.end k) (Some x) None)) (last_found xs r.1 k b m le (λ d n. most d (inr n)))
 
+-- a rising list whose members start at k, k + 1, up to k + m - 1 has m of them
+starts_counted : (list : List Extent) → IsRising list → (k m : ℕ) → ((d : Extent) → Has list d → (k ≤ d.start) × (d.start < k + m)) →
+    ((p : ℕ) → k ≤ p → p < k + m → (d : Extent) × (Has list d × (d.start ≡ p))) → length list ≡ m
+starts_counted [] r k m within each =
+    elim (cases_lt 0 m) [ inl some ↦ absurd (each k (omega arith) (omega arith)).1.0 | inr le ↦ let none : m ≤ 0 = le in omega arith ]
+starts_counted (x ∷ xs) r k m within each =
+    let above : k ≤ x.start = (within x (inl refl)).0 in
+    let below : x.start < k + m = (within x (inl refl)).1 in
+    let least = each k (omega arith) (omega arith) in
+    let is : x.start ≡ k = elim least.1.0 [
+      | inl same ↦ ap (λ y. y.start) same ∙ least.1.1
+      | inr h ↦ let ahead : x.start < least.0.start = (of_each (IsAhead x) xs least.0 r.0 h).0 in let at : least.0.start ≡ k = least.1.1 in absurd (omega arith)
+    ] in
+    let rest : length xs ≡ m - 1 = starts_counted xs r.1 (k + 1) (m - 1)
+    (λ d h.
+    let ahead : x.start < d.start = (of_each (IsAhead x) xs d r.0 h).0 in
+    let up : d.start < k + m = (within d (inr h)).1 in (omega arith, omega arith))
+    (λ p lo hi.
+    let found = each p (omega arith) (omega arith) in
+    let at : found.0.start ≡ p = found.1.1 in
+    elim found.1.0 [
+      | inl same ↦ let e : x.start ≡ found.0.start = ap (λ y. y.start) same in absurd (omega arith)
+      | inr h ↦ (found.0, (h, at))
+    ]) in
+    omega arith
+
 module _ (text : Text) (n : ℕ) where
   -- a member lies in the text and has the width
-  record IsWide (d : Extent) : Type 0 where
-    above : text.first ≤ d.start
-    below : d.end < text.next
-    wide : d.end + 1 ≡ d.start + n
+  pub record IsWide (d : Extent) : Type 0 where
+    pub above : text.first ≤ d.start
+    pub below : d.end < text.next
+    pub wide : d.end + 1 ≡ d.start + n
 
-  is_wide : (d : Extent) → Has (width_list text n) d → IsWide d
+  pub is_wide : (d : Extent) → Has (width_list text n) d → IsWide d
   is_wide d m =
       let of = of_each (IsOf text) (width_list text n) d (each_of_text text (denotes text (width n))) m in
       record { above = of.above; below = of.below; wide = eqb-true (d.end + 1) (d.start + n) (has_filter (denotes text (width n)) (all_extents text.first text.next) d m).1 }
 
-  has_wide : (p q : ℕ) → text.first ≤ p → p ≤ q → q < text.next → q + 1 ≡ p + n → Has (width_list text n) (extent p q)
+  pub has_wide : (p q : ℕ) → text.first ≤ p → p ≤ q → q < text.next → q + 1 ≡ p + n → Has (width_list text n) (extent p q)
   has_wide p q ge le lt wide = filter_has (denotes text (width n)) (all_extents text.first text.next) (extent p q) (has_extent text.first text.next p q ge le lt) (eq-eqb (q + 1) (p + n) wide)
 
   pub first_start_some : (k p : ℕ) → 1 ≤ n → p ≡ max text.first k → p + n ≤ text.next → Some (extent p (p + (n - 1))) ≡ first_start (width_list text n) k
@@ -72,6 +98,13 @@ module _ (text : Text) (n : ℕ) where
 
   pub last_end_none : (k : ℕ) → min text.next (k + 1) < text.first + n → None ≡ last_end (width_list text n) k
   last_end_none k past = last_missing (width_list text n) k (λ d m. let w = is_wide d m in let above = w.above in let below = w.below in let wide = w.wide in omega arith)
+
+  -- one starts at each address from the first one on, as long as n addresses are left
+  pub width_counted : (m : ℕ) → 1 ≤ n → m ≡ ((text.next - text.first) + 1) - n → text.first ≤ text.next → m ≡ length (width_list text n)
+  width_counted m some is ordered =
+      sym (starts_counted (width_list text n) (concordance_rises text (width n)) text.first m
+      (λ d h. let w = is_wide d h in let above = w.above in let below = w.below in let wide = w.wide in (above, omega arith))
+      (λ p lo hi. (extent p (p + (n - 1)), (has_wide p (p + (n - 1)) lo (omega arith) (omega arith) (omega arith), refl))))
 
   -- by the end is by the start, so many addresses before
   pub first_end_is : (k : ℕ) → 1 ≤ n → first_start (width_list text n) (k - (n - 1)) ≡ first_end (width_list text n) k

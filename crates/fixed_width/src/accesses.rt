@@ -1,4 +1,4 @@
-ghost use Rattle.std.specs.Prelude.{◌≡◌, ◌≤◌};
+ghost use Rattle.std.specs.Prelude.{◌≡◌, ◌≤◌, length};
 ghost use Rattle.gcl_model.specs.Access.{first_start, first_end, last_end, last_start};
 ghost use Rattle.gcl_model.specs.Limits.{address_end};
 ghost use Rattle.gcl_model.specs.Texts.{Text};
@@ -52,4 +52,12 @@ pub fn width_last_start(n: u64, span: Span, k: u64) -> Option<Interval>
     ensures { (text : Text) → HasSpan text span.first span.next → result ≡ last_start (width_list text n) k }
 {
     width_last_end(n, span, k.min(span.next) + (n - 1))
+}
+
+/// How many there are, by one subtraction.
+pub fn width_count(n: u64, span: Span) -> u64
+    requires some { 1 ≤ n }
+    ensures { (text : Text) → HasSpan text span.first span.next → result ≡ length (width_list text n) }
+{
+    (span.next - span.first + 1).saturating_sub(n)
 }

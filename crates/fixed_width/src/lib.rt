@@ -1,4 +1,4 @@
-//! Intervals of one width: the accesses of their list, by arithmetic on the span.
+//! Intervals of one width: the accesses of their list and its length, by arithmetic on the span.
 //!
 //! Contracts see the answer as the access of the concordance list of the width over any text with this span. The layer
 //! above uses the four accesses, for every address. Of the width 7 over the addresses 0 to 7 the first interval from 1
@@ -7,7 +7,9 @@
 
 mod accesses;
 
-pub use accesses::{width_first_end, width_first_start, width_last_end, width_last_start};
+pub use accesses::{
+    width_count, width_first_end, width_first_start, width_last_end, width_last_start,
+};
 
 #[cfg(test)]
 mod tests;

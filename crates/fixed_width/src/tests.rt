@@ -1,4 +1,6 @@
-use crate::accesses::{width_first_end, width_first_start, width_last_end, width_last_start};
+use crate::accesses::{
+    width_count, width_first_end, width_first_start, width_last_end, width_last_start,
+};
 use gcl_model::{Interval, Span};
 
 #[test]
@@ -59,4 +61,17 @@ fn three_intervals_of_four_addresses_lie_in_the_addresses_2_to_7(rt: HostRuntime
     for (name, answer, want) in cases {
         assert_eq!(rt; answer, want, "{name}");
     }
+}
+
+#[test]
+fn of_six_addresses_one_width_less_is_one_interval_more(rt: HostRuntime) {
+    let span = Span { first: 2, next: 8 };
+    for (width, want) in [(1, 6), (4, 3), (6, 1), (7, 0), (1 << 56, 0)] {
+        assert_eq!(rt; width_count(width, span), want, "{width}");
+    }
+    let all = Span {
+        first: 0,
+        next: 1 << 56,
+    };
+    assert_eq!(rt; width_count(1, all), 1 << 56);
 }

@@ -13,4 +13,5 @@ pub mod KnownLemmas
 pub mod Listing
 pub mod OperandLemmas
 pub mod TermAccess
+pub mod TwoWidths
 mod Worked

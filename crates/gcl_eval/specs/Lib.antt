@@ -4,3 +4,4 @@ pub mod Containments
 pub mod Costs
 pub mod Members
 pub mod KnownAnswers
+pub mod TwoWidths

@@ -20,6 +20,7 @@ mod members;
 mod onward;
 mod phrase;
 mod term;
+mod two_widths;
 mod width;
 
 pub use accesses::{first_end, first_start, last_end, last_start};

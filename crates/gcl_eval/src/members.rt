@@ -9,10 +9,11 @@ ghost use Rattle.gcl_eval.specs.Members.{members_from};
 
 use crate::apart::next_from;
 use crate::onward::{MOST_KNOWN, next_member};
+use crate::two_widths::count_at_once;
 use gcl_model::{CountedLeaves, Expr, IntervalList, Leaves, Ledger, LentLeaves, Steps};
 use std::alloc::{AllocError, Global};
 
-/// The number of members.
+/// The number of members. Those of one width are not gone through, nor those of a containment of two.
 pub fn count<L: Leaves, S: Ledger>(expr: &Expr, leaves: &L, steps: &mut Steps<S>) -> u64
     requires well_formed { IsWellFormed (form_of expr.now) }
     ensures value { result ≡ length (concordance (L.text leaves.now) (form_of expr.now)) }
@@ -20,6 +21,9 @@ pub fn count<L: Leaves, S: Ledger>(expr: &Expr, leaves: &L, steps: &mut Steps<S>
     ensures cost { steps.new ≤ steps.old + (result + 1) * cost (L.text leaves.now) (L.most leaves.now) (form_of expr.now) }
     ensures near_cost { steps.new ≤ steps.old + (result + 1) * near_cost (L.text leaves.now) (L.most leaves.now) (form_of expr.now) }
 {
+    if let Some(count) = count_at_once(expr, leaves.span()) {
+        return count;
+    }
     let source = LentLeaves::<L, S>::new(leaves);
     number_of_members(expr, &source, steps)
 }

@@ -1,13 +1,15 @@
-use outside::FileError;
+ghost use Rattle.std.specs.Prelude.{[], ◌∷◌, IfOk, OnErr, string_bytes};
+ghost use Rattle.outside_std.specs.Saving.{Adds};
+ghost use Rattle.outside_std.specs.declared.step.Step.TheVariants.{Creates};
+
+use crate::cause::{FileCause, FileFault};
+use crate::disk::Disk;
 use std::alloc::{AllocError, Global};
-use std::fs::File;
-use std::io::ErrorKind;
-use std::rt;
 
 /// How many names beside a path are tried. One that a killed program left behind is never written over.
-const TRIES: u32 = 1_000;
+const TRIES: u32 = 1_000_000;
 
-/// The name number `n` in the folder of a path. It is short, so that each path that can be kept has one.
+/// The name number `n` in the folder of a path. It is short, so that nearly each path that can be kept has one.
 fn name_beside(alloc: Global, path: &str, n: u32) -> Result<String, AllocError> {
     match path.rsplit_once('/') {
         Some((folder, _)) => format!(in alloc; "{folder}/.gclq-{n}.new"),
@@ -16,17 +18,22 @@ fn name_beside(alloc: Global, path: &str, n: u32) -> Result<String, AllocError> 
 }
 
 /// A new file in the folder of a path, and its name. No file that is there is opened.
-pub fn create_beside<R: rt::Files + AllocGlobal>(
-    rt: &R,
+pub fn create_beside<D: Disk>(
+    alloc: Global,
+    disk: &mut D,
     path: &str,
-) -> Result<(String, R::File), FileError> {
+    mode: Option<u32>,
+) -> Result<(String, D::File), FileFault>
+    ensures ok { IfOk result (λ made. Adds (D.steps disk.old) (D.steps disk.new) (Creates (string_bytes made.0) ∷ [])) }
+    ensures err { OnErr result (Adds (D.steps disk.old) (D.steps disk.new) []) }
+{
     for n in 0..TRIES {
-        let beside = name_beside(rt.alloc(), path, n)?;
-        match File::create_new(rt, beside.as_str()) {
+        let beside = name_beside(alloc, path, n)?;
+        match disk.create(beside.as_str(), mode) {
             Ok(file) => return Ok((beside, file)),
-            Err(fault) if fault.kind() == ErrorKind::AlreadyExists => {}
-            Err(_) => return Err(FileError::Failed),
+            Err(FileCause::Leftovers) => {}
+            Err(cause) => return Err(FileFault::Failed(cause)),
         }
     }
-    Err(FileError::Failed)
+    Err(FileFault::Failed(FileCause::Leftovers))
 }

@@ -1,6 +1,6 @@
 // Stand-ins for tests: a writer that answers as it is told, and a disk that fills up.
 use std::alloc::{Allocator, Global};
-use std::fs::{File, Metadata, OpenFile, OpenOptions};
+use std::fs::{File, Metadata, OpenFile, OpenOptions, Permissions};
 use std::io;
 use std::io::{Error, ErrorKind, Read, Seek, SeekFrom, Write};
 use std::rt::Files;
@@ -118,6 +118,10 @@ impl OpenFile for LackingFile {
 
     fn sync_data(&self) -> io::Result<()> {
         self.file.sync_data()
+    }
+
+    fn set_permissions(&self, perm: Permissions) -> io::Result<()> {
+        self.file.set_permissions(perm)
     }
 }
 

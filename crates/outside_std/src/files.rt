@@ -1,17 +1,19 @@
-ghost use Rattle.std.specs.Prelude.{◌≡◌, ◌≤◌, [], None, IsTrue};
-ghost use Rattle.std.specs.Io.KnownBytes.{Appends};
+ghost use Rattle.std.specs.Prelude.{◌≡◌, ◌<◌, ◌≤◌, [], None, OnOk, length};
 ghost use Rattle.outside.specs.Contents.{Loads};
 ghost use Rattle.outside.specs.Causes.{HasFileCause, CountsFileFault, Rose};
 ghost use Rattle.outside_std.specs.Loading.{content_left};
 
-use crate::beside::create_beside;
-use crate::sink::write_again;
+use crate::cause::{FileCause, FileFault};
+use crate::disk::Disk;
+use crate::place::{followed, mode_at};
+use crate::replace::replace;
 use crate::source::read_again;
+use crate::system_disk::SystemDisk;
 use gcl_model::Bytes;
 use outside::{FileError, Files, GhostCount, Loaded};
-use std::fs::OpenFile;
-use std::io::{Read, Write};
-use std::{fs, rt};
+use std::alloc::AllocError;
+use std::io::Read;
+use std::rt;
 
 /// How many bytes are read at a time.
 const PIECE: usize = 65_536;
@@ -25,14 +27,22 @@ pub enum FileCall {
     Keep,
 }
 
+/// A call that failed.
+#[derive(Drop)]
+struct Fault {
+    call: FileCall,
+    name: Option<Bytes>,
+    cause: FileCause,
+}
+
 /// The file system. A name is a path, from where the program runs.
 #[derive(Drop)]
 pub struct StdFiles<'a, R> {
     rt: &'a R,
     faults: u64,
     unkept: GhostCount,
-    call: Option<FileCall>,
-    last: Option<Bytes>,
+    last: Option<Fault>,
+    piece: Vec<u8>,
 }
 
 impl<'a, R: rt::Files + AllocGlobal> StdFiles<'a, R> {
@@ -44,33 +54,49 @@ impl<'a, R: rt::Files + AllocGlobal> StdFiles<'a, R> {
             rt,
             faults: 0,
             unkept: GhostCount::none(),
-            call: None,
             last: None,
+            piece: Vec::new(rt.alloc()),
         }
     }
 
     /// The name at which the files failed last, for a message; nothing where they never did.
     pub fn last_fault(&self) -> &[u8] {
         match &self.last {
-            Some(name) => name.as_slice(),
-            None => b"",
+            Some(
+                Fault {
+                    name: Some(name),
+                    ..
+                },
+            ) => name.as_slice(),
+            _ => b"",
         }
     }
 
     /// The call that failed last, for a message; None where none did.
     pub fn last_call(&self) -> Option<FileCall> {
-        self.call
+        match &self.last {
+            Some(fault) => Some(fault.call),
+            None => None,
+        }
     }
 
-    /// Counts a fault, and keeps the call and the name.
-    fn fault(&mut self, call: FileCall, name: &[u8])
+    /// Why that call failed, for a message; None where none did.
+    pub fn last_cause(&self) -> Option<FileCause> {
+        match &self.last {
+            Some(fault) => Some(fault.cause),
+            None => None,
+        }
+    }
+
+    /// Counts a fault, and keeps the call, the name and the cause.
+    fn fault(&mut self, call: FileCall, name: &[u8], cause: FileCause)
         ensures later { self.old.faults ≤ self.new.faults }
         ensures rose { Rose self.old.faults self.new.faults }
         ensures unkept { self.new.unkept ≡ self.old.unkept }
     {
         self.faults = self.faults.saturating_add(1);
-        self.call = Some(call);
-        self.last = Bytes::copy_of(self.rt.alloc(), name).ok();
+        let name = Bytes::copy_of(self.rt.alloc(), name).ok();
+        self.last = Some(Fault { call, name, cause });
     }
 
     /// Puts the bytes under a name, and counts no keep.
@@ -79,31 +105,87 @@ impl<'a, R: rt::Files + AllocGlobal> StdFiles<'a, R> {
         ensures counts { CountsFileFault self.old.faults self.new.faults result }
         ensures unkept { self.new.unkept ≡ self.old.unkept }
     {
-        let Ok(path) = str::from_utf8(name) else {
-            self.fault(FileCall::Keep, name);
-            return Err(FileError::Failed);
-        };
-        match replace(self.rt, path, bytes) {
+        match save(self.rt, name, bytes) {
             Ok(()) => Ok(()),
-            Err(FileError::NoMemory) => Err(FileError::NoMemory),
-            Err(FileError::Failed) => {
-                self.fault(FileCall::Keep, name);
+            Err(FileFault::NoMemory) => Err(FileError::NoMemory),
+            Err(FileFault::Failed(cause)) => {
+                self.fault(FileCall::Keep, name, cause);
                 Err(FileError::Failed)
             }
         }
     }
+
+    /// Room for what is read at a time, which is taken once.
+    fn take_piece(&mut self) -> Result<(), AllocError>
+        ensures room { OnOk result (0 < length self.new.piece.items) }
+        ensures faults { self.new.faults ≡ self.old.faults }
+        ensures unkept { self.new.unkept ≡ self.old.unkept }
+    {
+        if self.piece.is_empty() {
+            self.piece.resize(PIECE, 0)?;
+        }
+        Ok(())
+    }
+
+    /// Puts the content of a name into a buffer, and counts no fault.
+    fn get(&mut self, name: &[u8], most: u64, out: &mut Vec<u8>) -> Result<Loaded, FileFault>
+        ensures size { Loads None [] most result out.new.items }
+        ensures faults { self.new.faults ≡ self.old.faults }
+        ensures unkept { self.new.unkept ≡ self.old.unkept }
+    {
+        self.take_piece()?;
+        load_from(&SystemDisk::new(self.rt), name, &mut self.piece, most, out)
+    }
 }
 
-/// Reads up to `most + 1` bytes into an empty buffer.
-fn read_up_to<R: Read>(file: &mut R, most: u64, out: &mut Vec<u8>) -> Result<Loaded, FileError>
+/// Empties a buffer and puts the content of a name there, or its first `most + 1` bytes, by way of a piece that has room.
+fn load_from<D: Disk>(
+    disk: &D,
+    name: &[u8],
+    piece: &mut [u8],
+    most: u64,
+    out: &mut Vec<u8>,
+) -> Result<Loaded, FileFault>
+    requires { 0 < length piece.old }
+    ensures { Loads (D.held disk.now) name.now most result out.new.items }
+{
+    out.clear();
+    let Ok(path) = str::from_utf8(name) else {
+        return Err(FileFault::Failed(FileCause::NotText));
+    };
+    match disk.open(path) {
+        Ok(mut file) => read_up_to(&mut file, piece, most, out),
+        Err(cause) => Err(FileFault::Failed(cause)),
+    }
+}
+
+/// Puts the bytes in the place of what is under a name, or in a new file, through symbolic links.
+fn save<R: rt::Files + AllocGlobal>(rt: &R, name: &[u8], bytes: &[u8]) -> Result<(), FileFault> {
+    let Ok(path) = str::from_utf8(name) else {
+        return Err(FileFault::Failed(FileCause::NotText));
+    };
+    let place = followed(rt, path)?;
+    let place = place.as_str();
+    let mode = mode_at(rt, place)?;
+    replace(rt.alloc(), &mut SystemDisk::new(rt), place, mode, bytes)
+}
+
+/// Reads up to `most + 1` bytes into an empty buffer, by way of a piece that has room.
+fn read_up_to<R: Read>(
+    file: &mut R,
+    piece: &mut [u8],
+    most: u64,
+    out: &mut Vec<u8>,
+) -> Result<Loaded, FileFault>
+    requires { 0 < length piece.old }
     ensures size { Loads None [] most result out.new.items }
     ensures bytes { Loads (content_left (R.remaining file.old)) [] most result out.new.items }
 {
     out.clear();
-    let mut piece = [0u8; PIECE];
     'pieces: for _ in 0..u64::MAX {
-        let Ok(count) = read_again(file, &mut piece) else {
-            return Err(FileError::Failed);
+        let count = match read_again(file, piece) {
+            Ok(count) => count,
+            Err(fault) => return Err(FileFault::Failed(FileCause::from(fault))),
         };
         if count == 0 {
             return Ok(Loaded::Whole);
@@ -115,45 +197,7 @@ fn read_up_to<R: Read>(file: &mut R, most: u64, out: &mut Vec<u8>) -> Result<Loa
         }
         out.extend_from_slice(&piece[..count])?;
     }
-    Err(FileError::Failed)
-}
-
-/// Writes a whole text, and says whether all of it was taken.
-fn write_whole<W: Write>(writer: &mut W, text: &[u8]) -> bool
-    ensures { IsTrue result → Appends (W.contents writer.old) (W.contents writer.new) text.now }
-{
-    let mut at = 0;
-    while at < text.len() {
-        match write_again(writer, &text[at..]) {
-            Ok(count) if count > 0 => at += count,
-            _ => return false,
-        }
-    }
-    true
-}
-
-/// A folder, a device or a pipe is no place for a file: a rename would put one there instead.
-fn is_place<R: rt::Files>(rt: &R, path: &str) -> bool {
-    match fs::metadata(rt, path) {
-        Ok(there) => there.is_file(),
-        Err(_) => true,
-    }
-}
-
-/// Writes the bytes to a file of their own, which then takes the path. Until that step the old content stays.
-fn replace<R: rt::Files + AllocGlobal>(rt: &R, path: &str, bytes: &[u8]) -> Result<(), FileError> {
-    if !is_place(rt, path) {
-        return Err(FileError::Failed);
-    }
-    let (beside, mut file) = create_beside(rt, path)?;
-    let done = write_whole(&mut file, bytes)
-        && file.sync_all().is_ok()
-        && fs::rename(rt, beside.as_str(), path).is_ok();
-    if !done {
-        let _ = fs::remove_file(rt, beside.as_str());
-        return Err(FileError::Failed);
-    }
-    Ok(())
+    Err(FileFault::Failed(FileCause::Other))
 }
 
 impl<'a, R: rt::Files + AllocGlobal> Files for StdFiles<'a, R> {
@@ -164,20 +208,11 @@ impl<'a, R: rt::Files + AllocGlobal> Files for StdFiles<'a, R> {
     ghost unkept = { λ f. f.unkept };
 
     fn load(&mut self, name: &[u8], most: u64, out: &mut Vec<u8>) -> Result<Loaded, FileError> {
-        out.clear();
-        let Ok(path) = str::from_utf8(name) else {
-            self.fault(FileCall::Load, name);
-            return Err(FileError::Failed);
-        };
-        let Ok(mut file) = fs::open(self.rt, path) else {
-            self.fault(FileCall::Load, name);
-            return Err(FileError::Failed);
-        };
-        match read_up_to(&mut file, most, out) {
+        match self.get(name, most, out) {
             Ok(loaded) => Ok(loaded),
-            Err(FileError::NoMemory) => Err(FileError::NoMemory),
-            Err(FileError::Failed) => {
-                self.fault(FileCall::Load, name);
+            Err(FileFault::NoMemory) => Err(FileError::NoMemory),
+            Err(FileFault::Failed(cause)) => {
+                self.fault(FileCall::Load, name, cause);
                 Err(FileError::Failed)
             }
         }

@@ -1,8 +1,10 @@
 // Each call and what it is to answer stand in one function: a test that makes many such calls in a row would be proved with all of them in sight.
 use crate::fake::{LackingDisk, Lacks, Tells, TellsWriter};
-use crate::{FileCall, StdFiles, StdSink, StdSource};
+use crate::{FileCall, FileCause, StdFiles, StdSink, StdSource};
 use outside::{FileError, Files, Loaded, Sink, Source, WriteError};
+use std::fs::Permissions;
 use std::io::ErrorKind;
+use std::os::unix::fs::{PermissionsExt, symlink};
 use std::path::PathBuf;
 use std::process::Abort;
 use std::{env, fs, io, rt};
@@ -37,35 +39,39 @@ fn keeps<R: Abort, F: Files>(rt: &R, files: &mut F, name: &[u8], bytes: &[u8]) {
     assert_eq!(rt; files.keep(name, bytes), Ok(()));
 }
 
-/// The files tell that this call failed last, and at which name.
+/// The files say that this call failed last, at which name, and why.
 fn failed_at<R: rt::Files + AllocGlobal + Abort>(
     rt: &R,
     files: &StdFiles<'_, R>,
     call: FileCall,
     name: &[u8],
+    cause: FileCause,
 ) {
     assert_eq!(rt; files.last_call(), Some(call));
     assert_eq!(rt; files.last_fault(), name);
+    assert_eq!(rt; files.last_cause(), Some(cause));
 }
 
-/// A keep fails, and the files tell of it.
+/// A keep fails, and the files say why.
 fn keeps_nothing<R: rt::Files + AllocGlobal + Abort>(
     rt: &R,
     files: &mut StdFiles<'_, R>,
     name: &[u8],
+    cause: FileCause,
 ) {
     assert_eq!(rt; files.keep(name, b"to be"), Err(FileError::Failed));
-    failed_at(rt, files, FileCall::Keep, name);
+    failed_at(rt, files, FileCall::Keep, name, cause);
 }
 
-/// A load fails, and the files tell of it.
+/// A load fails, and the files say why.
 fn loads_nothing<R: rt::Files + AllocGlobal + Abort>(
     rt: &R,
     files: &mut StdFiles<'_, R>,
     name: &[u8],
+    cause: FileCause,
 ) {
     loads(rt, files, name, 4, (Err(FileError::Failed), b""));
-    failed_at(rt, files, FileCall::Load, name);
+    failed_at(rt, files, FileCall::Load, name, cause);
 }
 
 /// How many files a folder has.
@@ -91,14 +97,14 @@ fn empty_folder(rt: &HostRuntime, name: &str) -> io::Result<PathBuf> {
 #[test]
 fn what_a_sink_took_a_source_hands_out(rt: HostRuntime) -> io::Result<()> {
     let place = env::temp_dir(&rt)?.join(rt.alloc(), "gclq_outside_std_test")?;
-    let mut sink = StdSink::new(fs::create(&rt, &place)?);
+    let mut sink = StdSink::new(&rt, fs::create(&rt, &place)?);
     writes(&rt, "a new file", &mut sink, Ok(5));
     assert_eq!(rt; sink.write(b""), Ok(0));
-    let mut source = StdSource::new(fs::open(&rt, &place)?);
+    let mut source = StdSource::new(&rt, fs::open(&rt, &place)?);
     for want in [b"to ".as_slice(), b"be", b""] {
         reads(&rt, &mut source, want);
     }
-    let mut shut = StdSink::new(fs::open(&rt, &place)?);
+    let mut shut = StdSink::new(&rt, fs::open(&rt, &place)?);
     writes(
         &rt,
         "a file that was opened for reading",
@@ -120,18 +126,25 @@ fn files_load_what_is_there_and_tell_where_they_failed(rt: HostRuntime) -> io::R
     keeps(&rt, &mut files, a, b"to be");
     loads(&rt, &mut files, a, 5, (Ok(Loaded::Whole), b"to be"));
     loads(&rt, &mut files, a, 4, (Ok(Loaded::Long), b"to be"));
-    loads_nothing(&rt, &mut files, b"\xff");
-    loads_nothing(&rt, &mut files, b);
+    let folder = place.to_str().unwrap_or("").as_bytes();
+    loads_nothing(&rt, &mut files, b"\xff", FileCause::NotText);
+    loads_nothing(&rt, &mut files, b, FileCause::NotThere);
+    loads_nothing(&rt, &mut files, folder, FileCause::Folder);
     fs::remove_dir_all(&rt, &place)
 }
 
 #[test]
-fn a_write_is_made_again_where_a_signal_came_and_fails_alone_at_a_fault(rt: HostRuntime) {
-    let cases: [(&str, &[Tells], Result<usize, WriteError>); 6] = [
+fn a_write_is_made_again_where_it_may_succeed_and_fails_at_a_fault_alone(rt: HostRuntime) {
+    let cases: [(&str, &[Tells], Result<usize, WriteError>); 7] = [
         ("a part is taken", &[Tells::Takes(2)], Ok(2)),
         (
             "a signal came first",
             &[Tells::Fails(ErrorKind::Interrupted), Tells::Takes(5)],
+            Ok(5),
+        ),
+        (
+            "the writer would have to wait",
+            &[Tells::Fails(ErrorKind::WouldBlock), Tells::Takes(5)],
             Ok(5),
         ),
         (
@@ -152,7 +165,7 @@ fn a_write_is_made_again_where_a_signal_came_and_fails_alone_at_a_fault(rt: Host
         ("the first call fails", &[], Err(WriteError::Failed)),
     ];
     for (name, answers, want) in cases {
-        let mut sink = StdSink::new(TellsWriter::new(answers));
+        let mut sink = StdSink::new(&rt, TellsWriter::new(answers));
         writes(&rt, name, &mut sink, want);
     }
 }
@@ -173,8 +186,14 @@ fn what_is_kept_is_loaded_and_nothing_else_changes(rt: HostRuntime) -> io::Resul
     loads(&rt, &mut files, b, 9, (Ok(Loaded::Whole), b"to be"));
     counts(&rt, file_count(&rt, &place)?, 2);
     let folder = place.to_str().unwrap_or("").as_bytes();
-    for name in [b"\xff".as_slice(), b"", folder, b"/dev/null"] {
-        keeps_nothing(&rt, &mut files, name);
+    let cases = [
+        (b"\xff".as_slice(), FileCause::NotText),
+        (b"", FileCause::NotThere),
+        (folder, FileCause::Folder),
+        (b"/dev/null", FileCause::NotAFile),
+    ];
+    for (name, cause) in cases {
+        keeps_nothing(&rt, &mut files, name, cause);
     }
     counts(&rt, file_count(&rt, &place)?, 2);
     fs::remove_dir_all(&rt, &place)
@@ -216,5 +235,46 @@ fn a_full_disk_and_a_killed_program_leave_the_old_content(rt: HostRuntime) -> io
     keeps(&rt, &mut StdFiles::new(&disk), name, b"or not");
     loads(&rt, &mut files, name, 9, (Ok(Loaded::Whole), b"or not"));
     counts(&rt, file_count(&rt, &place)?, 3);
+    fs::remove_dir_all(&rt, &place)
+}
+
+/// The mode of what is under a name, and the text of the symbolic link that stands there.
+fn is_under<R: rt::Files + AllocGlobal + Abort>(
+    rt: &R,
+    path: &PathBuf,
+    mode: u32,
+    link: Option<&str>,
+) -> io::Result<()> {
+    let bits = fs::metadata(rt, path)?.permissions().mode() & 0o777;
+    assert_eq!(rt; bits, mode);
+    let text = fs::read_link(rt, path).ok();
+    assert_eq!(rt; text.as_ref().and_then(|text| text.to_str()), link);
+    Ok(())
+}
+
+#[test]
+fn a_keep_follows_links_and_leaves_modes_and_other_files(rt: HostRuntime) -> io::Result<()> {
+    let place = empty_folder(&rt, "gclq_outside_std_links")?;
+    let a = place.join(rt.alloc(), "a")?;
+    let link = place.join(rt.alloc(), "link")?;
+    let left = place.join(rt.alloc(), ".gclq-0.new")?;
+    symlink(&rt, "a", &link)?;
+    fs::write(&rt, &left, "left")?;
+    let name = link.to_str().unwrap_or("").as_bytes();
+    let mut files = StdFiles::new(&rt);
+    // the link leads to nothing at first
+    keeps(&rt, &mut files, name, b"to be");
+    fs::set_permissions(&rt, &a, Permissions::from_mode(0o640))?;
+    keeps(&rt, &mut files, name, b"or not");
+    is_under(&rt, &a, 0o640, None)?;
+    is_under(&rt, &link, 0o640, Some("a"))?;
+    loads(&rt, &mut files, name, 9, (Ok(Loaded::Whole), b"or not"));
+    let left = left.to_str().unwrap_or("").as_bytes();
+    loads(&rt, &mut files, left, 9, (Ok(Loaded::Whole), b"left"));
+    let round = place.join(rt.alloc(), "round")?;
+    symlink(&rt, "round", &round)?;
+    let round = round.to_str().unwrap_or("").as_bytes();
+    keeps_nothing(&rt, &mut files, round, FileCause::Links);
+    counts(&rt, file_count(&rt, &place)?, 4);
     fs::remove_dir_all(&rt, &place)
 }

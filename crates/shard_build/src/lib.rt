@@ -16,6 +16,7 @@ mod lists;
 mod name;
 mod names;
 mod order;
+mod seeded;
 mod seen;
 mod source;
 

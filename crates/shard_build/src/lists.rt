@@ -9,15 +9,15 @@ ghost use Rattle.shard_build.specs.Handed.{ComesNext, entry_at};
 ghost use Rattle.shard_build.specs.Met.{AreNames, IsNoted, list_at, name_at as name_of, names_of, rows_of};
 
 use crate::name::Name;
+use crate::seeded::NameLists;
 use crate::seen::Seen;
 use index_shard::ShardMaker;
-use indexmap::IndexMap;
 use posting_code::{BLOCK, PostingList, PostingMaker};
 use std::alloc::AllocError;
 
 /// Puts an address after those of the name with this number: whether it is the first.
 pub(crate) fn push_at(
-    lists: &mut IndexMap<Name, PostingMaker>,
+    lists: &mut NameLists,
     number: usize,
     address: u64,
 ) -> Result<bool, AllocError>
@@ -34,10 +34,7 @@ pub(crate) fn push_at(
 }
 
 /// Takes the addresses of the name with this number. None are left there, even after an Err.
-pub(crate) fn take_at(
-    lists: &mut IndexMap<Name, PostingMaker>,
-    number: usize,
-) -> Result<PostingList, AllocError>
+pub(crate) fn take_at(lists: &mut NameLists, number: usize) -> Result<PostingList, AllocError>
     requires { number < length lists.old.entries }
     ensures value { IfOk result (λ list. list ≡ list_at lists.old.entries number) }
     ensures entries { lists.new.entries ≡ set_value_at lists.old.entries number [] }
@@ -46,7 +43,7 @@ pub(crate) fn take_at(
 }
 
 /// Empties the list of the name with this number.
-pub(crate) fn clear_at(lists: &mut IndexMap<Name, PostingMaker>, number: usize)
+pub(crate) fn clear_at(lists: &mut NameLists, number: usize)
     requires { number < length lists.old.entries }
     ensures { lists.new.entries ≡ set_value_at lists.old.entries number [] }
 {
@@ -54,7 +51,7 @@ pub(crate) fn clear_at(lists: &mut IndexMap<Name, PostingMaker>, number: usize)
 }
 
 /// Empties the lists of all names that were seen.
-pub(crate) fn clear_all(lists: &mut IndexMap<Name, PostingMaker>, seen: &mut Vec<Seen>)
+pub(crate) fn clear_all(lists: &mut NameLists, seen: &mut Vec<Seen>)
     requires { AreNames (names_of lists.old.entries seen.old.items) }
     ensures none { seen.new.items ≡ [] }
     ensures names { AreNames (names_of lists.new.entries seen.new.items) }
@@ -65,7 +62,7 @@ pub(crate) fn clear_all(lists: &mut IndexMap<Name, PostingMaker>, seen: &mut Vec
 }
 
 /// What is to be noted of the name with this number.
-pub(crate) fn seen_at(lists: &IndexMap<Name, PostingMaker>, number: usize) -> Seen
+pub(crate) fn seen_at(lists: &NameLists, number: usize) -> Seen
     requires { number < length lists.now.entries }
     ensures number { result.number ≡ number }
     ensures noted { IsNoted (keys_of lists.now.entries) result }
@@ -79,7 +76,7 @@ pub(crate) fn seen_at(lists: &IndexMap<Name, PostingMaker>, number: usize) -> Se
 
 /// Hands the names that were seen over to a shard that is being made, the last one first.
 pub(crate) fn hand_over(
-    lists: &mut IndexMap<Name, PostingMaker>,
+    lists: &mut NameLists,
     seen: &mut Vec<Seen>,
     maker: &mut ShardMaker,
 ) -> Result<(), AllocError>
@@ -98,11 +95,7 @@ pub(crate) fn hand_over(
 
 /// Hands one name over with its addresses. None are left there, even after an Err.
 // A short list is lent to be copied once, so that no memory is asked for it. A longer one takes its memory along.
-fn hand_one(
-    lists: &mut IndexMap<Name, PostingMaker>,
-    last: Seen,
-    maker: &mut ShardMaker,
-) -> Result<(), AllocError>
+fn hand_one(lists: &mut NameLists, last: Seen, maker: &mut ShardMaker) -> Result<(), AllocError>
     requires within { last.number < length lists.old.entries }
     requires noted { IsNoted (keys_of lists.old.entries) last }
     requires next { ComesNext maker.old.range maker.old.table (entry_at lists.old.entries last) }
@@ -121,11 +114,7 @@ fn hand_one(
 }
 
 /// Puts a name with its addresses after the others.
-fn lend(
-    lists: &IndexMap<Name, PostingMaker>,
-    last: Seen,
-    maker: &mut ShardMaker,
-) -> Result<(), AllocError>
+fn lend(lists: &NameLists, last: Seen, maker: &mut ShardMaker) -> Result<(), AllocError>
     requires within { last.number < length lists.now.entries }
     requires noted { IsNoted (keys_of lists.now.entries) last }
     requires next { ComesNext maker.old.range maker.old.table (entry_at lists.now.entries last) }
@@ -138,7 +127,7 @@ fn lend(
 }
 
 /// The name with this number, and no bytes where there is none.
-pub(crate) fn name_at(lists: &IndexMap<Name, PostingMaker>, number: usize) -> &[u8]
+pub(crate) fn name_at(lists: &NameLists, number: usize) -> &[u8]
     ensures { result.now ≡ name_of lists.now.entries number }
 {
     match lists.get_index(number) {

@@ -12,6 +12,7 @@ use crate::hint::Hint;
 use crate::lists::{clear_all, hand_over, push_at, seen_at};
 use crate::name::Name;
 use crate::order::{sort_names, sort_seen};
+use crate::seeded::{NameLists, Seeded};
 use crate::seen::Seen;
 use address_space::Range;
 use index_shard::{Room, Shard, ShardMaker};
@@ -33,7 +34,7 @@ const LIST_BYTES: usize = 2;
 #[derive(Drop)]
 pub struct Names {
     // a name's place here is its number
-    lists: IndexMap<Name, PostingMaker>,
+    lists: NameLists,
     hint: Hint,
     seen: Vec<Seen>,
 }
@@ -51,8 +52,14 @@ impl Model for Names {
 impl Names {
     /// No names yet. It takes no memory.
     pub fn new(alloc: Global) -> Self {
+        Names::seeded(alloc, 0)
+    }
+
+    /// No names yet, whose hashes begin with a number: no answer depends on it. Where it is a run's own, no text can be
+    /// made that is slow to add. It takes no memory.
+    pub fn seeded(alloc: Global, seed: u64) -> Self {
         Names {
-            lists: IndexMap::new(alloc),
+            lists: IndexMap::with_hasher(alloc, Seeded::new(seed)),
             hint: Hint::new(),
             seen: Vec::new(alloc),
         }

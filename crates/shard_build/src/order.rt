@@ -9,14 +9,14 @@ ghost use Rattle.shard_build.specs.Met.{AreNames, falling, names_of};
 
 use crate::lists::{name_at, seen_at};
 use crate::name::Name;
+use crate::seeded::NameLists;
 use crate::seen::Seen;
-use indexmap::IndexMap;
 use posting_code::PostingMaker;
 use std::alloc::AllocError;
 use std::cmp::Ordering;
 
 /// Puts the names in the order of their bytes, while no list has addresses. After an Err they are as they were.
-pub(crate) fn sort_names(lists: &mut IndexMap<Name, PostingMaker>) -> Result<(), AllocError>
+pub(crate) fn sort_names(lists: &mut NameLists) -> Result<(), AllocError>
     requires { AreNames (names_of lists.old.entries []) }
     ensures { AreNames (names_of lists.new.entries []) }
 {
@@ -34,7 +34,7 @@ fn compare_names(x: &Name, y: &Name) -> Ordering {
 }
 
 /// Puts the names that were seen in the order of their bytes, the last one first. It is quick where they have a run, which are in order by their numbers.
-pub(crate) fn sort_seen(lists: &IndexMap<Name, PostingMaker>, seen: &mut Vec<Seen>, has_run: bool)
+pub(crate) fn sort_seen(lists: &NameLists, seen: &mut Vec<Seen>, has_run: bool)
     requires { AreNames (names_of lists.now.entries seen.old.items) }
     ensures names { AreNames (names_of lists.now.entries seen.new.items) }
     ensures sorted { IsSorted (falling (keys_of lists.now.entries)) seen.new.items }
@@ -48,7 +48,7 @@ pub(crate) fn sort_seen(lists: &IndexMap<Name, PostingMaker>, seen: &mut Vec<See
 }
 
 /// Notes the names with addresses anew, by their numbers, the last one first. They stay as they were noted where no memory is left.
-fn note_by_number(lists: &IndexMap<Name, PostingMaker>, seen: &mut Vec<Seen>)
+fn note_by_number(lists: &NameLists, seen: &mut Vec<Seen>)
     requires { AreNames (names_of lists.now.entries seen.old.items) }
     ensures { AreNames (names_of lists.now.entries seen.new.items) }
 {
@@ -66,7 +66,7 @@ fn note_by_number(lists: &IndexMap<Name, PostingMaker>, seen: &mut Vec<Seen>)
 }
 
 /// Sorts names of which many stand in order. Without memory for it they are sorted as any others.
-fn sort_with_run(lists: &IndexMap<Name, PostingMaker>, seen: &mut Vec<Seen>)
+fn sort_with_run(lists: &NameLists, seen: &mut Vec<Seen>)
     ensures permutation { IsPermutation seen.old.items seen.new.items }
     ensures sorted { IsSorted (falling (keys_of lists.now.entries)) seen.new.items }
 {
@@ -77,7 +77,7 @@ fn sort_with_run(lists: &IndexMap<Name, PostingMaker>, seen: &mut Vec<Seen>)
 }
 
 /// Sorts names in whatever order they stand.
-fn sort_without_run(lists: &IndexMap<Name, PostingMaker>, seen: &mut Vec<Seen>)
+fn sort_without_run(lists: &NameLists, seen: &mut Vec<Seen>)
     ensures permutation { IsPermutation seen.old.items seen.new.items }
     ensures sorted { IsSorted (falling (keys_of lists.now.entries)) seen.new.items }
 {
@@ -86,7 +86,7 @@ fn sort_without_run(lists: &IndexMap<Name, PostingMaker>, seen: &mut Vec<Seen>)
 
 /// The order of two names that were seen.
 // Their heads decide most comparisons, and touch no other memory.
-fn compare(lists: &IndexMap<Name, PostingMaker>, x: Seen, y: Seen) -> Ordering
+fn compare(lists: &NameLists, x: Seen, y: Seen) -> Ordering
     ensures { result ≡ falling (keys_of lists.now.entries) y x }
 {
     match x.head.cmp(&y.head) {

@@ -1,4 +1,6 @@
-ghost use Rattle.std.specs.Prelude.{◌≡◌, IfSome, Some};
+ghost use Rattle.std.specs.Prelude.{◌≡◌, ◌+◌, ◌*◌, ◌≤◌, IfSome, IsNone, IsSome, Some};
+ghost use Rattle.gcl_model.specs.Limits.{most_slots};
+ghost use Rattle.gcl_model.specs.Elements.{IsElementFrom, IsElementUpTo};
 ghost use Rattle.gcl_model.specs.Texts.{IsText, places};
 ghost use Rattle.index_shard.specs.Searched.{nearest};
 ghost use Rattle.live_version.specs.Contents.{live_of, version_text};
@@ -39,10 +41,6 @@ impl<'a, J: Naming> Model for Fingers<'a, J> {
 }
 
 impl<'a, J: Naming> Leaves for Fingers<'a, J> {
-    ghost use Rattle.std.specs.Prelude.{◌+◌};
-    ghost use Rattle.gcl_model.specs.Limits.{most_slots};
-    ghost use Rattle.live_version.specs.Contents.{version_text};
-
     ghost text = { λ v. version_text v };
 
     ghost most = { λ v. most_slots + v.dels };
@@ -51,8 +49,7 @@ impl<'a, J: Naming> Leaves for Fingers<'a, J> {
         let Some(found) = self.find(term) else {
             return Leaves::next(self.version, term, k, steps);
         };
-        if let Some(p) = self.at_hand(found, k, Direction::Forward) {
-            steps.tick();
+        if let Some(p) = self.counted_at_hand(found, k, Direction::Forward, steps) {
             return Some(p);
         }
         self.version
@@ -63,8 +60,7 @@ impl<'a, J: Naming> Leaves for Fingers<'a, J> {
         let Some(found) = self.find(term) else {
             return Leaves::prev(self.version, term, k, steps);
         };
-        if let Some(p) = self.at_hand(found, k, Direction::Backward) {
-            steps.tick();
+        if let Some(p) = self.counted_at_hand(found, k, Direction::Backward, steps) {
             return Some(p);
         }
         self.version
@@ -93,7 +89,13 @@ impl<'a, J: Naming> Leaves for Fingers<'a, J> {
         second: &[u8],
         k: u64,
         steps: &mut Steps<L>,
-    ) -> Option<Interval> {
+    ) -> Option<Interval>
+        ensures answer { IfSome result (IsElementFrom (version_text self.now).words first.now second.now k) }
+        ensures counted { steps.old ≤ steps.new }
+        ensures cost { steps.new ≤ steps.old + 3 * (most_slots + self.now.dels) }
+        ensures none { IsNone result → steps.new ≡ steps.old }
+        ensures some { IsSome result → steps.new ≡ steps.old + 3 }
+    {
         // any call of the version tells that it is one
         let _next = self.version.next();
         let term = self.find(first)?;
@@ -111,7 +113,13 @@ impl<'a, J: Naming> Leaves for Fingers<'a, J> {
         second: &[u8],
         k: u64,
         steps: &mut Steps<L>,
-    ) -> Option<Interval> {
+    ) -> Option<Interval>
+        ensures answer { IfSome result (IsElementUpTo (version_text self.now).words first.now second.now k) }
+        ensures counted { steps.old ≤ steps.new }
+        ensures cost { steps.new ≤ steps.old + 3 * (most_slots + self.now.dels) }
+        ensures none { IsNone result → steps.new ≡ steps.old }
+        ensures some { IsSome result → steps.new ≡ steps.old + 3 }
+    {
         // any call of the version tells that it is one
         let _next = self.version.next();
         let term = self.find(first)?;
@@ -170,6 +178,27 @@ impl<'a, J: Naming> Fingers<'a, J> {
         // any call of the version tells that it is one
         let _next = self.version.next();
         at_hand_unprobed::<J, Brand>(term, &self.whole, k, direction, Blank::new(1))
+    }
+
+    /// The same, as one look-up, and none where its finger does not tell it.
+    #[inline(always)]
+    fn counted_at_hand<L: Ledger>(
+        &self,
+        term: &Term<'a, J>,
+        k: u64,
+        direction: Direction,
+        steps: &mut Steps<L>,
+    ) -> Option<u64>
+        ensures answer { IfSome result (λ p. Some p ≡ nearest direction (places (live_of self.now.slots) term.now.bytes.now) k) }
+        ensures sound { IsText (version_text self.now) }
+        ensures some { IsSome result → steps.new ≡ steps.old + 1 }
+        ensures none { IsNone result → steps.new ≡ steps.old }
+    {
+        let place = self.at_hand(term, k, direction);
+        if place.is_some() {
+            steps.tick();
+        }
+        place
     }
 
     /// The term with these bytes, if it was found.

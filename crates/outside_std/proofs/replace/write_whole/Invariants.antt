@@ -1,12 +1,12 @@
 use Rattle.std.proofs.Common.{length, ◌-◌, ◌≤◌, take}
-use Rattle.std.specs.Io.KnownBytes.{Appends}
-use Rattle.outside_std.proofs.files.write_whole.Given as goal
+use Rattle.outside_std.specs.Saving.{Fills}
+use Rattle.outside_std.proofs.replace.write_whole.Given as goal
 
 -- so much of the text was taken
 abbrev pub invariant-loop-at : goal.invariant-loop-at
 invariant-loop-at g l = record {
   within : l.at ≤ length l.text;
-  written : Appends (g.W.Write.contents l.initial.writer) (g.W.Write.contents l.writer) (take l.at l.text);
+  filled : Fills (g.D.Disk.steps l.initial.disk) (g.D.Disk.steps l.disk) (take l.at l.text);
 }
 
 abbrev pub decreases-loop-at : goal.decreases-loop-at
