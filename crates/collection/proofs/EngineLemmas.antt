@@ -38,7 +38,7 @@ next_sound v w sound next c s = subst IsSound (sym (stands_for_one w c next.afte
     by_step (inr (edition, same)) = subst IsSound (sym same) (sound next.before next.from)
 
 -- a next version that has tiers, and numbers left, may be published
-engine-next : (e : EngineContent) (w : VersionContent) → IsEngine e → IsNext e.version w → AreTiers w.first w.next (ranges_of w.slots) → w.number ≤ merge_end + w.next_id + w.dels → IsEngine (with_version e w)
+pub engine-next : (e : EngineContent) (w : VersionContent) → IsEngine e → IsNext e.version w → AreTiers w.first w.next (ranges_of w.slots) → w.number ≤ merge_end + w.next_id + w.dels → IsEngine (with_version e w)
 engine-next e w is next tiers numbers =
     let same : last_of (e.history ++ w ∷ []) ≡ w = last_of-snoc e.history w in
     record {
@@ -49,7 +49,7 @@ engine-next e w is next tiers numbers =
     }
 
 -- the same bounds and ranges, by equations
-tiers-are : (low low' end end' : ℕ) (ranges ranges' : List SlotRange) → low ≡ low' → end ≡ end' → ranges ≡ ranges' → AreTiers low end ranges → AreTiers low' end' ranges'
+pub tiers-are : (low low' end end' : ℕ) (ranges ranges' : List SlotRange) → low ≡ low' → end ≡ end' → ranges ≡ ranges' → AreTiers low end ranges → AreTiers low' end' ranges'
 tiers-are low low' end end' ranges ranges' a b e h = subst (λ n. AreTiers n end' ranges') a (subst (λ n. AreTiers low n ranges') b (subst (AreTiers low end) e h))
 
 pub engine-added : (e : EngineContent) (w : VersionContent) (name : List ℕ) (tokens : List (List ℕ)) → IsEngine e → AddsFileTo e.version w name tokens → IsEngine (with_version e w)
@@ -134,7 +134,7 @@ engine-opened publisher first le =
     }
 
 -- each id has taken two addresses
-ids_take_two : (c : Collection) (at id : ℕ) (files : List File) → AreFilesFrom c at id files → 2 * c.next_id + at ≤ c.next + 2 * id
+pub ids_take_two : (c : Collection) (at id : ℕ) (files : List File) → AreFilesFrom c at id files → 2 * c.next_id + at ≤ c.next + 2 * id
 ids_take_two c at id [] h =
     let a : at ≤ c.next = h.0 in
     let b : id ≤ c.next_id = h.1 in

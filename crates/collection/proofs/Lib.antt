@@ -3,3 +3,4 @@ pub mod SettlingLemmas
 pub mod ChangeLemmas
 pub mod CallLemmas
 mod Worked
+pub mod FrontLemmas

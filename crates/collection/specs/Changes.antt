@@ -1,5 +1,5 @@
 -- What each call of an engine makes of the version that was published last.
-use Rattle.std.specs.Prelude.{◌≡◌, ℕ, ◌+◌, ◌-◌, true, List, [], ◌∷◌, ◌++◌, map, length, take}
+use Rattle.std.specs.Prelude.{◌≡◌, ℕ, ◌+◌, ◌-◌, true, List, [], ◌∷◌, ◌++◌, map, length, take, drop}
 use Rattle.gcl_model.specs.Collections.{Collection, CanAdd, IsSound, with_file, without_file, has_file, width_of}
 use Rattle.gcl_model.specs.Slots.{slot_range, slots_after_add, slots_after_merge, slots_after_open}
 use Rattle.live_version.specs.Changes.{KillsFile}
@@ -56,6 +56,13 @@ pub record Adopts (v opened w : VersionContent) : Type 0 where
   pub number : w.number ≡ v.number + 1
   pub edition : w.edition ≡ v.edition + 1
 
+-- the same collection, with the slot in place of so many first ones
+pub record PutsSlotFirst (v w : VersionContent) (count : ℕ) (slot : SlotContent) : Type 0 where
+  pub stands : Keeps v w
+  pub slots : w.slots ≡ slot ∷ drop count v.slots
+  pub number : w.number ≡ v.number + 1
+  pub edition : w.edition ≡ v.edition
+
 -- an accepted add: the file got the next id and the next addresses
 pub record IsAdd (old new : EngineContent) (name : List ℕ) (tokens : List (List ℕ)) (added : Added) : Type 0 where
   pub change : AddsFileTo old.version new.version name tokens
@@ -77,4 +84,9 @@ pub record IsMerge (old new : EngineContent) (receipt : ReceiptContent) : Type 0
 -- an accepted opening
 pub record IsAdoption (old : EngineContent) (opened : VersionContent) (new : EngineContent) (receipt : ReceiptContent) : Type 0 where
   pub change : Adopts old.version opened new.version
+  pub published : IsPublication old new receipt
+
+-- a slot was put in place of so many first ones
+pub record IsFrontMerge (old new : EngineContent) (count : ℕ) (slot : SlotContent) (receipt : ReceiptContent) : Type 0 where
+  pub change : PutsSlotFirst old.version new.version count slot
   pub published : IsPublication old new receipt

@@ -1,9 +1,9 @@
-ghost use Rattle.std.specs.Prelude.{◌≡◌, ◌↔◌, ◌<◌, ℕ, [], length, None, IfOk, IsErrOf, IsSome, IsTrue, OnErr};
+ghost use Rattle.std.specs.Prelude.{◌≡◌, ◌↔◌, ◌<◌, ◌≤◌, ℕ, [], ◌∷◌, length, None, Some, IfOk, IsErrOf, IsSome, IsTrue, OnErr};
 ghost use Rattle.address_space.specs.declared.file_id.FileId.{FileId};
 ghost use Rattle.gcl_model.specs.Limits.{merge_end, version_end};
-ghost use Rattle.live_version.specs.Changes.{file_with_id};
-ghost use Rattle.live_version.specs.Contents.{dead_of, files_of};
-ghost use Rattle.collection.specs.Changes.{DeletesFileFrom, IsAdoption, IsDelete, IsMerge, IsOpened, MergesSlotsOf};
+ghost use Rattle.live_version.specs.Changes.{file_with_id, IsSameLive, slots_at, whole_range};
+ghost use Rattle.live_version.specs.Contents.{dead_of, files_of, ranges_of};
+ghost use Rattle.collection.specs.Changes.{DeletesFileFrom, IsAdoption, IsDelete, IsFrontMerge, IsMerge, IsOpened, MergesSlotsOf, PutsSlotFirst};
 ghost use Rattle.collection.specs.declared.faults.AdoptFault.TheVariants.{NotEmpty};
 ghost use Rattle.collection.specs.declared.faults.DeleteFault.TheVariants.{NotLive};
 
@@ -44,6 +44,28 @@ impl Engine {
         gate.before_publish(number);
         let receipt = self.publish(rt, version)?;
         gate.after_publish(number);
+        Ok(receipt)
+    }
+
+    /// Puts a slot that was made elsewhere in place of so many first ones, of which it has all live words and files, and publishes once.
+    /// At `Err` nothing was published.
+    pub fn put_merged<R: Wait>(
+        &mut self,
+        rt: &R,
+        count: usize,
+        slot: Slot,
+    ) -> Result<Receipt, AllocError>
+        requires two { 2 ≤ count }
+        requires within { count ≤ length self.old.version.slots }
+        requires alive { slot.mask ≡ [] }
+        requires same { IsSameLive (slots_at 0 count self.old.version.slots) (slot ∷ []) }
+        requires range { whole_range (ranges_of (slots_at 0 count self.old.version.slots)) ≡ Some slot.range }
+        requires number { self.old.version.number < merge_end }
+        ensures ok { IfOk result (IsFrontMerge self.old self.new count slot) }
+        ensures err { OnErr result (self.new ≡ self.old) }
+    {
+        let version = with_first(self.version(), count, slot)?;
+        let receipt = self.publish(rt, version)?;
         Ok(receipt)
     }
 
@@ -90,6 +112,19 @@ fn merged(alloc: Global, last: &Version) -> Result<Version, AllocError>
         return Ok(kept);
     }
     let slot = merge(alloc, last, 0, count)?;
+    let version = last.with_slot(0, count, Some(slot))?;
+    Ok(version)
+}
+
+/// The version with the slot in place of so many first ones.
+fn with_first(last: &Version, count: usize, slot: Slot) -> Result<Version, AllocError>
+    requires within { count ≤ length last.now.slots }
+    requires alive { slot.mask ≡ [] }
+    requires same { IsSameLive (slots_at 0 count last.now.slots) (slot ∷ []) }
+    requires range { whole_range (ranges_of (slots_at 0 count last.now.slots)) ≡ Some slot.range }
+    requires number { last.now.number < version_end }
+    ensures { IfOk result (λ version. PutsSlotFirst last.now version count slot) }
+{
     let version = last.with_slot(0, count, Some(slot))?;
     Ok(version)
 }

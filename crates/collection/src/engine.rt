@@ -21,8 +21,9 @@ use std::sync::{Arc, Wait};
 pub struct Engine {
     alloc: Global,
     publisher: Publisher,
-    // lent to each add: nothing in them matters
+    // lent to each add: nothing in them matters, nor does the number that they are hashed from
     names: Names,
+    seed: u64,
 }
 
 impl Model for Engine {
@@ -87,6 +88,7 @@ impl Engine {
                 alloc,
                 publisher,
                 names: Names::new(alloc),
+                seed: 0,
             },
             readers,
             lines: 0,
@@ -117,12 +119,22 @@ impl Engine {
         self.publisher.pass()
     }
 
+    /// The hashes of tokens begin with this number from now on. Where it is a run's own, as of the system's random bytes, no
+    /// file can be made that is slow to add. No answer depends on it.
+    pub fn seed(&mut self, seed: u64)
+        ensures { self.new ≡ self.old }
+    {
+        self.seed = seed;
+        self.names = Names::seeded(self.alloc, seed);
+    }
+
     /// Ends it. It may wait for readers that are inside an entering.
     pub fn end<R: Wait>(self, rt: &R) {
         let Engine {
             alloc: _alloc,
             publisher,
             names: _names,
+            seed: _seed,
         } = self;
         publisher.end(rt);
     }
@@ -135,7 +147,7 @@ impl Engine {
     pub(crate) fn lend_names(&mut self) -> Names
         ensures { self.new ≡ self.old }
     {
-        mem::replace(&mut self.names, Names::new(self.alloc))
+        mem::replace(&mut self.names, Names::seeded(self.alloc, self.seed))
     }
 
     /// Takes the names back.

@@ -5,4 +5,6 @@ pub mod Steps
 pub mod ReaderLemmas
 pub mod Stands
 pub mod PlaceLemmas
+pub mod Survivors
+pub mod OneName
 mod Worked

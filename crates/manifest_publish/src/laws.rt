@@ -1,4 +1,4 @@
-ghost use Rattle.manifest_publish.specs.Laws.{MayAddNext, NumbersArePlaces, EachStands, VersionsAreShared};
+ghost use Rattle.manifest_publish.specs.Laws.{MayAddNext, NumbersArePlaces, EachStands, SlotsKeepFiles, VersionsAreShared};
 
 /// A next version of the last one may be published.
 pub fn a_next_version_may_be_added()
@@ -18,4 +18,10 @@ pub fn each_version_stands_for_a_collection()
 /// Two beginnings of one history agree on each number that both reach.
 pub fn versions_are_shared()
     ensures { VersionsAreShared }
+{}
+
+/// A slot that has the range and the number of surviving files of an earlier one has the same files and words: whoever knows a
+/// slot by these numbers knows what is in it.
+pub fn slots_of_one_name_are_the_same()
+    ensures { SlotsKeepFiles }
 {}

@@ -7,7 +7,8 @@
 //! `Reader::enter` takes no handle, so it cannot wait. Its pass has the version that was published last. The contract says that the history
 //! of the pass begins with all that this reader has seen, and with that of each receipt that it learnt. So the layers above give a
 //! receipt to whom it concerns: who learns it sees that version or a later one. They publish what is a next version of the last,
-//! and know of two passes or receipts of one publisher that the shorter history begins the longer.
+//! and know of two passes or receipts of one publisher that the shorter history begins the longer. A slot of a later version with the range
+//! and the number of files of an earlier one is that slot, but for its index (`slots_of_one_name_are_the_same`).
 //!
 //! After the opening version, one added file makes version 1. A reader that learns its receipt and enters gets version
 //! 1, and where two more files came meanwhile it may get version 3; its next pass has no lower number.
@@ -30,7 +31,7 @@ mod told;
 
 pub use laws::{
     a_next_version_may_be_added, each_version_stands_for_a_collection, numbers_are_places,
-    versions_are_shared,
+    slots_of_one_name_are_the_same, versions_are_shared,
 };
 pub use pass::{Pass, Receipt};
 pub use publisher::Publisher;

@@ -1,5 +1,5 @@
 //! The log of a publisher.
-ghost use Rattle.std.specs.Prelude.{◌≡◌, ◌+◌, ◌++◌, ◌∷◌, [], length, false, IfOk, IfSome, IsTrue};
+ghost use Rattle.std.specs.Prelude.{◌≡◌, ◌+◌, ◌<◌, ◌++◌, ◌∷◌, [], length, false, IfOk, IfSome, IsTrue};
 ghost use mathlib.Core.List.{IsPrefix};
 ghost use Rattle.manifest_publish.specs.Histories.{IsOpening, IsLawful};
 ghost use Rattle.manifest_publish.specs.Accounts.{Account, account};
@@ -127,6 +127,7 @@ impl Mark {
         requires { other.now.publisher ≡ self.now.publisher }
         ensures covers { IsTrue result → IsPrefix other.now.history self.now.history }
         ensures begins { result ≡ false → IsPrefix self.now.history other.now.history }
+        ensures shorter { result ≡ false → length self.now.history < length other.now.history }
     {
         let mut both = self.seen.again();
         both.learn(&other.seen);

@@ -59,7 +59,8 @@ impl Pass {
         Ok(Pass::of(version, self.mark.again()))
     }
 
-    pub(crate) fn receipt(&self) -> Receipt
+    /// The receipt of its version. It takes no memory.
+    pub fn receipt(&self) -> Receipt
         ensures { VouchesFor result self.now }
     {
         Receipt {
