@@ -1,0 +1,549 @@
+use Rattle.std.proofs.Common.{◌≡◌, ◌+◌, ◌-◌, ◌<◌, ◌≤◌, ◌++◌, ◌∷◌, length, take, drop, Some, None, refl, ap, sym, ◌∙◌, subst, arith, rules, le_refl}
+use Rattle.gcl_model.specs.Extents.{Extent}
+use Rattle.gcl_model.specs.Forms.{width, seq, forms_count}
+use Rattle.gcl_model.specs.FormOf.{form_of}
+use Rattle.gcl_model.specs.Meaning.{concordance}
+use Rattle.gcl_model.specs.WellFormed.{IsWellFormed}
+use Rattle.gcl_model.specs.Access.{first_start, first_end, last_end}
+use Rattle.gcl_model.specs.declared.direction.Direction.TheVariants.{Forward}
+use Rattle.gcl_model.proofs.Covers.{Has}
+use Rattle.gcl_model.proofs.Meanings.{concordance_rises}
+use Rattle.gcl_combine.proofs.OneOf.{first_start-one}
+use Rattle.gcl_order.specs.Walks.{joined}
+use Rattle.gcl_contain.specs.Kinds.{first_from}
+use Rattle.gcl_eval.specs.Containments.{loop_of}
+use Rattle.gcl_eval.specs.Operands.{operand_forms, operand_lists, AreOperands}
+use Rattle.gcl_eval.specs.Members.{members_from}
+use Rattle.gcl_eval.proofs.ChainRules.{back_is_as_far}
+use Rattle.gcl_eval.proofs.ContainForms.{both_operands, contain_kept}
+use Rattle.gcl_eval.proofs.ContainLoops.{accepts, finishes, ends, goes_on, more_turns, turns_le}
+use Rattle.gcl_eval.proofs.OperandLemmas.{form-Both, form-One, form-Seq}
+use Rattle.gcl_readers.specs.declared.front.Front.TheVariants.{On}
+use Rattle.gcl_readers.specs.Fronts.{IsFrontOf, IsTold, IsUnknown, asked_of, start_left, start_or_end, member_of, front_at}
+use Rattle.gcl_readers.specs.Agreement.{AllAnswerOrEnd, AllAnswerInOrder, all_left}
+use Rattle.gcl_readers.specs.Standing.{nodes, Stands, StandBelow, Tell, TellsFrom, front_of, with_front, start_at, starts_at, left_to}
+use Rattle.gcl_readers.specs.MergeCost.{member_cost, cost_below, cost_left}
+use Rattle.gcl_readers.proofs.CostLemmas.{told_cost, look_cost, contain_costs}
+use Rattle.gcl_readers.proofs.Members.{agrees_at, first_member, first_itself, last_of_left}
+use Rattle.gcl_readers.proofs.Answers.{moved_answers}
+use Rattle.gcl_readers.proofs.Standings.{some_place, restand_below, restand_told, within_text, proper_text, bounded_text, within_left, within_first, within_first_end, within_last, front_with, front_found, start_front, member_front, member_is}
+use Rattle.gcl_readers.proofs.BothLemmas.{both_none, both_some, both_tell}
+use Rattle.gcl_readers.proofs.SeqLemmas.{seq_none, seq_alone, seq_no_tail, seq_joined, tail_after, back_finds, joins_in_order, in_order_alone, in_order_more, no_others, some_others}
+use Rattle.gcl_readers.proofs.EndLemmas.{first_left, first_found, ends_from_first, ends_none, ends_here, ends_onward, ends_over, backs_from_first, backs_none, backs_before, backs_onward, backs_here, later_found, later_none}
+use Rattle.gcl_readers.proofs.TellLemmas.{tells_from, unknown_from}
+use Rattle.gcl_readers.proofs.ContainRules.{second_asked, second_moved, node_begins, node_begins_none, go_agrees, go_later, contain_split, contain_tell}
+use Rattle.gcl_readers.proofs.OperandRules.{operand_at, answers_joined, first_answers, in_order_joined, first_in_order}
+use Rattle.gcl_readers.proofs.FormRules.{form-Width, form-Term, width_left, term_ends, one_tell}
+use Rattle.gcl_readers.proofs.+reading.Goals as goal
+use Rattle.gcl_readers.proofs.+reading.Goals.{reading::node_back-in-Some+then-k-next, reading::node_back-in_default}
+
+pub chains::both_ends-start-requires : goal.chains::both_ends-start-requires
+chains::both_ends-start-requires g t c =
+    let here = operand_at (g.C.CountedLeaves.text c.args.source.now) c.args.operands.now c.in-Some.others.now c.in-Some.operand.now c.in-Some.ensures.cases.0 c.args.places.now c.split_at_mut-mine.result.0.now c.split_at_mut-mine.result.1.now c.size_of-size.result c.requires.well_formed c.requires.stands c.size_of-size.ensures c.split_at_mut-mine.ensures.front c.split_at_mut-mine.ensures.back in
+    search rules
+
+pub chains::both_find-returns-in_err-end-clause-answer : goal.chains::both_find-returns-in_err-end-clause-answer
+chains::both_find-returns-in_err-end-clause-answer g t c =
+    let some : 1 ≤ forms_count (operand_forms c.args.operands.now) = omega (arith, c.requires.operands.several) in
+    let r = both_none (g.C.CountedLeaves.text c.args.source.now) (operand_forms c.args.operands.now) some (starts_at (operand_forms c.args.operands.now) c.args.places.now) c.args.k c.requires.tells c.in_err-end.ensures.answer in
+    search rules
+
+pub chains::both_find-returns-in_err-start-clause-answer : goal.chains::both_find-returns-in_err-start-clause-answer
+chains::both_find-returns-in_err-start-clause-answer g t c =
+    let some : 1 ≤ forms_count (operand_forms c.args.operands.now) = omega (arith, c.requires.operands.several) in
+    let r = both_some (g.C.CountedLeaves.text c.args.source.now) (operand_forms c.args.operands.now) some (starts_at (operand_forms c.args.operands.now) c.args.places.now) c.args.k c.requires.tells c.in_ok-end.end c.in_ok-end.ensures.answer (starts_at (operand_forms c.args.operands.now) c.both_ends.new.places) c.in_ok-end.ensures.moved None c.in_err-start.ensures.answer in
+    search rules
+
+pub chains::both_find-new-requires : goal.chains::both_find-new-requires
+chains::both_find-new-requires g t c =
+    back_is_as_far Forward (all_left (operand_lists (g.C.CountedLeaves.text c.args.source.now) c.args.operands.now) (starts_at (operand_forms c.args.operands.now) c.both_ends.new.places)) c.in_ok-end.end c.in_ok-start.start c.in_ok-start.ensures.answer
+
+pub chains::both_find-returns-clause-answer : goal.chains::both_find-returns-clause-answer
+chains::both_find-returns-clause-answer g t c =
+    let some : 1 ≤ forms_count (operand_forms c.args.operands.now) = omega (arith, c.requires.operands.several) in
+    ap Some c.new.ensures ∙ both_some (g.C.CountedLeaves.text c.args.source.now) (operand_forms c.args.operands.now) some (starts_at (operand_forms c.args.operands.now) c.args.places.now) c.args.k c.requires.tells c.in_ok-end.end c.in_ok-end.ensures.answer (starts_at (operand_forms c.args.operands.now) c.both_ends.new.places) c.in_ok-end.ensures.moved (Some c.in_ok-start.start) c.in_ok-start.ensures.answer
+
+pub chains::both_find-returns-clause-tells : goal.chains::both_find-returns-clause-tells
+chains::both_find-returns-clause-tells g t c =
+    let some : 1 ≤ forms_count (operand_forms c.args.operands.now) = omega (arith, c.requires.operands.several) in
+    subst (λ n. AllAnswerOrEnd (operand_lists (g.C.CountedLeaves.text c.args.source.now) c.args.operands.now) (starts_at (operand_forms c.args.operands.now) c.both_starts.new.places) (c.new.result.start + 1) (n + 1)) (sym (ap (λ (x : Extent). x.end) c.new.ensures))
+    (both_tell (g.C.CountedLeaves.text c.args.source.now) (operand_forms c.args.operands.now) some (starts_at (operand_forms c.args.operands.now) c.args.places.now) c.args.k c.requires.tells c.in_ok-end.end c.in_ok-end.ensures.answer (starts_at (operand_forms c.args.operands.now) c.both_ends.new.places) c.in_ok-end.ensures.moved (starts_at (operand_forms c.args.operands.now) c.both_starts.new.places) c.in_ok-start.ensures.moved (c.new.result.start + 1))
+
+pub chains::both_starts-back-requires : goal.chains::both_starts-back-requires
+chains::both_starts-back-requires g t c =
+    let here = operand_at (g.C.CountedLeaves.text c.args.source.now) c.args.operands.now c.in-Some.others.now c.in-Some.operand.now c.in-Some.ensures.cases.0 c.args.places.now c.split_at_mut-mine.result.0.now c.split_at_mut-mine.result.1.now c.size_of-size.result c.requires.well_formed c.requires.stands c.size_of-size.ensures c.split_at_mut-mine.ensures.front c.split_at_mut-mine.ensures.back in
+    search rules
+
+pub chains::one_find-start-answer-requires : goal.chains::one_find-start-answer-requires
+chains::one_find-start-answer-requires g t c =
+    let here = operand_at (g.C.CountedLeaves.text c.args.source.now) c.args.operands.now c.in-Some.others.now c.in-Some.operand.now c.in-Some.ensures.cases.0 c.args.places.now c.split_at_mut-mine.result.0.now c.split_at_mut-mine.result.1.now c.size_of-size.result c.requires.well_formed c.requires.stands c.size_of-size.ensures c.split_at_mut-mine.ensures.front c.split_at_mut-mine.ensures.back in
+    search rules
+
+pub chains::one_find-returns-clause-tells : goal.chains::one_find-returns-clause-tells
+chains::one_find-returns-clause-tells g t c =
+    let here = operand_at (g.C.CountedLeaves.text c.args.source.now) c.args.operands.now c.in-Some.others.now c.in-Some.operand.now c.in-Some.ensures.cases.0 c.args.places.now c.split_at_mut-mine.result.0.now c.split_at_mut-mine.result.1.now c.size_of-size.result c.requires.well_formed c.requires.stands c.size_of-size.ensures c.split_at_mut-mine.ensures.front c.split_at_mut-mine.ensures.back in
+    let list = concordance (g.C.CountedLeaves.text c.args.source.now) (form_of c.in-Some.operand.now) in
+    let answers = moved_answers list (concordance_rises (g.C.CountedLeaves.text c.args.source.now) (form_of c.in-Some.operand.now)) (start_at c.split_at_mut-mine.result.0.now) (start_at c.start-answer.new.places) c.args.k
+    (first_answers (g.C.CountedLeaves.text c.args.source.now) c.args.operands.now c.in-Some.others.now c.in-Some.operand.now c.in-Some.ensures.cases.0 c.args.places.now c.split_at_mut-mine.result.0.now c.split_at_mut-mine.result.1.now c.args.k here.starts c.requires.tells)
+    c.start-answer.result (sym c.start-answer.ensures.answer) c.start-answer.ensures.moved in
+    answers_joined (g.C.CountedLeaves.text c.args.source.now) c.args.operands.now c.in-Some.others.now c.in-Some.operand.now c.in-Some.ensures.cases.0 c.start-answer.new.places c.one_find.new.places c.args.k c.start-answer.ensures.stands answers c.one_find.ensures.tells
+
+pub chains::seq_find-start-requires : goal.chains::seq_find-start-requires
+chains::seq_find-start-requires g t c =
+    let here = operand_at (g.C.CountedLeaves.text c.args.source.now) c.args.operands.now c.in_ok-operand.others.now c.in_ok-operand.operand.now c.in_ok-operand.ensures.cases.0 c.args.places.now c.split_at_mut-mine.result.0.now c.split_at_mut-mine.result.1.now c.size_of-size.result c.requires.well_formed c.requires.stands c.size_of-size.ensures c.split_at_mut-mine.ensures.front c.split_at_mut-mine.ensures.back in
+    search rules
+
+pub chains::seq_find-returns-in_err-first-clause-answer : goal.chains::seq_find-returns-in_err-first-clause-answer
+chains::seq_find-returns-in_err-first-clause-answer g t c =
+    let here = operand_at (g.C.CountedLeaves.text c.args.source.now) c.args.operands.now c.in_ok-operand.others.now c.in_ok-operand.operand.now c.in_ok-operand.ensures.cases.0 c.args.places.now c.split_at_mut-mine.result.0.now c.split_at_mut-mine.result.1.now c.size_of-size.result c.requires.well_formed c.requires.stands c.size_of-size.ensures c.split_at_mut-mine.ensures.front c.split_at_mut-mine.ensures.back in
+    let tells = first_in_order (g.C.CountedLeaves.text c.args.source.now) c.args.operands.now c.in_ok-operand.others.now c.in_ok-operand.operand.now c.in_ok-operand.ensures.cases.0 c.args.places.now c.split_at_mut-mine.result.0.now c.split_at_mut-mine.result.1.now c.args.k here.starts c.requires.tells in
+    let agree : first_start (members_from (concordance (g.C.CountedLeaves.text c.args.source.now) (form_of c.in_ok-operand.operand.now)) (start_at c.split_at_mut-mine.result.0.now)) c.args.k ≡ first_start (concordance (g.C.CountedLeaves.text c.args.source.now) (form_of c.in_ok-operand.operand.now)) c.args.k = tells.0 c.args.k (le_refl c.args.k) in
+    let r = subst (λ es. None ≡ first_start (concordance (g.C.CountedLeaves.text c.args.source.now) (seq (operand_forms es))) c.args.k) (sym c.in_ok-operand.ensures.cases.0) (seq_none (g.C.CountedLeaves.text c.args.source.now) (form_of c.in_ok-operand.operand.now) (operand_forms c.in_ok-operand.others.now) c.args.k (c.in_err-first.ensures.answer ∙ agree)) in
+    search rules
+
+pub chains::seq_find-returns-then-is_empty-clause-answer : goal.chains::seq_find-returns-then-is_empty-clause-answer
+chains::seq_find-returns-then-is_empty-clause-answer g t c =
+    let here = operand_at (g.C.CountedLeaves.text c.args.source.now) c.args.operands.now c.in_ok-operand.others.now c.in_ok-operand.operand.now c.in_ok-operand.ensures.cases.0 c.args.places.now c.split_at_mut-mine.result.0.now c.split_at_mut-mine.result.1.now c.size_of-size.result c.requires.well_formed c.requires.stands c.size_of-size.ensures c.split_at_mut-mine.ensures.front c.split_at_mut-mine.ensures.back in
+    let tells = first_in_order (g.C.CountedLeaves.text c.args.source.now) c.args.operands.now c.in_ok-operand.others.now c.in_ok-operand.operand.now c.in_ok-operand.ensures.cases.0 c.args.places.now c.split_at_mut-mine.result.0.now c.split_at_mut-mine.result.1.now c.args.k here.starts c.requires.tells in
+    let agree : first_start (members_from (concordance (g.C.CountedLeaves.text c.args.source.now) (form_of c.in_ok-operand.operand.now)) (start_at c.split_at_mut-mine.result.0.now)) c.args.k ≡ first_start (concordance (g.C.CountedLeaves.text c.args.source.now) (form_of c.in_ok-operand.operand.now)) c.args.k = tells.0 c.args.k (le_refl c.args.k) in
+    let found : first_start (concordance (g.C.CountedLeaves.text c.args.source.now) (form_of c.in_ok-operand.operand.now)) c.args.k ≡ Some c.in_ok-first.first = sym (c.in_ok-first.ensures.answer ∙ agree) in
+    let nil = no_others c.is_empty.result c.in_ok-operand.others.now c.is_empty.ensures c.if-is_empty.true in
+    subst (λ es. Some c.in_ok-first.first ≡ first_start (concordance (g.C.CountedLeaves.text c.args.source.now) (seq (operand_forms es))) c.args.k) (sym c.in_ok-operand.ensures.cases.0) (seq_alone (g.C.CountedLeaves.text c.args.source.now) (form_of c.in_ok-operand.operand.now) (operand_forms c.in_ok-operand.others.now) c.args.k c.in_ok-first.first found (ap operand_forms nil))
+
+pub chains::seq_find-returns-then-is_empty-clause-tells : goal.chains::seq_find-returns-then-is_empty-clause-tells
+chains::seq_find-returns-then-is_empty-clause-tells g t c =
+    let nil = no_others c.is_empty.result c.in_ok-operand.others.now c.is_empty.ensures c.if-is_empty.true in
+    in_order_joined (g.C.CountedLeaves.text c.args.source.now) c.args.operands.now c.in_ok-operand.others.now c.in_ok-operand.operand.now c.in_ok-operand.ensures.cases.0 c.start.new.places c.split_at_mut-mine.result.1.now (c.in_ok-first.first.start + 1) c.start.ensures.stands
+    (subst (λ os. AllAnswerInOrder ((concordance (g.C.CountedLeaves.text c.args.source.now) (form_of c.in_ok-operand.operand.now)) ∷ operand_lists (g.C.CountedLeaves.text c.args.source.now) os) (start_at c.start.new.places ∷ starts_at (operand_forms os) c.split_at_mut-mine.result.1.now) (c.in_ok-first.first.start + 1)) (sym nil)
+    (in_order_alone (concordance (g.C.CountedLeaves.text c.args.source.now) (form_of c.in_ok-operand.operand.now)) (start_at c.start.new.places) c.in_ok-first.first.start c.in_ok-first.ensures.moved))
+
+pub chains::seq_find-returns-in_err-tail-clause-answer : goal.chains::seq_find-returns-in_err-tail-clause-answer
+chains::seq_find-returns-in_err-tail-clause-answer g t c =
+    let here = operand_at (g.C.CountedLeaves.text c.args.source.now) c.args.operands.now c.in_ok-operand.others.now c.in_ok-operand.operand.now c.in_ok-operand.ensures.cases.0 c.args.places.now c.split_at_mut-mine.result.0.now c.split_at_mut-mine.result.1.now c.size_of-size.result c.requires.well_formed c.requires.stands c.size_of-size.ensures c.split_at_mut-mine.ensures.front c.split_at_mut-mine.ensures.back in
+    let tells = first_in_order (g.C.CountedLeaves.text c.args.source.now) c.args.operands.now c.in_ok-operand.others.now c.in_ok-operand.operand.now c.in_ok-operand.ensures.cases.0 c.args.places.now c.split_at_mut-mine.result.0.now c.split_at_mut-mine.result.1.now c.args.k here.starts c.requires.tells in
+    let agree : first_start (members_from (concordance (g.C.CountedLeaves.text c.args.source.now) (form_of c.in_ok-operand.operand.now)) (start_at c.split_at_mut-mine.result.0.now)) c.args.k ≡ first_start (concordance (g.C.CountedLeaves.text c.args.source.now) (form_of c.in_ok-operand.operand.now)) c.args.k = tells.0 c.args.k (le_refl c.args.k) in
+    let found : first_start (concordance (g.C.CountedLeaves.text c.args.source.now) (form_of c.in_ok-operand.operand.now)) c.args.k ≡ Some c.in_ok-first.first = sym (c.in_ok-first.ensures.answer ∙ agree) in
+    let some = some_others c.is_empty.result c.in_ok-operand.others.now c.is_empty.ensures c.if-is_empty.false in
+    let no_tail : None ≡ first_start (concordance (g.C.CountedLeaves.text c.args.source.now) (seq (operand_forms c.in_ok-operand.others.now))) (c.in_ok-first.first.end + 1) = rw c.after.ensures at c.in_err-tail.ensures.answer in
+    let r = subst (λ es. None ≡ first_start (concordance (g.C.CountedLeaves.text c.args.source.now) (seq (operand_forms es))) c.args.k) (sym c.in_ok-operand.ensures.cases.0) (seq_no_tail (g.C.CountedLeaves.text c.args.source.now) (form_of c.in_ok-operand.operand.now) (operand_forms c.in_ok-operand.others.now) c.args.k c.in_ok-first.first found some no_tail) in
+    search rules
+
+pub chains::seq_find-overflow_sub-tail-inside : goal.chains::seq_find-overflow_sub-tail-inside
+chains::seq_find-overflow_sub-tail-inside g t c =
+    let here = operand_at (g.C.CountedLeaves.text c.args.source.now) c.args.operands.now c.in_ok-operand.others.now c.in_ok-operand.operand.now c.in_ok-operand.ensures.cases.0 c.args.places.now c.split_at_mut-mine.result.0.now c.split_at_mut-mine.result.1.now c.size_of-size.result c.requires.well_formed c.requires.stands c.size_of-size.ensures c.split_at_mut-mine.ensures.front c.split_at_mut-mine.ensures.back in
+    let tells = first_in_order (g.C.CountedLeaves.text c.args.source.now) c.args.operands.now c.in_ok-operand.others.now c.in_ok-operand.operand.now c.in_ok-operand.ensures.cases.0 c.args.places.now c.split_at_mut-mine.result.0.now c.split_at_mut-mine.result.1.now c.args.k here.starts c.requires.tells in
+    let agree : first_start (members_from (concordance (g.C.CountedLeaves.text c.args.source.now) (form_of c.in_ok-operand.operand.now)) (start_at c.split_at_mut-mine.result.0.now)) c.args.k ≡ first_start (concordance (g.C.CountedLeaves.text c.args.source.now) (form_of c.in_ok-operand.operand.now)) c.args.k = tells.0 c.args.k (le_refl c.args.k) in
+    let found : first_start (concordance (g.C.CountedLeaves.text c.args.source.now) (form_of c.in_ok-operand.operand.now)) c.args.k ≡ Some c.in_ok-first.first = sym (c.in_ok-first.ensures.answer ∙ agree) in
+    let some = some_others c.is_empty.result c.in_ok-operand.others.now c.is_empty.ensures c.if-is_empty.false in
+    let tail : first_start (concordance (g.C.CountedLeaves.text c.args.source.now) (seq (operand_forms c.in_ok-operand.others.now))) (c.in_ok-first.first.end + 1) ≡ Some c.in_ok-tail.tail = sym (rw c.after.ensures at c.in_ok-tail.ensures.answer) in
+    let behind = tail_after (g.C.CountedLeaves.text c.args.source.now) (form_of c.in_ok-operand.operand.now) (operand_forms c.in_ok-operand.others.now) c.args.k c.in_ok-first.first found some c.in_ok-tail.tail tail in
+    let starts : c.in_ok-tail.tail.start ≡ c.tail.inside.start = sym (ap (λ (x : Extent). x.start) c.tail.view_is) in
+    omega arith
+
+pub chains::seq_find-returns-in_err-head-clause-answer : goal.chains::seq_find-returns-in_err-head-clause-answer
+chains::seq_find-returns-in_err-head-clause-answer g t c =
+    let here = operand_at (g.C.CountedLeaves.text c.args.source.now) c.args.operands.now c.in_ok-operand.others.now c.in_ok-operand.operand.now c.in_ok-operand.ensures.cases.0 c.args.places.now c.split_at_mut-mine.result.0.now c.split_at_mut-mine.result.1.now c.size_of-size.result c.requires.well_formed c.requires.stands c.size_of-size.ensures c.split_at_mut-mine.ensures.front c.split_at_mut-mine.ensures.back in
+    let tells = first_in_order (g.C.CountedLeaves.text c.args.source.now) c.args.operands.now c.in_ok-operand.others.now c.in_ok-operand.operand.now c.in_ok-operand.ensures.cases.0 c.args.places.now c.split_at_mut-mine.result.0.now c.split_at_mut-mine.result.1.now c.args.k here.starts c.requires.tells in
+    let agree : first_start (members_from (concordance (g.C.CountedLeaves.text c.args.source.now) (form_of c.in_ok-operand.operand.now)) (start_at c.split_at_mut-mine.result.0.now)) c.args.k ≡ first_start (concordance (g.C.CountedLeaves.text c.args.source.now) (form_of c.in_ok-operand.operand.now)) c.args.k = tells.0 c.args.k (le_refl c.args.k) in
+    let found : first_start (concordance (g.C.CountedLeaves.text c.args.source.now) (form_of c.in_ok-operand.operand.now)) c.args.k ≡ Some c.in_ok-first.first = sym (c.in_ok-first.ensures.answer ∙ agree) in
+    let some = some_others c.is_empty.result c.in_ok-operand.others.now c.is_empty.ensures c.if-is_empty.false in
+    let tail : first_start (concordance (g.C.CountedLeaves.text c.args.source.now) (seq (operand_forms c.in_ok-operand.others.now))) (c.in_ok-first.first.end + 1) ≡ Some c.in_ok-tail.tail = sym (rw c.after.ensures at c.in_ok-tail.ensures.answer) in
+    let behind = tail_after (g.C.CountedLeaves.text c.args.source.now) (form_of c.in_ok-operand.operand.now) (operand_forms c.in_ok-operand.others.now) c.args.k c.in_ok-first.first found some c.in_ok-tail.tail tail in
+    let starts : c.in_ok-tail.tail.start ≡ c.tail.inside.start = sym (ap (λ (x : Extent). x.start) c.tail.view_is) in
+    absurd (back_finds (concordance (g.C.CountedLeaves.text c.args.source.now) (form_of c.in_ok-operand.operand.now)) (start_at c.start.new.places) (c.tail.inside.start - 1) c.in_ok-first.first (first_member (concordance (g.C.CountedLeaves.text c.args.source.now) (form_of c.in_ok-operand.operand.now)) c.args.k c.in_ok-first.first found) c.in_ok-first.ensures.moved (omega arith) c.in_err-head.ensures.answer)
+
+pub chains::seq_find-seq_join-requires : goal.chains::seq_find-seq_join-requires
+chains::seq_find-seq_join-requires g t c =
+    let here = operand_at (g.C.CountedLeaves.text c.args.source.now) c.args.operands.now c.in_ok-operand.others.now c.in_ok-operand.operand.now c.in_ok-operand.ensures.cases.0 c.args.places.now c.split_at_mut-mine.result.0.now c.split_at_mut-mine.result.1.now c.size_of-size.result c.requires.well_formed c.requires.stands c.size_of-size.ensures c.split_at_mut-mine.ensures.front c.split_at_mut-mine.ensures.back in
+    let tells = first_in_order (g.C.CountedLeaves.text c.args.source.now) c.args.operands.now c.in_ok-operand.others.now c.in_ok-operand.operand.now c.in_ok-operand.ensures.cases.0 c.args.places.now c.split_at_mut-mine.result.0.now c.split_at_mut-mine.result.1.now c.args.k here.starts c.requires.tells in
+    let agree : first_start (members_from (concordance (g.C.CountedLeaves.text c.args.source.now) (form_of c.in_ok-operand.operand.now)) (start_at c.split_at_mut-mine.result.0.now)) c.args.k ≡ first_start (concordance (g.C.CountedLeaves.text c.args.source.now) (form_of c.in_ok-operand.operand.now)) c.args.k = tells.0 c.args.k (le_refl c.args.k) in
+    let found : first_start (concordance (g.C.CountedLeaves.text c.args.source.now) (form_of c.in_ok-operand.operand.now)) c.args.k ≡ Some c.in_ok-first.first = sym (c.in_ok-first.ensures.answer ∙ agree) in
+    let some = some_others c.is_empty.result c.in_ok-operand.others.now c.is_empty.ensures c.if-is_empty.false in
+    let tail : first_start (concordance (g.C.CountedLeaves.text c.args.source.now) (seq (operand_forms c.in_ok-operand.others.now))) (c.in_ok-first.first.end + 1) ≡ Some c.in_ok-tail.tail = sym (rw c.after.ensures at c.in_ok-tail.ensures.answer) in
+    let behind = tail_after (g.C.CountedLeaves.text c.args.source.now) (form_of c.in_ok-operand.operand.now) (operand_forms c.in_ok-operand.others.now) c.args.k c.in_ok-first.first found some c.in_ok-tail.tail tail in
+    let starts : c.in_ok-tail.tail.start ≡ c.tail.inside.start = sym (ap (λ (x : Extent). x.start) c.tail.view_is) in
+    joins_in_order (g.C.CountedLeaves.text c.args.source.now) (form_of c.in_ok-operand.operand.now) (seq (operand_forms c.in_ok-operand.others.now)) (start_at c.start.new.places) (c.tail.inside.start - 1) c.in_ok-head.head c.in_ok-tail.tail (sym c.in_ok-head.ensures.answer) (omega arith) (first_member (concordance (g.C.CountedLeaves.text c.args.source.now) (seq (operand_forms c.in_ok-operand.others.now))) (c.in_ok-first.first.end + 1) c.in_ok-tail.tail tail)
+
+pub chains::seq_find-returns-clause-answer : goal.chains::seq_find-returns-clause-answer
+chains::seq_find-returns-clause-answer g t c =
+    let here = operand_at (g.C.CountedLeaves.text c.args.source.now) c.args.operands.now c.in_ok-operand.others.now c.in_ok-operand.operand.now c.in_ok-operand.ensures.cases.0 c.args.places.now c.split_at_mut-mine.result.0.now c.split_at_mut-mine.result.1.now c.size_of-size.result c.requires.well_formed c.requires.stands c.size_of-size.ensures c.split_at_mut-mine.ensures.front c.split_at_mut-mine.ensures.back in
+    let tells = first_in_order (g.C.CountedLeaves.text c.args.source.now) c.args.operands.now c.in_ok-operand.others.now c.in_ok-operand.operand.now c.in_ok-operand.ensures.cases.0 c.args.places.now c.split_at_mut-mine.result.0.now c.split_at_mut-mine.result.1.now c.args.k here.starts c.requires.tells in
+    let agree : first_start (members_from (concordance (g.C.CountedLeaves.text c.args.source.now) (form_of c.in_ok-operand.operand.now)) (start_at c.split_at_mut-mine.result.0.now)) c.args.k ≡ first_start (concordance (g.C.CountedLeaves.text c.args.source.now) (form_of c.in_ok-operand.operand.now)) c.args.k = tells.0 c.args.k (le_refl c.args.k) in
+    let found : first_start (concordance (g.C.CountedLeaves.text c.args.source.now) (form_of c.in_ok-operand.operand.now)) c.args.k ≡ Some c.in_ok-first.first = sym (c.in_ok-first.ensures.answer ∙ agree) in
+    let some = some_others c.is_empty.result c.in_ok-operand.others.now c.is_empty.ensures c.if-is_empty.false in
+    let tail : first_start (concordance (g.C.CountedLeaves.text c.args.source.now) (seq (operand_forms c.in_ok-operand.others.now))) (c.in_ok-first.first.end + 1) ≡ Some c.in_ok-tail.tail = sym (rw c.after.ensures at c.in_ok-tail.ensures.answer) in
+    let behind = tail_after (g.C.CountedLeaves.text c.args.source.now) (form_of c.in_ok-operand.operand.now) (operand_forms c.in_ok-operand.others.now) c.args.k c.in_ok-first.first found some c.in_ok-tail.tail tail in
+    let starts : c.in_ok-tail.tail.start ≡ c.tail.inside.start = sym (ap (λ (x : Extent). x.start) c.tail.view_is) in
+    let head : last_end (members_from (concordance (g.C.CountedLeaves.text c.args.source.now) (form_of c.in_ok-operand.operand.now)) (start_at c.start.new.places)) (c.in_ok-tail.tail.start - 1) ≡ Some c.in_ok-head.head = subst (λ n. last_end (members_from (concordance (g.C.CountedLeaves.text c.args.source.now) (form_of c.in_ok-operand.operand.now)) (start_at c.start.new.places)) (n - 1) ≡ Some c.in_ok-head.head) (sym starts) (sym c.in_ok-head.ensures.answer) in
+    ap Some c.seq_join.ensures
+    ∙ subst (λ es. Some (joined c.in_ok-head.head c.in_ok-tail.tail) ≡ first_start (concordance (g.C.CountedLeaves.text c.args.source.now) (seq (operand_forms es))) c.args.k) (sym c.in_ok-operand.ensures.cases.0) (seq_joined (g.C.CountedLeaves.text c.args.source.now) (form_of c.in_ok-operand.operand.now) (operand_forms c.in_ok-operand.others.now) c.args.k c.in_ok-first.first found some c.in_ok-tail.tail tail c.in_ok-head.head (last_of_left (concordance (g.C.CountedLeaves.text c.args.source.now) (form_of c.in_ok-operand.operand.now)) (concordance_rises (g.C.CountedLeaves.text c.args.source.now) (form_of c.in_ok-operand.operand.now)) (start_at c.start.new.places) (c.in_ok-tail.tail.start - 1) c.in_ok-head.head head))
+
+pub chains::seq_find-returns-clause-tells : goal.chains::seq_find-returns-clause-tells
+chains::seq_find-returns-clause-tells g t c =
+    let here = operand_at (g.C.CountedLeaves.text c.args.source.now) c.args.operands.now c.in_ok-operand.others.now c.in_ok-operand.operand.now c.in_ok-operand.ensures.cases.0 c.args.places.now c.split_at_mut-mine.result.0.now c.split_at_mut-mine.result.1.now c.size_of-size.result c.requires.well_formed c.requires.stands c.size_of-size.ensures c.split_at_mut-mine.ensures.front c.split_at_mut-mine.ensures.back in
+    let tells = first_in_order (g.C.CountedLeaves.text c.args.source.now) c.args.operands.now c.in_ok-operand.others.now c.in_ok-operand.operand.now c.in_ok-operand.ensures.cases.0 c.args.places.now c.split_at_mut-mine.result.0.now c.split_at_mut-mine.result.1.now c.args.k here.starts c.requires.tells in
+    let agree : first_start (members_from (concordance (g.C.CountedLeaves.text c.args.source.now) (form_of c.in_ok-operand.operand.now)) (start_at c.split_at_mut-mine.result.0.now)) c.args.k ≡ first_start (concordance (g.C.CountedLeaves.text c.args.source.now) (form_of c.in_ok-operand.operand.now)) c.args.k = tells.0 c.args.k (le_refl c.args.k) in
+    let found : first_start (concordance (g.C.CountedLeaves.text c.args.source.now) (form_of c.in_ok-operand.operand.now)) c.args.k ≡ Some c.in_ok-first.first = sym (c.in_ok-first.ensures.answer ∙ agree) in
+    let some = some_others c.is_empty.result c.in_ok-operand.others.now c.is_empty.ensures c.if-is_empty.false in
+    let tail : first_start (concordance (g.C.CountedLeaves.text c.args.source.now) (seq (operand_forms c.in_ok-operand.others.now))) (c.in_ok-first.first.end + 1) ≡ Some c.in_ok-tail.tail = sym (rw c.after.ensures at c.in_ok-tail.ensures.answer) in
+    let behind = tail_after (g.C.CountedLeaves.text c.args.source.now) (form_of c.in_ok-operand.operand.now) (operand_forms c.in_ok-operand.others.now) c.args.k c.in_ok-first.first found some c.in_ok-tail.tail tail in
+    let starts : c.in_ok-tail.tail.start ≡ c.tail.inside.start = sym (ap (λ (x : Extent). x.start) c.tail.view_is) in
+    let head : last_end (members_from (concordance (g.C.CountedLeaves.text c.args.source.now) (form_of c.in_ok-operand.operand.now)) (start_at c.start.new.places)) (c.in_ok-tail.tail.start - 1) ≡ Some c.in_ok-head.head = subst (λ n. last_end (members_from (concordance (g.C.CountedLeaves.text c.args.source.now) (form_of c.in_ok-operand.operand.now)) (start_at c.start.new.places)) (n - 1) ≡ Some c.in_ok-head.head) (sym starts) (sym c.in_ok-head.ensures.answer) in
+    subst (λ n. AllAnswerInOrder (operand_lists (g.C.CountedLeaves.text c.args.source.now) c.args.operands.now) (starts_at (operand_forms c.args.operands.now) (c.back.new.places ++ c.seq_find.new.places)) (n + 1)) (sym (ap (λ (x : Extent). x.start) c.seq_join.ensures))
+    (in_order_joined (g.C.CountedLeaves.text c.args.source.now) c.args.operands.now c.in_ok-operand.others.now c.in_ok-operand.operand.now c.in_ok-operand.ensures.cases.0 c.back.new.places c.seq_find.new.places (c.in_ok-head.head.start + 1) c.back.ensures.stands
+    (in_order_more (concordance (g.C.CountedLeaves.text c.args.source.now) (form_of c.in_ok-operand.operand.now)) (concordance_rises (g.C.CountedLeaves.text c.args.source.now) (form_of c.in_ok-operand.operand.now)) (operand_lists (g.C.CountedLeaves.text c.args.source.now) c.in_ok-operand.others.now) (starts_at (operand_forms c.in_ok-operand.others.now) c.seq_find.new.places) (start_at c.start.new.places) (start_at c.back.new.places) c.in_ok-tail.tail.start c.in_ok-head.head (omega arith) head c.in_ok-head.ensures.moved c.in_ok-tail.ensures.tells))
+
+pub containments::containment_find-start-requires : goal.containments::containment_find-start-requires
+containments::containment_find-start-requires g t c =
+    let parts = both_operands c.operands-containment.result.0 (form_of c.args.expr.now) (form_of c.operands-containment.result.1.now) (form_of c.operands-containment.result.2.now) c.operands-containment.ensures c.requires.well_formed in
+    let here = contain_split c.operands-containment.result.0 (g.C.CountedLeaves.text c.args.source.now) (form_of c.args.expr.now) (form_of c.operands-containment.result.1.now) (form_of c.operands-containment.result.2.now) c.operands-containment.ensures c.args.places.now c.split_at_mut-first_places.result.0.now c.split_at_mut-first_places.result.1.now c.args.k c.size_of-size.result c.requires.stands c.requires.tells c.size_of-size.ensures c.split_at_mut-first_places.ensures.front c.split_at_mut-first_places.ensures.back in
+    let fewer = here.fewer in
+    let firsts = here.firsts in
+    search rules
+
+pub containments::containment_find-returns-in_err-member-clause-answer : goal.containments::containment_find-returns-in_err-member-clause-answer
+containments::containment_find-returns-in_err-member-clause-answer g t c =
+    let here = contain_split c.operands-containment.result.0 (g.C.CountedLeaves.text c.args.source.now) (form_of c.args.expr.now) (form_of c.operands-containment.result.1.now) (form_of c.operands-containment.result.2.now) c.operands-containment.ensures c.args.places.now c.split_at_mut-first_places.result.0.now c.split_at_mut-first_places.result.1.now c.args.k c.size_of-size.result c.requires.stands c.requires.tells c.size_of-size.ensures c.split_at_mut-first_places.ensures.front c.split_at_mut-first_places.ensures.back in
+    let r = node_begins_none c.operands-containment.result.0 (g.C.CountedLeaves.text c.args.source.now) (form_of c.args.expr.now) (form_of c.operands-containment.result.1.now) (form_of c.operands-containment.result.2.now) c.operands-containment.ensures c.args.k (c.in_err-member.ensures.answer ∙ here.answers c.args.k (le_refl c.args.k)) in
+    search rules
+
+pub containments::containment_find-loop-next-init : goal.containments::containment_find-loop-next-init
+containments::containment_find-loop-next-init g t c =
+    let here = contain_split c.operands-containment.result.0 (g.C.CountedLeaves.text c.args.source.now) (form_of c.args.expr.now) (form_of c.operands-containment.result.1.now) (form_of c.operands-containment.result.2.now) c.operands-containment.ensures c.args.places.now c.split_at_mut-first_places.result.0.now c.split_at_mut-first_places.result.1.now c.args.k c.size_of-size.result c.requires.stands c.requires.tells c.size_of-size.ensures c.split_at_mut-first_places.ensures.front c.split_at_mut-first_places.ensures.back in
+    let found : Some c.in_ok-member.member ≡ first_start (concordance (g.C.CountedLeaves.text c.args.source.now) (form_of c.operands-containment.result.1.now)) c.args.k = c.in_ok-member.ensures.answer ∙ here.answers c.args.k (le_refl c.args.k) in
+    let costs = contain_costs c.operands-containment.result.0 (g.C.CountedLeaves.text c.args.source.now) (g.C.CountedLeaves.most c.args.source.now) (form_of c.args.expr.now) (form_of c.operands-containment.result.1.now) (form_of c.operands-containment.result.2.now) c.operands-containment.ensures c.split_at_mut-first_places.result.0.now c.split_at_mut-first_places.result.1.now here.firsts.count in
+    let whole = ap (cost_below (g.C.CountedLeaves.text c.args.source.now) (g.C.CountedLeaves.most c.args.source.now) (form_of c.args.expr.now)) c.split_at_mut-first_places.ensures.value in
+    record {
+      counted = c.start.ensures.counted;
+      cost = omega (arith, costs, whole, c.start.ensures.cost);
+      first = c.start.ensures.stands;
+      second = here.seconds;
+      at = c.in_ok-member.ensures.moved;
+      tells = here.asked c.in_ok-member.member (sym found);
+      reached = node_begins c.operands-containment.result.0 (g.C.CountedLeaves.text c.args.source.now) (form_of c.args.expr.now) (form_of c.operands-containment.result.1.now) (form_of c.operands-containment.result.2.now) c.operands-containment.ensures c.args.k c.in_ok-member.member found;
+      within = c.in_ok-member.ensures.within;
+    }
+
+pub containments::containment_find-returns-in-Accept-clause-answer : goal.containments::containment_find-returns-in-Accept-clause-answer
+containments::containment_find-returns-in-Accept-clause-answer g t c =
+    let asked : c.ask-answer.result ≡ (loop_of Forward c.operands-containment.result.0).ask (concordance (g.C.CountedLeaves.text c.args.source.now) (form_of c.operands-containment.result.2.now)) c.loop-next.member = c.ask-answer.ensures.answer ∙ second_asked c.operands-containment.result.0 (concordance (g.C.CountedLeaves.text c.args.source.now) (form_of c.operands-containment.result.2.now)) (start_at c.loop-next.second_places) c.loop-next.member c.loop-next.invariant.tells in
+    accepts c.operands-containment.result.0 (concordance (g.C.CountedLeaves.text c.args.source.now) (form_of c.operands-containment.result.1.now)) (concordance (g.C.CountedLeaves.text c.args.source.now) (form_of c.operands-containment.result.2.now)) (concordance (g.C.CountedLeaves.text c.args.source.now) (form_of c.args.expr.now)) (concordance_rises (g.C.CountedLeaves.text c.args.source.now) (form_of c.operands-containment.result.1.now)) (concordance_rises (g.C.CountedLeaves.text c.args.source.now) (form_of c.operands-containment.result.2.now)) (contain_kept c.operands-containment.result.0 (form_of c.args.expr.now) (form_of c.operands-containment.result.1.now) (form_of c.operands-containment.result.2.now) c.operands-containment.ensures (g.C.CountedLeaves.text c.args.source.now)) Forward (first_start (concordance (g.C.CountedLeaves.text c.args.source.now) (form_of c.args.expr.now)) c.args.k) c.loop-next.member c.loop-next.invariant.reached c.ask-answer.result asked c.in-Accept.ensures
+
+pub containments::containment_find-returns-in-Accept-clause-tells : goal.containments::containment_find-returns-in-Accept-clause-tells
+containments::containment_find-returns-in-Accept-clause-tells g t c =
+    contain_tell c.operands-containment.result.0 (g.C.CountedLeaves.text c.args.source.now) (form_of c.args.expr.now) (form_of c.operands-containment.result.1.now) (form_of c.operands-containment.result.2.now) c.operands-containment.ensures c.loop-next.first_places c.ask-answer.new.places c.loop-next.invariant.first c.ask-answer.ensures.stands c.loop-next.member c.loop-next.invariant.at (second_moved c.operands-containment.result.0 (concordance (g.C.CountedLeaves.text c.args.source.now) (form_of c.operands-containment.result.2.now)) (concordance_rises (g.C.CountedLeaves.text c.args.source.now) (form_of c.operands-containment.result.2.now)) (start_at c.loop-next.second_places) (start_at c.ask-answer.new.places) c.loop-next.member c.ask-answer.result c.loop-next.invariant.tells c.ask-answer.ensures.answer c.ask-answer.ensures.moved)
+
+pub containments::containment_find-returns-in-Finish-clause-answer : goal.containments::containment_find-returns-in-Finish-clause-answer
+containments::containment_find-returns-in-Finish-clause-answer g t c =
+    let asked : c.ask-answer.result ≡ (loop_of Forward c.operands-containment.result.0).ask (concordance (g.C.CountedLeaves.text c.args.source.now) (form_of c.operands-containment.result.2.now)) c.loop-next.member = c.ask-answer.ensures.answer ∙ second_asked c.operands-containment.result.0 (concordance (g.C.CountedLeaves.text c.args.source.now) (form_of c.operands-containment.result.2.now)) (start_at c.loop-next.second_places) c.loop-next.member c.loop-next.invariant.tells in
+    finishes c.operands-containment.result.0 (concordance (g.C.CountedLeaves.text c.args.source.now) (form_of c.operands-containment.result.1.now)) (concordance (g.C.CountedLeaves.text c.args.source.now) (form_of c.operands-containment.result.2.now)) (concordance (g.C.CountedLeaves.text c.args.source.now) (form_of c.args.expr.now)) (concordance_rises (g.C.CountedLeaves.text c.args.source.now) (form_of c.operands-containment.result.1.now)) (concordance_rises (g.C.CountedLeaves.text c.args.source.now) (form_of c.operands-containment.result.2.now)) (contain_kept c.operands-containment.result.0 (form_of c.args.expr.now) (form_of c.operands-containment.result.1.now) (form_of c.operands-containment.result.2.now) c.operands-containment.ensures (g.C.CountedLeaves.text c.args.source.now)) Forward (first_start (concordance (g.C.CountedLeaves.text c.args.source.now) (form_of c.args.expr.now)) c.args.k) c.loop-next.member c.loop-next.invariant.reached c.ask-answer.result asked c.in-Finish.ensures
+
+pub containments::containment_find-returns-in_err-member-in-GoTo-clause-answer : goal.containments::containment_find-returns-in_err-member-in-GoTo-clause-answer
+containments::containment_find-returns-in_err-member-in-GoTo-clause-answer g t c =
+    let asked : c.ask-answer.result ≡ (loop_of Forward c.operands-containment.result.0).ask (concordance (g.C.CountedLeaves.text c.args.source.now) (form_of c.operands-containment.result.2.now)) c.loop-next.member = c.ask-answer.ensures.answer ∙ second_asked c.operands-containment.result.0 (concordance (g.C.CountedLeaves.text c.args.source.now) (form_of c.operands-containment.result.2.now)) (start_at c.loop-next.second_places) c.loop-next.member c.loop-next.invariant.tells in
+    let r = ends c.operands-containment.result.0 (concordance (g.C.CountedLeaves.text c.args.source.now) (form_of c.operands-containment.result.1.now)) (concordance (g.C.CountedLeaves.text c.args.source.now) (form_of c.operands-containment.result.2.now)) (concordance (g.C.CountedLeaves.text c.args.source.now) (form_of c.args.expr.now)) (concordance_rises (g.C.CountedLeaves.text c.args.source.now) (form_of c.operands-containment.result.1.now)) (concordance_rises (g.C.CountedLeaves.text c.args.source.now) (form_of c.operands-containment.result.2.now)) (contain_kept c.operands-containment.result.0 (form_of c.args.expr.now) (form_of c.operands-containment.result.1.now) (form_of c.operands-containment.result.2.now) c.operands-containment.ensures (g.C.CountedLeaves.text c.args.source.now)) (first_start (concordance (g.C.CountedLeaves.text c.args.source.now) (form_of c.args.expr.now)) c.args.k) c.loop-next.member c.ask-answer.result c.in-GoTo.next Forward c.loop-next.invariant.reached asked c.in-GoTo.ensures (c.in_err-member-in-GoTo.ensures.answer ∙ go_agrees c.operands-containment.result.0 (g.C.CountedLeaves.text c.args.source.now) (form_of c.args.expr.now) (form_of c.operands-containment.result.1.now) (form_of c.operands-containment.result.2.now) c.operands-containment.ensures c.loop-next.member c.loop-next.invariant.reached.found c.ask-answer.result asked c.in-GoTo.next c.in-GoTo.ensures (start_at c.loop-next.first_places) c.loop-next.invariant.at) in
+    search rules
+
+pub containments::containment_find-loop-next-smaller : goal.containments::containment_find-loop-next-smaller
+containments::containment_find-loop-next-smaller g t c =
+    let asked : c.ask-answer.result ≡ (loop_of Forward c.operands-containment.result.0).ask (concordance (g.C.CountedLeaves.text c.args.source.now) (form_of c.operands-containment.result.2.now)) c.loop-next.member = c.ask-answer.ensures.answer ∙ second_asked c.operands-containment.result.0 (concordance (g.C.CountedLeaves.text c.args.source.now) (form_of c.operands-containment.result.2.now)) (start_at c.loop-next.second_places) c.loop-next.member c.loop-next.invariant.tells in
+    let found : Some c.in_ok-member-in-GoTo.member ≡ first_from (loop_of Forward c.operands-containment.result.0) (concordance (g.C.CountedLeaves.text c.args.source.now) (form_of c.operands-containment.result.1.now)) c.in-GoTo.next = c.in_ok-member-in-GoTo.ensures.answer ∙ go_agrees c.operands-containment.result.0 (g.C.CountedLeaves.text c.args.source.now) (form_of c.args.expr.now) (form_of c.operands-containment.result.1.now) (form_of c.operands-containment.result.2.now) c.operands-containment.ensures c.loop-next.member c.loop-next.invariant.reached.found c.ask-answer.result asked c.in-GoTo.next c.in-GoTo.ensures (start_at c.loop-next.first_places) c.loop-next.invariant.at in
+    let more = more_turns c.operands-containment.result.0 (concordance (g.C.CountedLeaves.text c.args.source.now) (form_of c.operands-containment.result.1.now)) (concordance (g.C.CountedLeaves.text c.args.source.now) (form_of c.operands-containment.result.2.now)) (concordance (g.C.CountedLeaves.text c.args.source.now) (form_of c.args.expr.now)) (concordance_rises (g.C.CountedLeaves.text c.args.source.now) (form_of c.operands-containment.result.1.now)) (concordance_rises (g.C.CountedLeaves.text c.args.source.now) (form_of c.operands-containment.result.2.now)) (contain_kept c.operands-containment.result.0 (form_of c.args.expr.now) (form_of c.operands-containment.result.1.now) (form_of c.operands-containment.result.2.now) c.operands-containment.ensures (g.C.CountedLeaves.text c.args.source.now)) (first_start (concordance (g.C.CountedLeaves.text c.args.source.now) (form_of c.args.expr.now)) c.args.k) c.loop-next.member c.ask-answer.result c.in-GoTo.next Forward c.loop-next.invariant.reached asked c.in-GoTo.ensures c.in_ok-member-in-GoTo.member found in
+    let le = turns_le Forward c.operands-containment.result.0 (concordance (g.C.CountedLeaves.text c.args.source.now) (form_of c.operands-containment.result.1.now)) (concordance (g.C.CountedLeaves.text c.args.source.now) (form_of c.operands-containment.result.2.now)) c.in_ok-member-in-GoTo.member in
+    omega arith
+
+pub containments::containment_find-loop-next-preserved : goal.containments::containment_find-loop-next-preserved
+containments::containment_find-loop-next-preserved g t c =
+    let asked : c.ask-answer.result ≡ (loop_of Forward c.operands-containment.result.0).ask (concordance (g.C.CountedLeaves.text c.args.source.now) (form_of c.operands-containment.result.2.now)) c.loop-next.member = c.ask-answer.ensures.answer ∙ second_asked c.operands-containment.result.0 (concordance (g.C.CountedLeaves.text c.args.source.now) (form_of c.operands-containment.result.2.now)) (start_at c.loop-next.second_places) c.loop-next.member c.loop-next.invariant.tells in
+    let found : Some c.in_ok-member-in-GoTo.member ≡ first_from (loop_of Forward c.operands-containment.result.0) (concordance (g.C.CountedLeaves.text c.args.source.now) (form_of c.operands-containment.result.1.now)) c.in-GoTo.next = c.in_ok-member-in-GoTo.ensures.answer ∙ go_agrees c.operands-containment.result.0 (g.C.CountedLeaves.text c.args.source.now) (form_of c.args.expr.now) (form_of c.operands-containment.result.1.now) (form_of c.operands-containment.result.2.now) c.operands-containment.ensures c.loop-next.member c.loop-next.invariant.reached.found c.ask-answer.result asked c.in-GoTo.next c.in-GoTo.ensures (start_at c.loop-next.first_places) c.loop-next.invariant.at in
+    record {
+      counted = omega (arith, c.loop-next.invariant.counted, c.ask-answer.ensures.counted, c.go_on.ensures.counted);
+      cost = omega (arith, c.loop-next.invariant.cost, c.ask-answer.ensures.cost, c.go_on.ensures.cost);
+      first = c.go_on.ensures.stands;
+      second = c.ask-answer.ensures.stands;
+      at = c.in_ok-member-in-GoTo.ensures.moved;
+      tells = go_later c.operands-containment.result.0 (g.C.CountedLeaves.text c.args.source.now) (form_of c.args.expr.now) (form_of c.operands-containment.result.1.now) (form_of c.operands-containment.result.2.now) c.operands-containment.ensures c.loop-next.member c.loop-next.invariant.reached.found c.ask-answer.result asked c.in-GoTo.next c.in-GoTo.ensures c.in_ok-member-in-GoTo.member found (start_at c.ask-answer.new.places) (second_moved c.operands-containment.result.0 (concordance (g.C.CountedLeaves.text c.args.source.now) (form_of c.operands-containment.result.2.now)) (concordance_rises (g.C.CountedLeaves.text c.args.source.now) (form_of c.operands-containment.result.2.now)) (start_at c.loop-next.second_places) (start_at c.ask-answer.new.places) c.loop-next.member c.ask-answer.result c.loop-next.invariant.tells c.ask-answer.ensures.answer c.ask-answer.ensures.moved);
+      reached = goes_on c.operands-containment.result.0 (concordance (g.C.CountedLeaves.text c.args.source.now) (form_of c.operands-containment.result.1.now)) (concordance (g.C.CountedLeaves.text c.args.source.now) (form_of c.operands-containment.result.2.now)) (concordance (g.C.CountedLeaves.text c.args.source.now) (form_of c.args.expr.now)) (concordance_rises (g.C.CountedLeaves.text c.args.source.now) (form_of c.operands-containment.result.1.now)) (concordance_rises (g.C.CountedLeaves.text c.args.source.now) (form_of c.operands-containment.result.2.now)) (contain_kept c.operands-containment.result.0 (form_of c.args.expr.now) (form_of c.operands-containment.result.1.now) (form_of c.operands-containment.result.2.now) c.operands-containment.ensures (g.C.CountedLeaves.text c.args.source.now)) (first_start (concordance (g.C.CountedLeaves.text c.args.source.now) (form_of c.args.expr.now)) c.args.k) c.loop-next.member c.ask-answer.result c.in-GoTo.next Forward c.loop-next.invariant.reached asked c.in-GoTo.ensures c.in_ok-member-in-GoTo.member found;
+      within = c.in_ok-member-in-GoTo.ensures.within;
+    }
+
+pub containments::go_on-returns-in-Containing-clause-answer : goal.containments::go_on-returns-in-Containing-clause-answer
+containments::go_on-returns-in-Containing-clause-answer g t c =
+    c.end.ensures.answer ∙ ap (λ k. first_from (loop_of Forward k) (left_to (g.C.CountedLeaves.text c.args.source.now) (form_of c.args.first.now) c.args.places.now) c.args.next) (sym c.in-Containing.is)
+
+pub containments::go_on-returns-in-ContainedIn-clause-answer : goal.containments::go_on-returns-in-ContainedIn-clause-answer
+containments::go_on-returns-in-ContainedIn-clause-answer g t c =
+    c.start.ensures.answer ∙ ap (λ k. first_from (loop_of Forward k) (left_to (g.C.CountedLeaves.text c.args.source.now) (form_of c.args.first.now) c.args.places.now) c.args.next) (sym c.in-ContainedIn.is)
+
+pub containments::go_on-returns-in-NotContaining-clause-answer : goal.containments::go_on-returns-in-NotContaining-clause-answer
+containments::go_on-returns-in-NotContaining-clause-answer g t c =
+    c.start-in-NotContaining.ensures.answer ∙ ap (λ k. first_from (loop_of Forward k) (left_to (g.C.CountedLeaves.text c.args.source.now) (form_of c.args.first.now) c.args.places.now) c.args.next) (sym c.in-NotContaining.is)
+
+pub containments::go_on-returns-in-NotContainedIn-clause-answer : goal.containments::go_on-returns-in-NotContainedIn-clause-answer
+containments::go_on-returns-in-NotContainedIn-clause-answer g t c =
+    c.end-in-NotContainedIn.ensures.answer ∙ ap (λ k. first_from (loop_of Forward k) (left_to (g.C.CountedLeaves.text c.args.source.now) (form_of c.args.first.now) c.args.places.now) c.args.next) (sym c.in-NotContainedIn.is)
+
+pub reading::back-returns-in-Width-clause-answer : goal.reading::back-returns-in-Width-clause-answer
+reading::back-returns-in-Width-clause-answer g t c =
+    c.width_last_end.ensures (g.C.CountedLeaves.text c.args.source.now) record { first_is = sym c.span.ensures.first; next_is = sym c.span.ensures.next } ∙ ap (λ l. last_end l c.args.k) (width_left (g.C.CountedLeaves.text c.args.source.now) (form_of c.args.expr.now) c.in-Width.width (form-Width c.args.expr.now c.in-Width.width c.in-Width.is) c.args.places.now c.requires.stands)
+
+pub reading::back-returns-in-Width-clause-within : goal.reading::back-returns-in-Width-clause-within
+reading::back-returns-in-Width-clause-within g t c =
+    within_last (g.C.CountedLeaves.text c.args.source.now) (width c.in-Width.width) c.requires.sound c.args.k c.width_last_end.result (c.width_last_end.ensures (g.C.CountedLeaves.text c.args.source.now) record { first_is = sym c.span.ensures.first; next_is = sym c.span.ensures.next })
+
+pub reading::end-returns-in-Width-clause-answer : goal.reading::end-returns-in-Width-clause-answer
+reading::end-returns-in-Width-clause-answer g t c =
+    c.width_first_end.ensures (g.C.CountedLeaves.text c.args.source.now) record { first_is = sym c.span.ensures.first; next_is = sym c.span.ensures.next } ∙ ap (λ l. first_end l c.args.k) (width_left (g.C.CountedLeaves.text c.args.source.now) (form_of c.args.expr.now) c.in-Width.width (form-Width c.args.expr.now c.in-Width.width c.in-Width.is) c.args.places.now c.requires.stands)
+
+pub reading::end-returns-in-Width-clause-within : goal.reading::end-returns-in-Width-clause-within
+reading::end-returns-in-Width-clause-within g t c =
+    within_first_end (g.C.CountedLeaves.text c.args.source.now) (width c.in-Width.width) c.requires.sound c.args.k c.width_first_end.result (c.width_first_end.ensures (g.C.CountedLeaves.text c.args.source.now) record { first_is = sym c.span.ensures.first; next_is = sym c.span.ensures.next })
+
+pub reading::end-returns-in-Term-clause-answer : goal.reading::end-returns-in-Term-clause-answer
+reading::end-returns-in-Term-clause-answer g t c =
+    c.start.ensures.answer ∙ term_ends (g.C.CountedLeaves.text c.args.source.now) (form_of c.args.expr.now) c.in-Term.field-0 (form-Term c.args.expr.now c.in-Term.field-0 c.in-Term.is) (start_at c.args.places.now) c.args.k
+
+pub reading::find-both_find-requires : goal.reading::find-both_find-requires
+reading::find-both_find-requires g t c =
+    let form = form-Both c.args.expr.now c.in-Both.operands c.deref.result.now c.in-Both.is c.deref.ensures.value in
+    let well = subst IsWellFormed form c.requires.well_formed in
+    let several = well.0 in
+    let each = well.1 in
+    let below = subst (λ f. StandBelow (g.C.CountedLeaves.text c.args.source.now) f c.args.places.now) form c.requires.stands in
+    let tells = subst (λ f. TellsFrom (g.C.CountedLeaves.text c.args.source.now) f c.args.places.now c.args.k) form c.requires.tells in
+    let fewer = ap nodes form in
+    let operands : AreOperands (operand_forms c.deref.result.now) = record { several = several; each = each } in
+    search rules
+
+pub reading::find-returns-in-Both-clause-answer : goal.reading::find-returns-in-Both-clause-answer
+reading::find-returns-in-Both-clause-answer g t c =
+    let form = form-Both c.args.expr.now c.in-Both.operands c.deref.result.now c.in-Both.is c.deref.ensures.value in
+    c.both_find.ensures.answer ∙ ap (λ f. first_start (concordance (g.C.CountedLeaves.text c.args.source.now) f) c.args.k) (sym form)
+
+pub reading::find-returns-in-One-clause-answer : goal.reading::find-returns-in-One-clause-answer
+reading::find-returns-in-One-clause-answer g t c =
+    let form = form-One c.args.expr.now c.in-One.operands c.deref-in-One.result.now c.in-One.is c.deref-in-One.ensures.value in
+    c.one_find.ensures.answer ∙ sym (first_start-one (g.C.CountedLeaves.text c.args.source.now) (operand_forms c.deref-in-One.result.now) c.args.k) ∙ ap (λ f. first_start (concordance (g.C.CountedLeaves.text c.args.source.now) f) c.args.k) (sym form)
+
+pub reading::find-returns-in-One-clause-tells : goal.reading::find-returns-in-One-clause-tells
+reading::find-returns-in-One-clause-tells g t c =
+    let form = form-One c.args.expr.now c.in-One.operands c.deref-in-One.result.now c.in-One.is c.deref-in-One.ensures.value in
+    subst (λ f. Tell (g.C.CountedLeaves.text c.args.source.now) f (front_at c.one_find.result) c.one_find.new.places) (sym form)
+    (one_tell (g.C.CountedLeaves.text c.args.source.now) (operand_forms c.deref-in-One.result.now) c.one_find.new.places c.args.k c.one_find.result (c.one_find.ensures.answer ∙ sym (first_start-one (g.C.CountedLeaves.text c.args.source.now) (operand_forms c.deref-in-One.result.now) c.args.k)) c.one_find.ensures.tells)
+
+pub reading::find-returns-in-Seq-clause-answer : goal.reading::find-returns-in-Seq-clause-answer
+reading::find-returns-in-Seq-clause-answer g t c =
+    let form = form-Seq c.args.expr.now c.in-Seq.operands c.deref-in-Seq.result.now c.in-Seq.is c.deref-in-Seq.ensures.value in
+    c.seq_find.ensures.answer ∙ ap (λ f. first_start (concordance (g.C.CountedLeaves.text c.args.source.now) f) c.args.k) (sym form)
+
+pub reading::look-find-found-requires : goal.reading::look-find-found-requires
+reading::look-find-found-requires g t c =
+    let below = subst (StandBelow (g.C.CountedLeaves.text c.args.source.now) (form_of c.args.expr.now)) (sym c.split_at_mut-below.ensures.back) c.requires.stands.below in
+    let tells = subst (λ p. TellsFrom (g.C.CountedLeaves.text c.args.source.now) (form_of c.args.expr.now) p c.args.k) (sym c.split_at_mut-below.ensures.back) (tells_from (g.C.CountedLeaves.text c.args.source.now) (form_of c.args.expr.now) (front_of c.args.places.now) (drop 1 c.args.places.now) c.args.k c.requires.stands.front c.requires.unknown c.requires.stands.tells) in
+    search rules
+
+pub reading::look-returns-clause-stands : goal.reading::look-returns-clause-stands
+reading::look-returns-clause-stands g t c =
+    let put : c.put_front.new.places ≡ with_front (take 1 c.args.places.now ++ c.find-found.new.places) (front_at c.find-found.result)
+    = c.put_front.ensures ∙ ap (λ p. with_front (p ++ c.find-found.new.places) c.front_at-front.result) c.split_at_mut-below.ensures.front ∙ ap (with_front (take 1 c.args.places.now ++ c.find-found.new.places)) c.front_at-front.ensures in
+    let len : length c.find-found.new.places ≡ length (drop 1 c.args.places.now) = c.find-found.ensures.len ∙ ap length c.split_at_mut-below.ensures.back in
+    subst (Stands (g.C.CountedLeaves.text c.args.source.now) (form_of c.args.expr.now)) (sym put)
+    (restand_below (g.C.CountedLeaves.text c.args.source.now) (form_of c.args.expr.now) c.args.places.now c.find-found.new.places (front_at c.find-found.result) c.requires.stands (front_found (concordance (g.C.CountedLeaves.text c.args.source.now) (form_of c.args.expr.now)) (concordance_rises (g.C.CountedLeaves.text c.args.source.now) (form_of c.args.expr.now)) c.args.k c.find-found.result c.find-found.ensures.answer) len c.find-found.ensures.stands c.find-found.ensures.tells)
+
+pub reading::look-returns-clause-cost : goal.reading::look-returns-clause-cost
+reading::look-returns-clause-cost g t c =
+    let put : c.put_front.new.places ≡ with_front (take 1 c.args.places.now ++ c.find-found.new.places) (front_at c.find-found.result)
+    = c.put_front.ensures ∙ ap (λ p. with_front (p ++ c.find-found.new.places) c.front_at-front.result) c.split_at_mut-below.ensures.front ∙ ap (with_front (take 1 c.args.places.now ++ c.find-found.new.places)) c.front_at-front.ensures in
+    let spent = subst (λ p. (g.C.CountedLeaves.count c.find-found.new.counter) + cost_below (g.C.CountedLeaves.text c.args.source.now) (g.C.CountedLeaves.most c.args.source.now) (form_of c.args.expr.now) c.find-found.new.places ≤ (g.C.CountedLeaves.count c.args.counter.now) + cost_below (g.C.CountedLeaves.text c.args.source.now) (g.C.CountedLeaves.most c.args.source.now) (form_of c.args.expr.now) p + member_cost (g.C.CountedLeaves.text c.args.source.now) (g.C.CountedLeaves.most c.args.source.now) (form_of c.args.expr.now)) c.split_at_mut-below.ensures.back c.find-found.ensures.cost in
+    let some = some_place (g.C.CountedLeaves.text c.args.source.now) (form_of c.args.expr.now) c.args.places.now (StandBelow (g.C.CountedLeaves.text c.args.source.now) (form_of c.args.expr.now) (drop 1 c.args.places.now)) c.requires.stands in
+    subst (λ p. (g.C.CountedLeaves.count c.find-found.new.counter) + cost_left (g.C.CountedLeaves.text c.args.source.now) (g.C.CountedLeaves.most c.args.source.now) (form_of c.args.expr.now) p ≤ (g.C.CountedLeaves.count c.args.counter.now) + cost_left (g.C.CountedLeaves.text c.args.source.now) (g.C.CountedLeaves.most c.args.source.now) (form_of c.args.expr.now) c.args.places.now) (sym put)
+    (look_cost (g.C.CountedLeaves.text c.args.source.now) (g.C.CountedLeaves.most c.args.source.now) (form_of c.args.expr.now) c.args.places.now c.find-found.new.places c.args.k c.find-found.result some c.requires.unknown c.find-found.ensures.answer (g.C.CountedLeaves.count c.find-found.new.counter) (g.C.CountedLeaves.count c.args.counter.now) spent)
+
+pub reading::node_back-returns-in_err-member-clause-answer : goal.reading::node_back-returns-in_err-member-clause-answer
+reading::node_back-returns-in_err-member-clause-answer g t c =
+    let r = sym (backs_none (concordance (g.C.CountedLeaves.text c.args.source.now) (form_of c.args.expr.now)) (concordance_rises (g.C.CountedLeaves.text c.args.source.now) (form_of c.args.expr.now)) (start_at c.args.places.now) c.args.k (sym c.in_err-member.ensures.answer)) in
+    search rules
+
+pub reading::node_back-returns-then-k-member-clause-answer : goal.reading::node_back-returns-then-k-member-clause-answer
+reading::node_back-returns-then-k-member-clause-answer g t c =
+    let first = first_left (concordance (g.C.CountedLeaves.text c.args.source.now) (form_of c.args.expr.now)) (concordance_rises (g.C.CountedLeaves.text c.args.source.now) (form_of c.args.expr.now)) (start_at c.args.places.now) c.in_ok-member.member (sym c.in_ok-member.ensures.answer) in
+    let ends : c.in_ok-member.member.end ≡ c.member.inside.end = sym (ap (λ (x : Extent). x.end) c.member.view_is) in
+    let lt : c.args.k < c.in_ok-member.member.end = omega (arith, c.if-k-member.true) in
+    sym (backs_before (concordance (g.C.CountedLeaves.text c.args.source.now) (form_of c.args.expr.now)) (concordance_rises (g.C.CountedLeaves.text c.args.source.now) (form_of c.args.expr.now)) (start_at c.args.places.now) c.args.k c.in_ok-member.member first lt)
+
+pub reading::node_back-loop-next-init : goal.reading::node_back-loop-next-init
+reading::node_back-loop-next-init g t c =
+    let first = first_left (concordance (g.C.CountedLeaves.text c.args.source.now) (form_of c.args.expr.now)) (concordance_rises (g.C.CountedLeaves.text c.args.source.now) (form_of c.args.expr.now)) (start_at c.args.places.now) c.in_ok-member.member (sym c.in_ok-member.ensures.answer) in
+    let ends : c.in_ok-member.member.end ≡ c.member.inside.end = sym (ap (λ (x : Extent). x.end) c.member.view_is) in
+    record {
+      stands = c.start.ensures.stands;
+      on = c.in_ok-member.ensures.on c.requires.node;
+      near = omega (arith, c.if-k-member.false);
+      counted = c.start.ensures.counted;
+      cost = c.start.ensures.cost;
+      answer = backs_from_first (concordance (g.C.CountedLeaves.text c.args.source.now) (form_of c.args.expr.now)) (concordance_rises (g.C.CountedLeaves.text c.args.source.now) (form_of c.args.expr.now)) (start_at c.args.places.now) c.args.k c.in_ok-member.member first;
+      within = c.in_ok-member.ensures.within;
+    }
+
+pub reading::node_back-loop-next-smaller : goal.reading::node_back-loop-next-smaller
+reading::node_back-loop-next-smaller g t c =
+    let found : first_start (concordance (g.C.CountedLeaves.text c.args.source.now) (form_of c.args.expr.now)) (c.loop-next.member.start + 1) ≡ Some c.in-Some.next = sym c.in-Some.ensures.answer in
+    let next = first_found (concordance (g.C.CountedLeaves.text c.args.source.now) (form_of c.args.expr.now)) (concordance_rises (g.C.CountedLeaves.text c.args.source.now) (form_of c.args.expr.now)) (c.loop-next.member.start + 1) c.in-Some.next found in
+    let later = next.left in
+    let is_member = next.member in
+    let within = within_text (g.C.CountedLeaves.text c.args.source.now) (form_of c.args.expr.now) c.in-Some.next c.requires.sound is_member in
+    let proper = proper_text (g.C.CountedLeaves.text c.args.source.now) (form_of c.args.expr.now) c.in-Some.next is_member in
+    let starts : c.in-Some.next.start ≡ c.next-in-Some.inside.start = sym (ap (λ (x : Extent). x.start) c.next-in-Some.view_is) in
+    let ends : c.in-Some.next.end ≡ c.next-in-Some.inside.end = sym (ap (λ (x : Extent). x.end) c.next-in-Some.view_is) in
+    let tested : c.in-Some.next.end ≡ c.next.inside.end = sym (ap (λ (x : Extent). x.end) c.next.view_is) in
+    omega arith
+
+pub reading::node_back-loop-next-preserved : goal.reading::node_back-loop-next-preserved
+reading::node_back-loop-next-preserved g t c =
+    let found : first_start (concordance (g.C.CountedLeaves.text c.args.source.now) (form_of c.args.expr.now)) (c.loop-next.member.start + 1) ≡ Some c.in-Some.next = sym c.in-Some.ensures.answer in
+    let next = first_found (concordance (g.C.CountedLeaves.text c.args.source.now) (form_of c.args.expr.now)) (concordance_rises (g.C.CountedLeaves.text c.args.source.now) (form_of c.args.expr.now)) (c.loop-next.member.start + 1) c.in-Some.next found in
+    let later = next.left in
+    let is_member = next.member in
+    let within = within_text (g.C.CountedLeaves.text c.args.source.now) (form_of c.args.expr.now) c.in-Some.next c.requires.sound is_member in
+    let proper = proper_text (g.C.CountedLeaves.text c.args.source.now) (form_of c.args.expr.now) c.in-Some.next is_member in
+    let starts : c.in-Some.next.start ≡ c.next-in-Some.inside.start = sym (ap (λ (x : Extent). x.start) c.next-in-Some.view_is) in
+    let ends : c.in-Some.next.end ≡ c.next-in-Some.inside.end = sym (ap (λ (x : Extent). x.end) c.next-in-Some.view_is) in
+    let tested : c.in-Some.next.end ≡ c.next.inside.end = sym (ap (λ (x : Extent). x.end) c.next.view_is) in
+    let has = first_member (concordance (g.C.CountedLeaves.text c.args.source.now) (form_of c.args.expr.now)) c.loop-next.member.start c.loop-next.member (member_is (concordance (g.C.CountedLeaves.text c.args.source.now) (form_of c.args.expr.now)) (front_of c.loop-next.places) c.loop-next.member c.loop-next.invariant.stands.front c.loop-next.invariant.on) in
+    let near : c.in-Some.next.end ≤ c.args.k = omega (arith, c.if-k-next.false) in
+    let asked : asked_of (On c.in-Some.next) ≡ asked_of (front_of c.peek.new.places) = sym (ap asked_of c.in-Some.ensures.front) in
+    let stands = restand_told (g.C.CountedLeaves.text c.args.source.now) (form_of c.args.expr.now) c.peek.new.places (On c.in-Some.next) c.peek.ensures.stands (first_itself (concordance (g.C.CountedLeaves.text c.args.source.now) (form_of c.args.expr.now)) (concordance_rises (g.C.CountedLeaves.text c.args.source.now) (form_of c.args.expr.now)) c.in-Some.next is_member) asked in
+    let some = some_place (g.C.CountedLeaves.text c.args.source.now) (form_of c.args.expr.now) c.peek.new.places (StandBelow (g.C.CountedLeaves.text c.args.source.now) (form_of c.args.expr.now) (drop 1 c.peek.new.places)) c.peek.ensures.stands in
+    record {
+      stands = subst (Stands (g.C.CountedLeaves.text c.args.source.now) (form_of c.args.expr.now)) (sym c.put_front.ensures) stands;
+      on = ap (λ p. member_of (front_of p)) c.put_front.ensures ∙ ap member_of (front_with c.peek.new.places (On c.in-Some.next) some) ∙ ap Some (sym c.next-in-Some.view_is);
+      near = omega arith;
+      counted = omega (arith, c.loop-next.invariant.counted, c.peek.ensures.counted);
+      cost = omega (arith, c.loop-next.invariant.cost, c.peek.ensures.cost, ap (cost_left (g.C.CountedLeaves.text c.args.source.now) (g.C.CountedLeaves.most c.args.source.now) (form_of c.args.expr.now)) c.put_front.ensures, told_cost (g.C.CountedLeaves.text c.args.source.now) (g.C.CountedLeaves.most c.args.source.now) (form_of c.args.expr.now) c.peek.new.places (On c.in-Some.next) some asked);
+      answer = subst (λ n. last_end (members_from (concordance (g.C.CountedLeaves.text c.args.source.now) (form_of c.args.expr.now)) n) c.args.k ≡ last_end (left_to (g.C.CountedLeaves.text c.args.source.now) (form_of c.args.expr.now) c.args.places.now) c.args.k) starts (backs_onward (concordance (g.C.CountedLeaves.text c.args.source.now) (form_of c.args.expr.now)) (concordance_rises (g.C.CountedLeaves.text c.args.source.now) (form_of c.args.expr.now)) c.args.k c.loop-next.member c.in-Some.next has next near ∙ c.loop-next.invariant.answer);
+      within = omega arith;
+    }
+
+pub reading::node_back-returns-clause-answer : goal.reading::node_back-returns-clause-answer
+reading::node_back-returns-clause-answer g t c =
+    let has = first_member (concordance (g.C.CountedLeaves.text c.args.source.now) (form_of c.args.expr.now)) c.loop-next.member.start c.loop-next.member (member_is (concordance (g.C.CountedLeaves.text c.args.source.now) (form_of c.args.expr.now)) (front_of c.loop-next.places) c.loop-next.member c.loop-next.invariant.stands.front c.loop-next.invariant.on) in
+    let later : (d : Extent) → Has (concordance (g.C.CountedLeaves.text c.args.source.now) (form_of c.args.expr.now)) d → c.loop-next.member.start + 1 ≤ d.start → c.args.k < d.end
+    = elim c.match-peek.branch [
+      | reading::node_back-in-Some+then-k-next w ↦ later_found (concordance (g.C.CountedLeaves.text c.args.source.now) (form_of c.args.expr.now)) (concordance_rises (g.C.CountedLeaves.text c.args.source.now) (form_of c.args.expr.now)) (c.loop-next.member.start + 1) c.args.k w.in-Some.next (sym w.in-Some.ensures.answer) (let ends : w.in-Some.next.end ≡ w.next.inside.end = sym (ap (λ (x : Extent). x.end) w.next.view_is) in omega (arith, w.if-k-next.true))
+      | reading::node_back-in_default w ↦ later_none (concordance (g.C.CountedLeaves.text c.args.source.now) (form_of c.args.expr.now)) (c.loop-next.member.start + 1) c.args.k (sym c.peek.ensures.answer ∙ w.in_default.is)
+    ] in
+    sym (backs_here (concordance (g.C.CountedLeaves.text c.args.source.now) (form_of c.args.expr.now)) (concordance_rises (g.C.CountedLeaves.text c.args.source.now) (form_of c.args.expr.now)) c.args.k c.loop-next.member has c.loop-next.invariant.near later) ∙ c.loop-next.invariant.answer
+
+pub reading::node_end-returns-in_err-member-clause-answer : goal.reading::node_end-returns-in_err-member-clause-answer
+reading::node_end-returns-in_err-member-clause-answer g t c =
+    let r = sym (ends_none (concordance (g.C.CountedLeaves.text c.args.source.now) (form_of c.args.expr.now)) (concordance_rises (g.C.CountedLeaves.text c.args.source.now) (form_of c.args.expr.now)) (start_at c.args.places.now) c.args.k (sym c.in_err-member.ensures.answer)) in
+    search rules
+
+pub reading::node_end-loop-member-init : goal.reading::node_end-loop-member-init
+reading::node_end-loop-member-init g t c =
+    let first = first_left (concordance (g.C.CountedLeaves.text c.args.source.now) (form_of c.args.expr.now)) (concordance_rises (g.C.CountedLeaves.text c.args.source.now) (form_of c.args.expr.now)) (start_at c.args.places.now) c.in_ok-member.member (sym c.in_ok-member.ensures.answer) in
+    record {
+      stands = c.start.ensures.stands;
+      at = c.in_ok-member.ensures.moved;
+      found = first_itself (concordance (g.C.CountedLeaves.text c.args.source.now) (form_of c.args.expr.now)) (concordance_rises (g.C.CountedLeaves.text c.args.source.now) (form_of c.args.expr.now)) c.in_ok-member.member first.member;
+      counted = c.start.ensures.counted;
+      cost = c.start.ensures.cost;
+      answer = ends_from_first (concordance (g.C.CountedLeaves.text c.args.source.now) (form_of c.args.expr.now)) (concordance_rises (g.C.CountedLeaves.text c.args.source.now) (form_of c.args.expr.now)) (start_at c.args.places.now) c.args.k c.in_ok-member.member first;
+      within = c.in_ok-member.ensures.within;
+    }
+
+pub reading::node_end-returns-in_err-member-2-clause-answer : goal.reading::node_end-returns-in_err-member-2-clause-answer
+reading::node_end-returns-in_err-member-2-clause-answer g t c =
+    let starts : c.loop-member.member.start ≡ c.member.inside.start = sym (ap (λ (x : Extent). x.start) c.member.view_is) in
+    let ends : c.loop-member.member.end ≡ c.member.inside.end = sym (ap (λ (x : Extent). x.end) c.member.view_is) in
+    let at = c.loop-member.invariant.at in
+    let has = first_member (concordance (g.C.CountedLeaves.text c.args.source.now) (form_of c.args.expr.now)) c.loop-member.member.start c.loop-member.member c.loop-member.invariant.found in
+    let short : c.loop-member.member.end < c.args.k = omega (arith, c.loop-member-test.true) in
+    let none : None ≡ first_start (concordance (g.C.CountedLeaves.text c.args.source.now) (form_of c.args.expr.now)) (c.loop-member.member.start + 1) = subst (λ n. None ≡ first_start (members_from (concordance (g.C.CountedLeaves.text c.args.source.now) (form_of c.args.expr.now)) (start_at c.loop-member.places)) (n + 1)) (sym starts) c.in_err-member-2.ensures.answer ∙ agrees_at (concordance (g.C.CountedLeaves.text c.args.source.now) (form_of c.args.expr.now)) (start_at c.loop-member.places) (c.loop-member.member.start + 1) (omega arith) in
+    let r = sym (ends_over (concordance (g.C.CountedLeaves.text c.args.source.now) (form_of c.args.expr.now)) (concordance_rises (g.C.CountedLeaves.text c.args.source.now) (form_of c.args.expr.now)) c.args.k c.loop-member.member has short (sym none)) ∙ c.loop-member.invariant.answer in
+    search rules
+
+pub reading::node_end-loop-member-smaller : goal.reading::node_end-loop-member-smaller
+reading::node_end-loop-member-smaller g t c =
+    let starts : c.loop-member.member.start ≡ c.member.inside.start = sym (ap (λ (x : Extent). x.start) c.member.view_is) in
+    let ends : c.loop-member.member.end ≡ c.member.inside.end = sym (ap (λ (x : Extent). x.end) c.member.view_is) in
+    let at = c.loop-member.invariant.at in
+    let has = first_member (concordance (g.C.CountedLeaves.text c.args.source.now) (form_of c.args.expr.now)) c.loop-member.member.start c.loop-member.member c.loop-member.invariant.found in
+    let found : Some c.in_ok-member-2.member ≡ first_start (concordance (g.C.CountedLeaves.text c.args.source.now) (form_of c.args.expr.now)) (c.loop-member.member.start + 1) = subst (λ n. Some c.in_ok-member-2.member ≡ first_start (members_from (concordance (g.C.CountedLeaves.text c.args.source.now) (form_of c.args.expr.now)) (start_at c.loop-member.places)) (n + 1)) (sym starts) c.in_ok-member-2.ensures.answer ∙ agrees_at (concordance (g.C.CountedLeaves.text c.args.source.now) (form_of c.args.expr.now)) (start_at c.loop-member.places) (c.loop-member.member.start + 1) (omega arith) in
+    let next = first_found (concordance (g.C.CountedLeaves.text c.args.source.now) (form_of c.args.expr.now)) (concordance_rises (g.C.CountedLeaves.text c.args.source.now) (form_of c.args.expr.now)) (c.loop-member.member.start + 1) c.in_ok-member-2.member (sym found) in
+    let later = next.left in
+    let within = c.in_ok-member-2.ensures.within in
+    let proper = proper_text (g.C.CountedLeaves.text c.args.source.now) (form_of c.args.expr.now) c.in_ok-member-2.member next.member in
+    omega arith
+
+pub reading::node_end-loop-member-preserved : goal.reading::node_end-loop-member-preserved
+reading::node_end-loop-member-preserved g t c =
+    let starts : c.loop-member.member.start ≡ c.member.inside.start = sym (ap (λ (x : Extent). x.start) c.member.view_is) in
+    let ends : c.loop-member.member.end ≡ c.member.inside.end = sym (ap (λ (x : Extent). x.end) c.member.view_is) in
+    let at = c.loop-member.invariant.at in
+    let has = first_member (concordance (g.C.CountedLeaves.text c.args.source.now) (form_of c.args.expr.now)) c.loop-member.member.start c.loop-member.member c.loop-member.invariant.found in
+    let found : Some c.in_ok-member-2.member ≡ first_start (concordance (g.C.CountedLeaves.text c.args.source.now) (form_of c.args.expr.now)) (c.loop-member.member.start + 1) = subst (λ n. Some c.in_ok-member-2.member ≡ first_start (members_from (concordance (g.C.CountedLeaves.text c.args.source.now) (form_of c.args.expr.now)) (start_at c.loop-member.places)) (n + 1)) (sym starts) c.in_ok-member-2.ensures.answer ∙ agrees_at (concordance (g.C.CountedLeaves.text c.args.source.now) (form_of c.args.expr.now)) (start_at c.loop-member.places) (c.loop-member.member.start + 1) (omega arith) in
+    let next = first_found (concordance (g.C.CountedLeaves.text c.args.source.now) (form_of c.args.expr.now)) (concordance_rises (g.C.CountedLeaves.text c.args.source.now) (form_of c.args.expr.now)) (c.loop-member.member.start + 1) c.in_ok-member-2.member (sym found) in
+    let later = next.left in
+    let short : c.loop-member.member.end < c.args.k = omega (arith, c.loop-member-test.true) in
+    record {
+      stands = c.start-in-loop-member.ensures.stands;
+      at = c.in_ok-member-2.ensures.moved;
+      found = first_itself (concordance (g.C.CountedLeaves.text c.args.source.now) (form_of c.args.expr.now)) (concordance_rises (g.C.CountedLeaves.text c.args.source.now) (form_of c.args.expr.now)) c.in_ok-member-2.member next.member;
+      counted = omega (arith, c.loop-member.invariant.counted, c.start-in-loop-member.ensures.counted);
+      cost = omega (arith, c.loop-member.invariant.cost, c.start-in-loop-member.ensures.cost);
+      answer = ends_onward (concordance (g.C.CountedLeaves.text c.args.source.now) (form_of c.args.expr.now)) (concordance_rises (g.C.CountedLeaves.text c.args.source.now) (form_of c.args.expr.now)) c.args.k c.loop-member.member c.in_ok-member-2.member has short next ∙ c.loop-member.invariant.answer;
+      within = c.in_ok-member-2.ensures.within;
+    }
+
+pub reading::node_end-returns-clause-answer : goal.reading::node_end-returns-clause-answer
+reading::node_end-returns-clause-answer g t c =
+    let starts : c.loop-member.member.start ≡ c.member.inside.start = sym (ap (λ (x : Extent). x.start) c.member.view_is) in
+    let ends : c.loop-member.member.end ≡ c.member.inside.end = sym (ap (λ (x : Extent). x.end) c.member.view_is) in
+    let at = c.loop-member.invariant.at in
+    let has = first_member (concordance (g.C.CountedLeaves.text c.args.source.now) (form_of c.args.expr.now)) c.loop-member.member.start c.loop-member.member c.loop-member.invariant.found in
+    let far : c.args.k ≤ c.loop-member.member.end = omega (arith, c.loop-member-test.false) in
+    sym (ends_here (concordance (g.C.CountedLeaves.text c.args.source.now) (form_of c.args.expr.now)) (concordance_rises (g.C.CountedLeaves.text c.args.source.now) (form_of c.args.expr.now)) c.args.k c.loop-member.member has far) ∙ c.loop-member.invariant.answer
+
+pub reading::start-returns-in-Width-clause-answer : goal.reading::start-returns-in-Width-clause-answer
+reading::start-returns-in-Width-clause-answer g t c =
+    c.width_first_start.ensures (g.C.CountedLeaves.text c.args.source.now) record { first_is = sym c.span.ensures.first; next_is = sym c.span.ensures.next } ∙ ap (λ l. first_start l c.args.k) (width_left (g.C.CountedLeaves.text c.args.source.now) (form_of c.args.expr.now) c.in-Width.width (form-Width c.args.expr.now c.in-Width.width c.in-Width.is) c.args.places.now c.requires.stands)
+
+pub reading::start-returns-in-Width-clause-within : goal.reading::start-returns-in-Width-clause-within
+reading::start-returns-in-Width-clause-within g t c =
+    within_first (g.C.CountedLeaves.text c.args.source.now) (width c.in-Width.width) c.requires.sound c.args.k c.width_first_start.result (c.width_first_start.ensures (g.C.CountedLeaves.text c.args.source.now) record { first_is = sym c.span.ensures.first; next_is = sym c.span.ensures.next })
+
+pub reading::start-returns-in-Some : goal.reading::start-returns-in-Some
+reading::start-returns-in-Some g t c =
+    let bounded = bounded_text (g.C.CountedLeaves.text c.args.source.now) (form_of c.args.expr.now) c.requires.sound in
+    let at = subst (IsFrontOf (concordance (g.C.CountedLeaves.text c.args.source.now) (form_of c.args.expr.now))) (sym c.front_of.ensures) c.requires.stands.front in
+    let told = subst (λ f. IsTold (concordance (g.C.CountedLeaves.text c.args.source.now) (form_of c.args.expr.now)) f c.args.k c.in-Some.front) c.front_of.ensures (c.in-Some.ensures.told (concordance (g.C.CountedLeaves.text c.args.source.now) (form_of c.args.expr.now)) (concordance_rises (g.C.CountedLeaves.text c.args.source.now) (form_of c.args.expr.now)) bounded at) in
+    let asked = c.in-Some.ensures.asked ∙ ap asked_of c.front_of.ensures in
+    let some = some_place (g.C.CountedLeaves.text c.args.source.now) (form_of c.args.expr.now) c.args.places.now (StandBelow (g.C.CountedLeaves.text c.args.source.now) (form_of c.args.expr.now) (drop 1 c.args.places.now)) c.requires.stands in
+    let front : front_of c.put_front.new.places ≡ c.in-Some.front = ap front_of c.put_front.ensures ∙ front_with c.args.places.now c.in-Some.front some in
+    let answer : c.member_of-member.result ≡ first_start (left_to (g.C.CountedLeaves.text c.args.source.now) (form_of c.args.expr.now) c.args.places.now) c.args.k = c.member_of-member.ensures ∙ told.answer in
+    let moved : start_at c.put_front.new.places ≡ start_or_end c.member_of-member.result = ap start_left front ∙ told.moved ∙ ap start_or_end (sym c.member_of-member.ensures) in
+    record {
+      answer = answer;
+      moved = omega arith;
+      within = within_left (g.C.CountedLeaves.text c.args.source.now) (form_of c.args.expr.now) c.requires.sound (start_at c.args.places.now) c.args.k c.member_of-member.result answer;
+      stands = subst (Stands (g.C.CountedLeaves.text c.args.source.now) (form_of c.args.expr.now)) (sym c.put_front.ensures) (restand_told (g.C.CountedLeaves.text c.args.source.now) (form_of c.args.expr.now) c.args.places.now c.in-Some.front c.requires.stands told.kept asked);
+      on = λ _. ap member_of front ∙ sym c.member_of-member.ensures;
+      counted = omega arith;
+      cost = omega (arith, ap (cost_left (g.C.CountedLeaves.text c.args.source.now) (g.C.CountedLeaves.most c.args.source.now) (form_of c.args.expr.now)) c.put_front.ensures, told_cost (g.C.CountedLeaves.text c.args.source.now) (g.C.CountedLeaves.most c.args.source.now) (form_of c.args.expr.now) c.args.places.now c.in-Some.front some asked);
+    }
+
+pub reading::start-returns-in-None : goal.reading::start-returns-in-None
+reading::start-returns-in-None g t c =
+    let unknown = subst (λ f. IsUnknown f c.args.k) c.front_of.ensures (c.in-None.ensures.unknown refl) in
+    let le = unknown_from (front_of c.args.places.now) c.args.k unknown in
+    let moved : start_at c.look.new.places ≡ start_or_end c.look.result = ap start_left c.look.ensures.front ∙ start_front c.look.result in
+    record {
+      answer = c.look.ensures.answer ∙ sym (agrees_at (concordance (g.C.CountedLeaves.text c.args.source.now) (form_of c.args.expr.now)) (start_at c.args.places.now) c.args.k le);
+      moved = omega arith;
+      within = within_first (g.C.CountedLeaves.text c.args.source.now) (form_of c.args.expr.now) c.requires.sound c.args.k c.look.result c.look.ensures.answer;
+      stands = c.look.ensures.stands;
+      on = λ _. ap member_of c.look.ensures.front ∙ member_front c.look.result;
+      counted = c.look.ensures.counted;
+      cost = c.look.ensures.cost;
+    }

@@ -1,0 +1,16 @@
+mod Members
+mod FrontLemmas
+mod Answers
+mod Standings
+mod BothLemmas
+mod SeqLemmas
+mod EndLemmas
+mod TellLemmas
+mod ContainRules
+mod OperandRules
+mod FormRules
+mod NewStands
+mod ListingLemmas
+mod CostLemmas
+mod NewCost
+mod Worked
