@@ -1,4 +1,4 @@
--- For proofs alone: the part at the front of a text, as the code sees it.
+-- The part at the front of a text, as the code sees it.
 use Rattle.std.specs.Prelude.{ℕ, List, [], ◌∷◌, map, drop, length, take_while, Option, Some, None, if◌then◌else◌}
 use Rattle.std.specs.Char.{to_ascii_lowercase}
 use Rattle.gcl_model.specs.Tokens.{Part, first_part, open_token, close_token, is_tag_byte, starts_with_byte}

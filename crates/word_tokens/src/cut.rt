@@ -75,8 +75,8 @@ fn is_lower_case_of(bytes: &[u8], name: &[u8]) -> bool
             .all(|(b, n)| *b == n.to_ascii_lowercase())
 }
 
-/// Whether the text is the name in lower case, between these bytes.
-fn is_spelled(text: &[u8], opening: &[u8], name: &[u8], closing: &[u8]) -> bool
+/// Whether the text is the name in lower case, between these bytes: `<b>` is the name `B` between `<` and `>`.
+pub fn is_spelled(text: &[u8], opening: &[u8], name: &[u8], closing: &[u8]) -> bool
     ensures { IsTrue result ↔ text.now ≡ opening.now ++ map to_ascii_lowercase name.now ++ closing.now }
 {
     let Some(behind) = text.strip_prefix(opening) else {

@@ -16,7 +16,7 @@ use memchr::memchr2;
 
 /// What a text begins with. The bytes stand as in the text, in either case.
 #[derive(Clone, Copy)]
-pub(crate) enum Lexeme<'a> {
+pub enum Lexeme<'a> {
     /// A word.
     Word(&'a [u8]),
     /// The name in `<name ..>`.
@@ -125,7 +125,7 @@ fn tag_behind(bytes: &[u8]) -> Option<(Lexeme<'_>, usize)>
 }
 
 /// The lexeme at the front of the text, and how many bytes it has.
-pub(crate) fn first_lexeme(text: &[u8]) -> (Lexeme<'_>, usize)
+pub fn first_lexeme(text: &[u8]) -> (Lexeme<'_>, usize)
     requires { 0 < length text.now }
     ensures { as_part result ≡ part_of text.now }
 {

@@ -7,7 +7,8 @@
 //!
 //! The layers above use `tokens`, `token_text` (the same in two blocks of memory), `TokenCursor` (one at a time),
 //! `token_count`, `is_token` and the law that each token of a text is a token. Of `To <B x="1">be</B >` the tokens are
-//! `to`, `<b>`, `be` and `</b>`.
+//! `to`, `<b>`, `be` and `</b>`. Who needs to know where a token comes from goes by `first_lexeme`, the step that all of
+//! these take.
 #![tactic(auto)]
 
 mod cursor;
@@ -17,9 +18,10 @@ mod laws;
 mod lexeme;
 
 pub use cursor::TokenCursor;
-pub use cut::{is_token, token_count, token_text, tokens};
+pub use cut::{is_spelled, is_token, token_count, token_text, tokens};
 pub use joined::TokenText;
 pub use laws::tokens_are_tokens;
+pub use lexeme::{Lexeme, first_lexeme};
 
 #[cfg(test)]
 mod tests;

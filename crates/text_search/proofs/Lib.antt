@@ -1,0 +1,7 @@
+pub mod NameLemmas
+pub mod TableLemmas
+pub mod NameTables
+pub mod PlaceSearch
+pub mod FileLemmas
+pub mod ListLemmas
+mod Worked

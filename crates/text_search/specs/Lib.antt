@@ -1,0 +1,5 @@
+pub mod FileTexts
+pub mod Names
+pub mod Laws
+pub mod Tables
+pub mod Kept

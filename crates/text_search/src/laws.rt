@@ -1,0 +1,7 @@
+ghost use Rattle.text_search.specs.Laws.{NamesDecideTheList, NamesDecideTheCost};
+
+/// Of a text, an expression asks for the words that it names, and for no others.
+pub fn names_decide()
+    ensures list { NamesDecideTheList }
+    ensures cost { NamesDecideTheCost }
+{}

@@ -1,0 +1,24 @@
+//! One query over one text, which is searched by itself.
+//!
+//! A `QueryText` keeps of a file the addresses of those tokens that an expression names, from one pass over its bytes, and
+//! is the `Leaves` of an evaluator. Contracts see it as the file's text with these words alone (`query_text`). The layer
+//! above uses `answers`, a page of the concordance list over the whole file, and `answer_count`; the laws say that the
+//! list and its cost depend on the named words alone. Of `to be or not to be` the list of `"to".."be"` is (1, 2), (5, 6).
+#![tactic(auto)]
+
+mod bucket;
+mod laws;
+mod leaves;
+mod listing;
+mod names;
+mod search;
+mod table;
+mod term_places;
+mod text;
+
+pub use laws::names_decide;
+pub use listing::{answer_count, answers, answers_on, count_on};
+pub use text::QueryText;
+
+#[cfg(test)]
+mod tests;

@@ -1,0 +1,143 @@
+ghost use Rattle.gcl_model.specs.FormOf.{form_of};
+ghost use Rattle.gcl_model.specs.WellFormed.{IsWellFormed};
+
+use crate::{QueryText, answer_count, answers, names_decide};
+use gcl_model::{Bytes, Expr, IntervalList, TokenList, file_end, file_start};
+use gcl_parser::parse;
+use plain_text::{of_tokens, slow_list};
+use std::alloc::{AllocError, Global};
+use std::process::Abort;
+use std::test::Fail;
+use word_tokens::tokens;
+
+/// The tokens of a file between its boundary tokens.
+fn file_tokens(alloc: Global, bytes: &[u8]) -> Result<TokenList, AllocError> {
+    let mut list = TokenList::new(alloc);
+    list.push(Bytes::copy_of(alloc, file_start())?)?;
+    for token in tokens(alloc, bytes)?.as_slice() {
+        list.push(token.copy()?)?;
+    }
+    list.push(Bytes::copy_of(alloc, file_end())?)?;
+    Ok(list)
+}
+
+/// The list of an expression over a file by looking at every pair of addresses.
+fn plain_list(
+    rt: &impl Abort,
+    alloc: Global,
+    bytes: &[u8],
+    expr: &Expr,
+) -> Result<IntervalList, AllocError>
+    requires { IsWellFormed (form_of expr.now) }
+{
+    let list = file_tokens(alloc, bytes)?;
+    assert!(rt; list.len() < 1000);
+    let text = of_tokens(alloc, 0, &list)?;
+    slow_list(alloc, expr, &text)
+}
+
+/// The list over the named words, in pages of this many members.
+fn paged_list(
+    alloc: Global,
+    text: &QueryText<'_>,
+    expr: &Expr,
+    page: u64,
+) -> Result<IntervalList, AllocError>
+    requires { IsWellFormed (form_of expr.now) }
+{
+    let mut list = IntervalList::new(alloc);
+    let mut from = 0;
+    for _ in 0..1000u64 {
+        let members = answers(alloc, text, expr, from.min(1000), page)?;
+        for member in members.as_slice() {
+            list.push(*member)?;
+            from = member.start.saturating_add(1);
+        }
+        if (members.len() as u64) < page {
+            break;
+        }
+    }
+    Ok(list)
+}
+
+/// A query over a file has the members of the plain list, in one page and in pages of two, and their number.
+fn compare(rt: &impl Abort, alloc: Global, bytes: &[u8], query: &[u8]) -> Result<(), Fail> {
+    let expr = parse(alloc, query)?;
+    assert!(rt; bytes.len() < 1000);
+    let members = plain_list(rt, alloc, bytes, &expr)?;
+    let text = QueryText::of(alloc, bytes, &expr)?;
+    let page = answers(alloc, &text, &expr, 0, 1000)?;
+    assert_eq!(rt; page.as_slice(), members.as_slice(), "{query:?} {bytes:?}");
+    let paged = paged_list(alloc, &text, &expr, 2)?;
+    assert_eq!(rt; paged.as_slice(), members.as_slice(), "{query:?} {bytes:?}");
+    assert_eq!(rt;
+        answer_count(&text, &expr),
+        members.len() as u64,
+        "{query:?} {bytes:?}"
+    );
+    Ok(())
+}
+
+const FILES: [&[u8]; 8] = [
+    b"",
+    b" .. ",
+    b"to be or not to be",
+    b"<p>One two</p>\n<p>three\nfour <br/> five</p>\n",
+    b"To be,\r\nTO <B/> caf\xc3\xa9 \xff be\r\n",
+    b"<a <b> to</b to <b/>be",
+    b"<s>to</s><s>be to</s><t>be</t>",
+    b"</b><b><b>to</b></b> be",
+];
+
+const QUERIES: [&[u8]; 18] = [
+    b"\"to\"",
+    b"\"be\"",
+    b"\"nowhere\"",
+    b"\"<br>\" + \"</br>\"",
+    b"\"to\" .. \"be\"",
+    b"\"be\" .. \"to\"",
+    b"\"to\" ^ \"be\"",
+    b"\"to be\"",
+    b"\"caf\xc3\xa9 \xff\"",
+    b"[3]",
+    b"(\"<p>\" .. \"</p>\") > \"four\"",
+    b"(\"<s>\" .. \"</s>\") /> \"be\"",
+    b"\"to\" < (\"<b>\" .. \"</b>\")",
+    b"\"to\" /< (\"<s>\" .. \"</s>\")",
+    b"\"<file!>\" .. \"</file!>\"",
+    b"(\"to\" + \"to\") .. (\"be\" + \"two\" + \"be\")",
+    b"[2] > (\"to\" + \"one\")",
+    b"(\"<b>\" .. \"</b>\") .. (\"to\" ^ \"be\" ^ \"be\")",
+];
+
+#[test]
+fn queries_have_the_members_of_the_plain_list(rt: HostRuntime) -> Result<(), Fail> {
+    names_decide();
+    for bytes in FILES {
+        for query in QUERIES {
+            compare(&rt, rt.alloc(), bytes, query)?;
+        }
+    }
+    Ok(())
+}
+
+/// Names of each length up to 70, of which every seventh stands in the file.
+#[test]
+fn many_names_are_told_apart(rt: HostRuntime) -> Result<(), Fail> {
+    let alloc = rt.alloc();
+    let mut query = Vec::new(alloc);
+    let mut file = Vec::new(alloc);
+    query.extend_from_slice(b"\"x\"")?;
+    for n in 0..71u8 {
+        query.extend_from_slice(b" + \"")?;
+        for _ in 0..n {
+            query.push(b'a')?;
+            if n % 7 == 0 {
+                file.push(b'A')?;
+            }
+        }
+        query.extend_from_slice(b"y\"")?;
+        file.extend_from_slice(b"y ")?;
+    }
+    compare(&rt, alloc, &file, &query)
+}

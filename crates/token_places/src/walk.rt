@@ -1,0 +1,67 @@
+ghost use Rattle.std.specs.Prelude.{◌≡◌, length, slice_index_or};
+ghost use Rattle.token_places.specs.Places.{file_places, stretch};
+
+use crate::cursor::PlaceCursor;
+use crate::place::Place;
+use std::marker::Model;
+
+/// The places of the addresses of a file that is searched by itself. However many rising addresses are asked for, the text is gone
+/// through once.
+#[derive(Drop)]
+pub struct PlaceWalk<'a> {
+    bytes: &'a [u8],
+    // the address that was reached, and its place
+    address: u64,
+    place: Place,
+    // the tokens behind it
+    cursor: PlaceCursor<'a>,
+}
+
+impl<'a> Model for PlaceWalk<'a> {
+    ghost use Rattle.std.specs.Prelude.{List, ℕ};
+    ghost use Rattle.token_places.specs.Walks.{IsWalk};
+
+    ghost Value = { List ℕ };
+
+    ghost view = { λ w. w.bytes.now };
+
+    ghost invariant = { λ w. IsWalk w.bytes.now w.address w.place w.cursor };
+}
+
+impl<'a> PlaceWalk<'a> {
+    /// Before the first address of the file with this text.
+    pub fn new(bytes: &'a [u8]) -> Self
+        ensures { result ≡ bytes.now }
+    {
+        PlaceWalk {
+            bytes,
+            address: 0,
+            place: Place { from: 0, to: 0 },
+            cursor: PlaceCursor::new(bytes),
+        }
+    }
+
+    /// The place of an address: of `to be` that of 2 is 3 to 5. An address behind the last one has the empty place at the end. Where the
+    /// address is below the one that was asked for last, the walk begins again.
+    pub fn place_at(&mut self, address: u64) -> Place
+        ensures place { result ≡ slice_index_or (file_places self.old) address (stretch (length self.old) (length self.old)) }
+        ensures same { self.new ≡ self.old }
+    {
+        if address < self.address {
+            self.address = 0;
+            self.place = Place { from: 0, to: 0 };
+            self.cursor = PlaceCursor::new(self.bytes);
+        }
+        while self.address < address {
+            let Some(token) = self.cursor.next() else {
+                return Place {
+                    from: self.bytes.len(),
+                    to: self.bytes.len(),
+                };
+            };
+            self.place = token.place();
+            self.address += 1;
+        }
+        self.place
+    }
+}
