@@ -1,0 +1,3 @@
+pub mod WrittenLemmas
+pub mod WriterLemmas
+pub mod MemberLemmas

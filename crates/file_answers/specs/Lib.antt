@@ -1,0 +1,4 @@
+pub mod Outputs
+pub mod Passing
+pub mod Searched
+pub mod Written

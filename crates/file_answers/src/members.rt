@@ -1,0 +1,83 @@
+ghost use Rattle.std.specs.Prelude.{◌≡◌, ◌+◌, ◌*◌, ◌<◌, ◌≤◌, ◌++◌, [], length, take, IfOk, IfSome, OnOk};
+ghost use Rattle.outside.specs.Causes.{CountsWriteFault};
+ghost use Rattle.gcl_model.specs.Access.{first_start};
+ghost use Rattle.gcl_model.specs.Cost.{cost};
+ghost use Rattle.gcl_model.specs.FormOf.{form_of};
+ghost use Rattle.gcl_model.specs.Limits.{far};
+ghost use Rattle.gcl_model.specs.Meaning.{concordance};
+ghost use Rattle.gcl_model.specs.WellFormed.{IsWellFormed};
+ghost use Rattle.file_answers.specs.Searched.{passages_of};
+ghost use Rattle.file_answers.specs.Written.{GetsPart, Moves};
+
+use crate::member_places::MemberPlaces;
+use crate::mode::Mode;
+use crate::writer::PassageWriter;
+use gcl_eval::first_start;
+use gcl_model::{Expr, Interval, Leaves, Ledger, Steps};
+use outside::{Sink, WriteError};
+
+/// What is asked of a file: an expression, how many of its answers count at most, and what is written of them.
+#[derive(Clone, Copy)]
+pub struct Asking<'a> {
+    pub expr: &'a Expr,
+    pub most: u64,
+    pub mode: Mode,
+}
+
+/// The first member that starts at or after an address.
+pub fn next_member<L: Leaves, S: Ledger>(
+    expr: &Expr,
+    leaves: &L,
+    from: u64,
+    steps: &mut Steps<S>,
+) -> Option<Interval>
+    requires well_formed { IsWellFormed (form_of expr.now) }
+    requires below { from < far }
+    ensures answer { result ≡ first_start (concordance (L.text leaves.now) (form_of expr.now)) from }
+    ensures below { IfSome result (λ a. a.start + 1 < far) }
+    ensures ordered { IfSome result (λ a. a.start ≤ a.end) }
+    ensures counted { steps.old ≤ steps.new }
+    ensures cost { steps.new ≤ steps.old + cost (L.text leaves.now) (L.most leaves.now) (form_of expr.now) }
+{
+    // the span tells that addresses end
+    let _span = leaves.span();
+    first_start(expr, leaves, from, steps)
+}
+
+/// Puts the text of the first answers, and says how many there are. Memory is that of the file and a piece, however many they are.
+pub fn put_answers<L: Leaves, S: Ledger, W: PassageWriter, K: Sink>(
+    sink: &mut K,
+    out: &mut Vec<u8>,
+    leaves: &L,
+    steps: &mut Steps<S>,
+    asking: &Asking<'_>,
+    bytes: &[u8],
+    writer: &mut W,
+) -> Result<u64, WriteError>
+    requires well_formed { IsWellFormed (form_of asking.now.expr.now) }
+    requires size { W.size writer.old ≡ length bytes.now }
+    requires fresh { W.reached writer.old ≡ 0 }
+    requires nothing { W.text writer.old [] ≡ [] }
+    ensures moves { OnOk result (Moves (K.written sink.old) (K.written sink.new)
+        (out.old.items ++ W.text writer.old (passages_of bytes.now (take asking.now.most (concordance (L.text leaves.now) (form_of asking.now.expr.now))))) out.new.items) }
+    ensures part { GetsPart (K.written sink.old) (K.written sink.new)
+        (out.old.items ++ W.text writer.old (passages_of bytes.now (take asking.now.most (concordance (L.text leaves.now) (form_of asking.now.expr.now))))) }
+    ensures count { IfOk result (λ n. n ≡ length (take asking.now.most (concordance (L.text leaves.now) (form_of asking.now.expr.now)))) }
+    ensures cost { steps.new ≤ steps.old + (length (take asking.now.most (concordance (L.text leaves.now) (form_of asking.now.expr.now))) + 1)
+        * cost (L.text leaves.now) (L.most leaves.now) (form_of asking.now.expr.now) }
+    ensures counts { CountsWriteFault (K.faults sink.old) (K.faults sink.new) result }
+{
+    let mut places = MemberPlaces::new(bytes);
+    let most = asking.most;
+    let mut put = 0;
+    let mut from = 0;
+    while put < most {
+        let Some(member) = next_member(asking.expr, leaves, from, steps) else {
+            return Ok(put);
+        };
+        writer.put(sink, out, places.passage_of(member))?;
+        put += 1;
+        from = member.start + 1;
+    }
+    Ok(put)
+}

@@ -1,0 +1,174 @@
+ghost use Rattle.std.specs.Prelude.{◌≡◌, ◌+◌, ◌*◌, ◌≤◌, ◌++◌, [], length, nat_lt, take, IfOk, OnOk};
+ghost use Rattle.std.specs.Io.KnownBytes.{Appends};
+ghost use Rattle.outside.specs.Causes.{CountsWriteFault};
+ghost use Rattle.gcl_model.specs.Cost.{cost};
+ghost use Rattle.gcl_model.specs.FormOf.{form_of};
+ghost use Rattle.gcl_model.specs.Meaning.{concordance};
+ghost use Rattle.gcl_model.specs.WellFormed.{IsWellFormed};
+ghost use Rattle.passages.specs.Texts.{count_text, name_text};
+ghost use Rattle.file_answers.specs.Outputs.{output_of, where_some};
+ghost use Rattle.file_answers.specs.Searched.{passages_of};
+ghost use Rattle.file_answers.specs.Written.{GetsPart};
+
+use crate::handing::write_all;
+use crate::line_writer::LineWriter;
+use crate::members::{Asking, next_member, put_answers};
+use crate::mode::Mode;
+use crate::part_writer::PartWriter;
+use crate::writer::PassageWriter;
+use gcl_eval::count;
+use gcl_model::{Bytes, Leaves, Ledger, Steps};
+use outside::{Sink, WriteError};
+use passages::{Shown, put_count, put_name};
+
+/// A file's name, and what of it stands in front of each line.
+#[derive(Drop)]
+pub struct Label {
+    pub name: Bytes,
+    pub shown: Shown,
+}
+
+/// Hands over all that is held back.
+fn finish<K: Sink>(sink: &mut K, out: &mut Vec<u8>) -> Result<(), WriteError>
+    ensures written { OnOk result (Appends (K.written sink.old) (K.written sink.new) out.old.items) }
+    ensures part { GetsPart (K.written sink.old) (K.written sink.new) out.old.items }
+    ensures empty { OnOk result (out.new.items ≡ []) }
+    ensures counts { CountsWriteFault (K.faults sink.old) (K.faults sink.new) result }
+{
+    write_all(sink, out.as_slice())?;
+    out.clear();
+    Ok(())
+}
+
+/// Writes the passages of the answers, and says whether there is an answer.
+fn write_passages<L: Leaves, S: Ledger, W: PassageWriter + Drop, K: Sink>(
+    sink: &mut K,
+    out: &mut Vec<u8>,
+    leaves: &L,
+    steps: &mut Steps<S>,
+    asking: &Asking<'_>,
+    bytes: &[u8],
+    mut writer: W,
+) -> Result<bool, WriteError>
+    requires well_formed { IsWellFormed (form_of asking.now.expr.now) }
+    requires empty { out.old.items ≡ [] }
+    requires size { W.size writer ≡ length bytes.now }
+    requires fresh { W.reached writer ≡ 0 }
+    requires nothing { W.text writer [] ≡ [] }
+    ensures written { OnOk result (Appends (K.written sink.old) (K.written sink.new)
+        (W.text writer (passages_of bytes.now (take asking.now.most (concordance (L.text leaves.now) (form_of asking.now.expr.now)))))) }
+    ensures part { GetsPart (K.written sink.old) (K.written sink.new)
+        (W.text writer (passages_of bytes.now (take asking.now.most (concordance (L.text leaves.now) (form_of asking.now.expr.now))))) }
+    ensures some { IfOk result (λ some. some ≡ nat_lt 0 (length (take asking.now.most (concordance (L.text leaves.now) (form_of asking.now.expr.now))))) }
+    ensures empty { OnOk result (out.new.items ≡ []) }
+    ensures cost { steps.new ≤ steps.old + (length (concordance (L.text leaves.now) (form_of asking.now.expr.now)) + 1)
+        * cost (L.text leaves.now) (L.most leaves.now) (form_of asking.now.expr.now) }
+    ensures counts { CountsWriteFault (K.faults sink.old) (K.faults sink.new) result }
+{
+    let count = put_answers(sink, out, leaves, steps, asking, bytes, &mut writer)?;
+    finish(sink, out)?;
+    Ok(count > 0)
+}
+
+/// Writes how many answers there are, and says whether there is one.
+fn write_count<L: Leaves, S: Ledger, K: Sink>(
+    sink: &mut K,
+    out: &mut Vec<u8>,
+    leaves: &L,
+    steps: &mut Steps<S>,
+    asking: &Asking<'_>,
+    shown: &Shown,
+) -> Result<bool, WriteError>
+    requires well_formed { IsWellFormed (form_of asking.now.expr.now) }
+    requires empty { out.old.items ≡ [] }
+    ensures written { OnOk result (Appends (K.written sink.old) (K.written sink.new)
+        (count_text shown.now (length (take asking.now.most (concordance (L.text leaves.now) (form_of asking.now.expr.now)))))) }
+    ensures part { GetsPart (K.written sink.old) (K.written sink.new)
+        (count_text shown.now (length (take asking.now.most (concordance (L.text leaves.now) (form_of asking.now.expr.now))))) }
+    ensures some { IfOk result (λ some. some ≡ nat_lt 0 (length (take asking.now.most (concordance (L.text leaves.now) (form_of asking.now.expr.now))))) }
+    ensures empty { OnOk result (out.new.items ≡ []) }
+    ensures cost { steps.new ≤ steps.old + (length (concordance (L.text leaves.now) (form_of asking.now.expr.now)) + 1)
+        * cost (L.text leaves.now) (L.most leaves.now) (form_of asking.now.expr.now) }
+    ensures counts { CountsWriteFault (K.faults sink.old) (K.faults sink.new) result }
+{
+    let count = count(asking.expr, leaves, steps).min(asking.most);
+    put_count(out, shown, count)?;
+    finish(sink, out)?;
+    Ok(count > 0)
+}
+
+/// Whether there is an answer.
+fn has_answer<L: Leaves, S: Ledger>(leaves: &L, steps: &mut Steps<S>, asking: &Asking<'_>) -> bool
+    requires well_formed { IsWellFormed (form_of asking.now.expr.now) }
+    ensures some { result ≡ nat_lt 0 (length (take asking.now.most (concordance (L.text leaves.now) (form_of asking.now.expr.now)))) }
+    ensures cost { steps.new ≤ steps.old + (length (concordance (L.text leaves.now) (form_of asking.now.expr.now)) + 1)
+        * cost (L.text leaves.now) (L.most leaves.now) (form_of asking.now.expr.now) }
+{
+    asking.most > 0 && next_member(asking.expr, leaves, 0, steps).is_some()
+}
+
+/// Writes the file's name, where there is an answer.
+fn write_name<L: Leaves, S: Ledger, K: Sink>(
+    sink: &mut K,
+    out: &mut Vec<u8>,
+    leaves: &L,
+    steps: &mut Steps<S>,
+    asking: &Asking<'_>,
+    name: &[u8],
+) -> Result<bool, WriteError>
+    requires well_formed { IsWellFormed (form_of asking.now.expr.now) }
+    requires empty { out.old.items ≡ [] }
+    ensures written { OnOk result (Appends (K.written sink.old) (K.written sink.new)
+        (where_some (take asking.now.most (concordance (L.text leaves.now) (form_of asking.now.expr.now))) (name_text name.now))) }
+    ensures part { GetsPart (K.written sink.old) (K.written sink.new)
+        (where_some (take asking.now.most (concordance (L.text leaves.now) (form_of asking.now.expr.now))) (name_text name.now)) }
+    ensures some { IfOk result (λ some. some ≡ nat_lt 0 (length (take asking.now.most (concordance (L.text leaves.now) (form_of asking.now.expr.now))))) }
+    ensures empty { OnOk result (out.new.items ≡ []) }
+    ensures cost { steps.new ≤ steps.old + (length (concordance (L.text leaves.now) (form_of asking.now.expr.now)) + 1)
+        * cost (L.text leaves.now) (L.most leaves.now) (form_of asking.now.expr.now) }
+    ensures counts { CountsWriteFault (K.faults sink.old) (K.faults sink.new) result }
+{
+    if !has_answer(leaves, steps, asking) {
+        return Ok(false);
+    }
+    put_name(out, name)?;
+    finish(sink, out)?;
+    Ok(true)
+}
+
+/// Writes what is asked of a file, and says whether it has an answer. `leaves` are the file's words, and `bytes` the file.
+pub fn write_file<L: Leaves, S: Ledger, K: Sink>(
+    sink: &mut K,
+    out: &mut Vec<u8>,
+    leaves: &L,
+    steps: &mut Steps<S>,
+    asking: &Asking<'_>,
+    label: &Label,
+    bytes: &[u8],
+) -> Result<bool, WriteError>
+    requires well_formed { IsWellFormed (form_of asking.now.expr.now) }
+    requires empty { out.old.items ≡ [] }
+    ensures written { OnOk result (Appends (K.written sink.old) (K.written sink.new)
+        (output_of asking.now.mode label.now.shown label.now.name bytes.now (take asking.now.most (concordance (L.text leaves.now) (form_of asking.now.expr.now))))) }
+    ensures part { GetsPart (K.written sink.old) (K.written sink.new)
+        (output_of asking.now.mode label.now.shown label.now.name bytes.now (take asking.now.most (concordance (L.text leaves.now) (form_of asking.now.expr.now)))) }
+    ensures some { IfOk result (λ some. some ≡ nat_lt 0 (length (take asking.now.most (concordance (L.text leaves.now) (form_of asking.now.expr.now))))) }
+    ensures empty { OnOk result (out.new.items ≡ []) }
+    ensures cost { steps.new ≤ steps.old + (length (concordance (L.text leaves.now) (form_of asking.now.expr.now)) + 1)
+        * cost (L.text leaves.now) (L.most leaves.now) (form_of asking.now.expr.now) }
+    ensures counts { CountsWriteFault (K.faults sink.old) (K.faults sink.new) result }
+{
+    match asking.mode {
+        Mode::Lines => {
+            let writer = LineWriter::new(&label.shown, bytes);
+            write_passages(sink, out, leaves, steps, asking, bytes, writer)
+        }
+        Mode::Answers => {
+            let writer = PartWriter::new(&label.shown, bytes);
+            write_passages(sink, out, leaves, steps, asking, bytes, writer)
+        }
+        Mode::Count => write_count(sink, out, leaves, steps, asking, &label.shown),
+        Mode::Names => write_name(sink, out, leaves, steps, asking, label.name.as_slice()),
+        Mode::Quiet => Ok(has_answer(leaves, steps, asking)),
+    }
+}

@@ -1,0 +1,63 @@
+ghost use Rattle.std.specs.Prelude.{◌≡◌, ◌+◌, ◌≤◌, length, IfOk};
+ghost use Rattle.outside.specs.Causes.{CountsFileFault, HasFileCause};
+
+use outside::{FileError, Files, Loaded, Source};
+
+/// How many bytes the source is asked for in one call.
+const PIECE: usize = 65_536;
+
+/// Files, with a source under the name `-`. What they hold is not told.
+#[derive(Drop)]
+pub struct WithInput<F, S> {
+    files: F,
+    source: S,
+}
+
+impl<F: Files, S: Source> WithInput<F, S> {
+    /// The source is read when `-` is loaded, to its end: a second load of it has no bytes.
+    pub fn new(files: F, source: S) -> Self {
+        WithInput { files, source }
+    }
+}
+
+/// Reads a source to its end, or one byte more than `most`.
+fn read_all<S: Source>(source: &mut S, most: u64, out: &mut Vec<u8>) -> Result<Loaded, FileError>
+    ensures whole { IfOk result (λ loaded. loaded ≡ Loaded.Whole → length out.new.items ≤ most) }
+    ensures long { IfOk result (λ loaded. loaded ≡ Loaded.Long → length out.new.items ≡ most + 1) }
+    ensures cause { HasFileCause (S.faults source.old) (S.faults source.new) result }
+    ensures counts { CountsFileFault (S.faults source.old) (S.faults source.new) result }
+{
+    out.clear();
+    let mut piece = [0u8; PIECE];
+    while out.len() as u64 <= most {
+        let left = most - out.len() as u64;
+        let room = left.min(PIECE as u64 - 1) as usize + 1;
+        let count = source.read(&mut piece[..room])?;
+        if count == 0 {
+            return Ok(Loaded::Whole);
+        }
+        out.extend_from_slice(&piece[..count])?;
+    }
+    Ok(Loaded::Long)
+}
+
+impl<F: Files, S: Source> Files for WithInput<F, S> {
+    ghost use Rattle.std.specs.Prelude.{None, ◌+◌};
+
+    ghost held = { λ _. None };
+
+    ghost faults = { λ w. F.faults w.files + S.faults w.source };
+
+    ghost unkept = { λ w. F.unkept w.files };
+
+    fn load(&mut self, name: &[u8], most: u64, out: &mut Vec<u8>) -> Result<Loaded, FileError> {
+        if name == b"-".as_slice() {
+            return read_all(&mut self.source, most, out);
+        }
+        self.files.load(name, most, out)
+    }
+
+    fn keep(&mut self, name: &[u8], bytes: &[u8]) -> Result<(), FileError> {
+        self.files.keep(name, bytes)
+    }
+}

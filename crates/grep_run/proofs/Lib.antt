@@ -1,0 +1,4 @@
+pub mod VisitLemmas
+pub mod FileLemmas
+pub mod EndLemmas
+mod Worked

@@ -1,0 +1,9 @@
+use file_answers::Asking;
+
+/// What is asked of each file, and what stands in front of each line: the file's name or none, and the line's number or none.
+#[derive(Clone, Copy)]
+pub struct Wish<'a> {
+    pub asking: Asking<'a>,
+    pub named: bool,
+    pub numbered: bool,
+}

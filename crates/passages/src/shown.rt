@@ -1,0 +1,8 @@
+use gcl_model::Bytes;
+
+/// What stands in front of each line: a file's name, or none, and the line's number, or none.
+#[derive(Drop)]
+pub struct Shown {
+    pub name: Option<Bytes>,
+    pub numbered: bool,
+}

@@ -1,0 +1,2 @@
+pub mod PutLemmas
+mod Worked

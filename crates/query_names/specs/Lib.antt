@@ -1,0 +1,4 @@
+pub mod Defining
+pub mod Faults
+pub mod Names
+pub mod PutIn
