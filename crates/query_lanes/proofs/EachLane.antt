@@ -2,8 +2,8 @@
 use Rattle.std.proofs.Common.{◌≡◌, ℕ, ◌≤◌, ◌<◌, List, length, slice_index_or}
 use Rattle.live_version.specs.Contents.{VersionContent}
 use Rattle.manifest_publish.specs.Accounts.{ReaderContent}
-use Rattle.query_lanes.specs.declared.work.Work.{Work}
-use Rattle.query_lanes.specs.Lanes.{IsTold, IsSettled}
+use Rattle.query_lanes.specs.declared.lane.Work.{Work}
+use Rattle.query_lanes.specs.inner.Lanes.{IsTold, IsSettled}
 
 -- the readers below a place were told, and the others are as before
 pub record ToldUpto (history : List VersionContent) (place : ℕ) (before after : List ReaderContent) : Type 0 where

@@ -3,6 +3,6 @@ pub mod ReaderLemmas
 pub mod MergeLemmas
 pub mod LaneLemmas
 pub mod EachLane
-pub mod OwnLemmas
 pub mod PageLemmas
+pub mod SearchLemmas
 mod Worked

@@ -1,5 +1,5 @@
 -- A merge changes no text.
-use Rattle.std.proofs.Common.{◌≡◌, ℕ, ◌+◌, ◌≤◌, ◌⊎◌, inl, inr, List, [], ◌∷◌, ◌++◌, length, slice_get, Some, refl, ap, sym, ◌∙◌, subst, arith, length-append}
+use Rattle.std.proofs.Common.{◌≡◌, Bool, true, false, ℕ, ◌+◌, ◌≤◌, ◌⊎◌, inl, inr, List, [], ◌∷◌, ◌++◌, length, slice_get, Some, refl, ap, sym, ◌∙◌, subst, arith, length-append}
 use Rattle.std.proofs.lemmas.Option.{slice_get_within}
 use Rattle.gcl_model.specs.Collections.{Collection, text_of}
 use Rattle.live_version.specs.Contents.{VersionContent, version_text}
@@ -8,7 +8,7 @@ use Rattle.manifest_publish.specs.Accounts.{EndsWith}
 use Rattle.manifest_publish.proofs.HistoryLemmas.{latest-number}
 use Rattle.manifest_publish.proofs.PlaceLemmas.{each-stands}
 use Rattle.collection.specs.Engines.{EngineContent}
-use Rattle.query_lanes.specs.Merges.{IsMerged, HasOneText}
+use Rattle.query_lanes.specs.Merges.{IsMerged, IsMergedWhere, HasOneText}
 use Rattle.query_lanes.proofs.ListLemmas.{get_behind, get_more}
 
 -- the last version stands at the place of its number
@@ -40,7 +40,7 @@ kept_text history v w ends keeps =
     same_text v stands.0 stands.1 ∙ sym (same_text w stands.0 (keeps stands.0 stands.1))
 
 -- all slots were merged
-pub merged_text : (old new : EngineContent) → EndsWith old.history old.version → IsMerged old new → HasOneText old new
+merged_text : (old new : EngineContent) → EndsWith old.history old.version → IsMerged old new → HasOneText old new
 merged_text old new ends merged =
     let history : new.history ≡ old.history ++ new.version ∷ [] = merged.1.published.history in
     record {
@@ -51,3 +51,15 @@ merged_text old new ends merged =
     text_at : (i : ℕ) (v : VersionContent) → length old.history ≤ i + 1 → (slice_get old.history i ≡ Some v) ⊎ ((i ≡ length old.history) × (new.version ≡ v)) → version_text v ≡ version_text new.version
     text_at i v far (inl before) = ap version_text (last_is old.history old.version v i ends far before) ∙ kept_text old.history old.version new.version ends merged.1.change.stands
     text_at i v far (inr now) = ap version_text (sym now.1)
+
+-- nothing was published
+unchanged_text : (e : EngineContent) → EndsWith e.history e.version → HasOneText e e
+unchanged_text e ends = record {
+  ends = ends;
+  texts = λ i v far here. ap version_text (last_is e.history e.version v i ends far here);
+}
+
+-- all slots were merged, or nothing changed
+pub where_text : (pending : Bool) (old new : EngineContent) → EndsWith old.history old.version → IsMergedWhere pending old new → HasOneText old new
+where_text true old new ends merged = merged_text old new ends merged
+where_text false old new ends same = subst (λ (e : EngineContent). HasOneText old e) (sym same) (unchanged_text old ends)

@@ -1,5 +1,7 @@
 -- A query may carry that its expression is well formed, since a form is so in one way at most.
 use Rattle.std.specs.Prelude.{Result, Ok, Err, IfOk}
+use Rattle.std.specs.Global.{Global}
+use Rattle.std.specs.declared.sync.Arc.{Arc}
 use Rattle.std.specs.Coded.{×_prop, Unit-prop, le_prop}
 use Rattle.gcl_model.specs.Forms.{Form, Forms, term, phrase, width, both, one, seq, containing, contained_in, not_containing, not_contained_in, no_forms, more_forms}
 use Rattle.gcl_model.specs.FormOf.{form_of}
@@ -27,6 +29,6 @@ mutual
   AreWellFormed-prop (more_forms form forms) = ×_prop (IsWellFormed-prop form) (AreWellFormed-prop forms)
 
 -- and so is a query that is not refused
-pub query-prop : (query : Result Expr QueryFault) → IsProp (IfOk query (λ expr. IsWellFormed (form_of expr)))
-query-prop (Ok expr) = IsWellFormed-prop (form_of expr)
+pub query-prop : (query : Result (Arc Expr Global) QueryFault) → IsProp (IfOk query (λ expr. IsWellFormed (form_of expr.value)))
+query-prop (Ok expr) = IsWellFormed-prop (form_of expr.value)
 query-prop (Err fault) = Unit-prop

@@ -6,16 +6,12 @@
 //! and in whatever order the threads ran. So the layer above writes the answers of `answer_batch` in the order of the
 //! queries, and may let a merge run beside each batch.
 //!
-//! A query may have a pass of its own: then it is asked on the version of that, whatever was published since. So the
-//! layer above may put a query off, do lines that change the collection, and answer it with those that come after them.
-//! Queries that were all put off want no engine: `answer_put_off` answers them in lanes while the engine is at those
-//! lines.
-//!
-//! Of a list at most a page is found, `PAGE` members. Whoever wants more asks for the page after the last member that it has, with
-//! `page_behind`: so no whole list is kept, however long it is.
+//! A `Search` is one query on one version, and contracts see the members that are still to come. A `Listing` hands these
+//! out page by page, no more than `PAGE` at a time: so no whole list is kept, however long it is. Of an answer's listing the
+//! first page was found by the lane.
 //!
 //! Over the file `to be or not to be` from address 0 on, with two readers, the batch `find "to"`, `count "be"`,
-//! `top 1 "to"` is answered by the list 1 to 1, 5 to 5, the number 2 and the list 1 to 1. The first and the third query are
+//! `top 1 "to"` is answered by the listing 1 to 1, 5 to 5, the total 2 and the listing 1 to 1. The first and the third query are
 //! those of the first reader's lane, and while it answers, another thread may answer the second one, and a third one
 //! merge.
 //!
@@ -26,25 +22,21 @@
 //! its number is not above the engine's. Each other answer is made again.
 #![tactic(auto)]
 
-mod alone;
 mod asks;
 mod batch;
-mod enter;
-mod found;
+mod context;
+mod find;
 mod gather;
 mod lane;
 mod lanes;
+mod listing;
 mod merging;
-mod own;
-mod own_lanes;
-mod pages;
+mod questions;
+mod search;
 mod settle;
-mod work;
 
-pub use alone::answer_alone;
 pub use asks::{Ask, Asked, Found};
 pub use batch::answer_batch;
-pub use own::{put_off, text_end};
-pub use own_lanes::answer_put_off;
-pub use pages::{PAGE, page_behind};
-pub use work::Work;
+pub use context::Context;
+pub use listing::{Listing, PAGE};
+pub use search::Search;

@@ -1,13 +1,26 @@
-ghost use Rattle.std.specs.Prelude.{◌≡◌, length};
-ghost use Rattle.query_lanes.specs.Readers.{EachIsOf};
-ghost use Rattle.query_lanes.specs.Lanes.{IsTold, AreTold, IsSettled, AreSettled};
+ghost use Rattle.std.specs.Prelude.{◌≡◌, length, IfSome};
+ghost use Rattle.manifest_publish.specs.Accounts.{GoesOn};
+ghost use Rattle.query_lanes.specs.Readers.{EachIsOf, IsLater};
+ghost use Rattle.query_lanes.specs.inner.Lanes.{IsTold, AreTold, IsSettled, AreSettled};
 
-use crate::enter::enter;
-use crate::work::Work;
+use crate::lane::Work;
 use collection::Engine;
-use manifest_publish::Reader;
+use manifest_publish::{EnterFault, Pass, Reader};
 
-/// Tells a reader of all that the engine published.
+/// Enters anew. Whatever comes of it, the reader never knows less than before.
+pub fn enter(reader: &mut Reader) -> Option<Pass>
+    ensures later { IsLater reader.old reader.new }
+    ensures from { IfSome result (λ pass. GoesOn reader.old pass.history) }
+    ensures seen { IfSome result (λ pass. reader.new.seen ≡ pass.history) }
+{
+    match reader.enter() {
+        Ok(pass) => Some(pass),
+        Err(EnterFault::NoEntry(_)) => None,
+        Err(EnterFault::NoMemory) => None,
+    }
+}
+
+/// Gives a reader the receipt of all that the engine published.
 fn tell(engine: &Engine, reader: &mut Reader)
     requires { reader.old.publisher ≡ engine.now.publisher }
     ensures { IsTold engine.now.history reader.old reader.new }
@@ -15,7 +28,7 @@ fn tell(engine: &Engine, reader: &mut Reader)
     reader.learn(engine.receipt());
 }
 
-/// Tells each reader of all that the engine published.
+/// Gives each reader one.
 pub fn tell_all(engine: &Engine, readers: &mut [Reader])
     requires { EachIsOf engine.now.publisher readers.old }
     ensures of { EachIsOf engine.now.publisher readers.new }
@@ -26,7 +39,7 @@ pub fn tell_all(engine: &Engine, readers: &mut [Reader])
     }
 }
 
-/// Tells a reader of all that the engine published, lets it enter once more, and notes whether it did.
+/// Gives a reader the receipt of all that the engine published, lets it enter once more, and notes whether it did.
 fn settle(engine: &Engine, work: &mut Work, reader: &mut Reader)
     requires { reader.old.publisher ≡ engine.now.publisher }
     ensures { IsSettled engine.now.history reader.old reader.new work.old work.new }

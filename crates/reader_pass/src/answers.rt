@@ -10,10 +10,11 @@ ghost use Rattle.manifest_publish.specs.Histories.{IsLatest};
 ghost use Rattle.reader_pass.specs.Members.{first_members, first_members_from, look_ups, access_most};
 
 use crate::counted::count;
-use crate::fingered::{list, list_from};
+use crate::fingered::list_from;
 use gcl_model::{Expr, IntervalList, Ledger, Steps};
 use manifest_publish::Pass;
 use std::alloc::{AllocError, Global};
+use std::marker::Brand;
 
 /// The first `most` members of the expression's list over the version of the pass, or all where there are fewer.
 pub fn pass_list<S: Ledger>(
@@ -32,7 +33,7 @@ pub fn pass_list<S: Ledger>(
         steps.new ≤ steps.old + look_ups (version_text v) (access_most v) (form_of expr.now)
         (length (first_members (version_text v) (form_of expr.now) most)) }
 {
-    list(alloc, expr, pass.version(), most, steps)
+    pass_list_from(alloc, pass, expr, 0, most, steps)
 }
 
 /// The first `most` of those members that start at or after `k`, or all of these where there are fewer.
@@ -54,7 +55,7 @@ pub fn pass_list_from<S: Ledger>(
         steps.new ≤ steps.old + look_ups (version_text v) (access_most v) (form_of expr.now)
         (length (first_members_from (version_text v) (form_of expr.now) k most)) }
 {
-    list_from(alloc, expr, pass.version(), k, most, steps)
+    list_from::<Brand, S>(alloc, expr, pass.version(), k, most, steps)
 }
 
 /// How many members the expression's list over the version of the pass has. It takes no memory.

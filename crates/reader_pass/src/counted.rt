@@ -10,21 +10,22 @@ ghost use Rattle.reader_pass.specs.Members.{access_most, is_the_term, look_ups};
 use crate::fingered;
 use gcl_model::{Expr, Ledger, Steps};
 use live_version::Version;
+use std::marker::Brand;
 
-/// The number of members. That of a term, and of one of several terms, is told by the lengths of lists, without a look-up.
+/// The number of members. That of a term, and of one of several terms, is known by the lengths of lists, without a look-up.
 pub(crate) fn count<S: Ledger>(expr: &Expr, version: &Version, steps: &mut Steps<S>) -> u64
     requires well_formed { IsWellFormed (form_of expr.now) }
     ensures value { result ≡ length (concordance (version_text version.now) (form_of expr.now)) }
     ensures cost { steps.new ≤ steps.old + look_ups (version_text version.now) (access_most version.now) (form_of expr.now) result }
 {
-    match told_count(version, expr) {
+    match listed_count(version, expr) {
         Some(count) => count,
-        None => fingered::count(expr, version, steps),
+        None => fingered::count::<Brand, S>(expr, version, steps),
     }
 }
 
-/// The number of members, where lists tell it.
-fn told_count(version: &Version, expr: &Expr) -> Option<u64>
+/// The number of members, where it is known by the lengths of lists.
+fn listed_count(version: &Version, expr: &Expr) -> Option<u64>
     ensures { IfSome result (λ count. count ≡ length (concordance (version_text version.now) (form_of expr.now))) }
 {
     match expr {
@@ -39,7 +40,7 @@ fn told_count(version: &Version, expr: &Expr) -> Option<u64>
 fn count_of_one(version: &Version, operands: &[Expr]) -> Option<u64>
     ensures { IfSome result (λ count. count ≡ length (concordance (version_text version.now) (one (forms_from (map form_of operands.now))))) }
 {
-    // any call of a version tells that it is one
+    // any call of a version ensures that it is one
     let _ = version.slot_count();
     let mut count = 0;
     for i in 0..operands.len() {

@@ -4,78 +4,15 @@ ghost use Rattle.gcl_model.specs.Limits.{far};
 ghost use Rattle.gcl_model.specs.Meaning.{concordance};
 ghost use Rattle.gcl_model.specs.WellFormed.{IsWellFormed};
 ghost use Rattle.live_version.specs.Contents.{version_text};
-ghost use Rattle.reader_pass.specs.Members.{first_members, first_members_from, look_ups, access_most};
+ghost use Rattle.reader_pass.specs.Members.{first_members_from, look_ups, access_most};
 
 use gcl_model::{Expr, IntervalList, Ledger, Steps};
 use live_version::Version;
 use std::alloc::{AllocError, Global};
-use std::marker::Brand;
 use term_fingers::{Fingers, Naming};
 
-/// The first `most` members of the expression's list over a version, by fingers.
-pub(crate) fn list<S: Ledger>(
-    alloc: Global,
-    expr: &Expr,
-    version: &Version,
-    most: u64,
-    steps: &mut Steps<S>,
-) -> Result<IntervalList, AllocError>
-    requires well_formed { IsWellFormed (form_of expr.now) }
-    ensures ok { IfOk result (λ members. members ≡ first_members (version_text version.now) (form_of expr.now) most) }
-    ensures cost { steps.new ≤ steps.old +
-        look_ups (version_text version.now) (access_most version.now) (form_of expr.now)
-        (length (first_members (version_text version.now) (form_of expr.now) most)) }
-{
-    list_named::<Brand, S>(alloc, expr, version, most, steps)
-}
-
-/// The first `most` of those members that start at or after `k`.
-pub(crate) fn list_from<S: Ledger>(
-    alloc: Global,
-    expr: &Expr,
-    version: &Version,
-    k: u64,
-    most: u64,
-    steps: &mut Steps<S>,
-) -> Result<IntervalList, AllocError>
-    requires well_formed { IsWellFormed (form_of expr.now) }
-    requires below { k < far }
-    ensures ok { IfOk result (λ members. members ≡ first_members_from (version_text version.now) (form_of expr.now) k most) }
-    ensures cost { steps.new ≤ steps.old +
-        look_ups (version_text version.now) (access_most version.now) (form_of expr.now)
-        (length (first_members_from (version_text version.now) (form_of expr.now) k most)) }
-{
-    list_from_named::<Brand, S>(alloc, expr, version, k, most, steps)
-}
-
-/// How many members there are. It takes no memory.
-pub(crate) fn count<S: Ledger>(expr: &Expr, version: &Version, steps: &mut Steps<S>) -> u64
-    requires well_formed { IsWellFormed (form_of expr.now) }
-    ensures value { result ≡ length (concordance (version_text version.now) (form_of expr.now)) }
-    ensures cost { steps.new ≤ steps.old + look_ups (version_text version.now) (access_most version.now) (form_of expr.now) result }
-{
-    count_named::<Brand, S>(expr, version, steps)
-}
-
-fn list_named<J: Naming, S: Ledger>(
-    alloc: Global,
-    expr: &Expr,
-    version: &Version,
-    most: u64,
-    steps: &mut Steps<S>,
-) -> Result<IntervalList, AllocError>
-    requires named { version.now ≡ J.version }
-    requires well_formed { IsWellFormed (form_of expr.now) }
-    ensures ok { IfOk result (λ members. members ≡ first_members (version_text version.now) (form_of expr.now) most) }
-    ensures cost { steps.new ≤ steps.old +
-        look_ups (version_text version.now) (access_most version.now) (form_of expr.now)
-        (length (first_members (version_text version.now) (form_of expr.now) most)) }
-{
-    let fingers = Fingers::<J>::of(version, expr);
-    gcl_eval::list(alloc, expr, &fingers, most, steps)
-}
-
-fn list_from_named<J: Naming, S: Ledger>(
+/// The first `most` of the members that start at or after `k` of the expression's list over a version, by fingers.
+pub(crate) fn list_from<J: Naming, S: Ledger>(
     alloc: Global,
     expr: &Expr,
     version: &Version,
@@ -95,7 +32,12 @@ fn list_from_named<J: Naming, S: Ledger>(
     gcl_eval::list_from(alloc, expr, &fingers, k, most, steps)
 }
 
-fn count_named<J: Naming, S: Ledger>(expr: &Expr, version: &Version, steps: &mut Steps<S>) -> u64
+/// How many members there are. It takes no memory.
+pub(crate) fn count<J: Naming, S: Ledger>(
+    expr: &Expr,
+    version: &Version,
+    steps: &mut Steps<S>,
+) -> u64
     requires named { version.now ≡ J.version }
     requires well_formed { IsWellFormed (form_of expr.now) }
     ensures value { result ≡ length (concordance (version_text version.now) (form_of expr.now)) }

@@ -1,7 +1,7 @@
 use Rattle.std.proofs.Common.{◌≡◌, map, take}
 use Rattle.live_version.specs.Contents.{version_text}
 use Rattle.query_lanes.specs.Answers.{answer_in}
-use Rattle.query_lanes.specs.Lanes.{AreTrusted}
+use Rattle.query_lanes.specs.inner.Lanes.{AreTrusted}
 use Rattle.query_lanes.proofs.gather.gather.Given as goal
 
 abbrev pub invariant-loop-j : goal.invariant-loop-j

@@ -1,8 +1,0 @@
-use Rattle.std.proofs.Common.{◌*◌, ◌-◌}
-use Rattle.query_lanes.proofs.own_lanes.+fn-run_lanes-join+arg3+run_lanes.Given as goal
-
-abbrev pub decreases-join+arg3 : goal.decreases-join+arg3
-decreases-join+arg3 g l = 2 * l.lanes - 1
-
-abbrev pub decreases-run_lanes : goal.decreases-run_lanes
-decreases-run_lanes g l = 2 * l.lanes

@@ -1,0 +1,69 @@
+ghost use Rattle.std.specs.Prelude.{◌≡◌, map, IfOk};
+ghost use Rattle.gcl_model.specs.FormOf.{form_of};
+ghost use Rattle.gcl_model.specs.Meaning.{concordance};
+ghost use Rattle.gcl_model.specs.WellFormed.{IsWellFormed};
+ghost use Rattle.live_version.specs.Contents.{VersionContent, version_text};
+ghost use Rattle.manifest_publish.specs.Histories.{IsLatest};
+ghost use Rattle.query_lanes.specs.Answers.{answer_in, found_in};
+
+use crate::asks::{Ask, Asked, Found};
+use crate::listing::Listing;
+use crate::search::Search;
+use collection::Engine;
+use gcl_model::Expr;
+use manifest_publish::Pass;
+use outside::Gate;
+use std::alloc::{AllocError, Global};
+use std::sync::Arc;
+
+/// What is asked of the list of an expression over a pass.
+pub fn find(alloc: Global, pass: Pass, asked: Asked, expr: &Arc<Expr>) -> Result<Found, AllocError>
+    requires { IsWellFormed (form_of expr.now.value) }
+    ensures { (v : VersionContent) → IsLatest pass.history v →
+        IfOk result (λ found. found ≡ found_in asked (concordance (version_text v) (form_of expr.now.value))) }
+{
+    let search = Search::of(pass, Arc::try_clone(expr)?);
+    match asked {
+        Asked::All => {
+            let listing = Listing::of(alloc, search, u64::MAX)?;
+            Ok(Found::List(listing))
+        }
+        Asked::First(most) => {
+            let listing = Listing::of(alloc, search, most)?;
+            Ok(Found::List(listing))
+        }
+        Asked::Number => Ok(Found::Total(search.count())),
+    }
+}
+
+/// Answers a query on the engine's own pass.
+pub fn answer_alone(alloc: Global, engine: &Engine, ask: &Ask) -> Result<Found, AllocError>
+    ensures { IfOk result (λ found. found ≡ answer_in (version_text engine.now.version) ask.now) }
+{
+    match &ask.query {
+        Ok(expr) => {
+            let pass = engine.pass()?;
+            let found = find(alloc, pass, ask.asked, expr)?;
+            Ok(found)
+        }
+        Err(fault) => Ok(Found::Refused(*fault)),
+    }
+}
+
+/// Answers all queries there, in their order. The gate is notified of each query, but of no answer: of answers those of lanes alone count.
+pub fn answer_all<G: Gate>(
+    alloc: Global,
+    gate: &G,
+    engine: &Engine,
+    asks: &[Ask],
+) -> Result<Vec<Found>, AllocError>
+    ensures { IfOk result (λ answers. answers.items ≡ map (answer_in (version_text engine.now.version)) asks.now) }
+{
+    let mut answers = Vec::with_capacity(alloc, asks.len())?;
+    for ask in asks {
+        gate.before_query(ask.number);
+        let found = answer_alone(alloc, engine, ask)?;
+        answers.push(found)?;
+    }
+    Ok(answers)
+}
