@@ -16,10 +16,11 @@ use Rattle.script_lang.proofs.FeedLemmas.{is_newline}
 use Rattle.script_lang.proofs.EndedLemmas.{lines_of_ended, done_is_ended, ended_begins}
 use Rattle.script_answers.specs.States.{State, opening, IsFresh}
 use Rattle.script_answers.specs.Answers.{answers, AreRead, output_by}
-use Rattle.query_run.specs.Streams.{FeedsPiece, IsFed, IsSure}
-use Rattle.script_answers.specs.Progress.{HasCome}
-use Rattle.script_answers.specs.Stopped.{GetsPart}
-use Rattle.query_run.specs.Runs.{HandsOver, TakesWithin, WhereTold, within}
+use Rattle.query_run.specs.inner.Streams.{FeedsPiece, IsFed, IsSure, ReadsOn, ServesWithin, ending_of, fault_ending}
+use Rattle.script_answers.specs.Stopped.{Ending, IsOfFiles}
+use Rattle.script_answers.specs.inner.Service.{Halts, IsSureOfFiles, Serves, Stand, fault_ending as held_ending}
+use Rattle.script_answers.proofs.Service.{halts_after, halts_more, halts_on, serves_none, serves_on}
+use Rattle.query_run.specs.Runs.{HandsOver, TakesWithin, within}
 use Rattle.query_run.specs.Faults.{of_read, of_run}
 use Rattle.script_answers.specs.declared.limits.Limits.{Limits}
 use Rattle.query_run.specs.declared.read.ReadFault.{ReadFault}
@@ -28,8 +29,8 @@ use Rattle.script_answers.specs.declared.run_fault.RunFault.{RunFault}
 use Rattle.script_answers.specs.declared.run_fault.RunFault.TheVariants.{Write, Files, NoMemory}
 use Rattle.query_run.specs.declared.stream_fault.StreamFault.{StreamFault}
 use Rattle.query_run.specs.declared.stream_fault.StreamFault.TheVariants.{TooLong as StreamTooLong}
-use Rattle.query_run.proofs.WholeScripts.{all_read, fresh_come}
-use Rattle.script_answers.proofs.Scripts.{more_within, part_of_more, take_more}
+use Rattle.query_run.proofs.WholeScripts.{all_read}
+use Rattle.script_answers.proofs.Scripts.{more_within, take_more}
 
 -- What the source handed over.
 
@@ -162,25 +163,62 @@ fed_within most r n limit held script fed none short =
     let begin = ended_begins most (take r script) (take (limit - r) (drop r script)) in
     (begin.0, ap (λ (l : List ℕ). lines most (ended l)) front ∙ begin.1 ∙ ap (λ (l : List Line). l ++ begin.0) (sym done))
 
--- What is told of a run.
+-- What was served of what was read.
 
--- what was written so far is a part of the output of the lines within the limit
-pub part_of_within : (limits : Limits) (start : State) (r n : ℕ) (bytes script : List ℕ) (held : Option Contents) (engine : EngineContent) (w a : Bool) (old new : Option (List ℕ)) → IsFed limits.line r n bytes script →
-    has_newline bytes ≡ false → r ≤ limits.script → HasCome limits start (take n (lines limits.line script)) held engine w a old new → GetsPart old new (output_by limits start (within limits.script script))
-part_of_within limits start r n bytes script held engine w a old new fed none short come =
-    let done : List Line = take n (lines limits.line script) in
-    let more = fed_within limits.line r n limits.script bytes script fed none short in
-    let first : GetsPart old new (text_of_lines (answers limits start done)) = record { part = _; rest = []; whole = sym (append-nil _); written = come.are.written } in
-    subst (λ (l : List Line). GetsPart old new (text_of_lines (answers limits start l))) (sym more.1) (part_of_more limits start done more.0 old new first)
+module _ (limits : Limits) (script : List ℕ) (before : Stand) (old : Option (List ℕ)) where
+  -- nothing was read
+  pub reads_none : before.completed ≡ 0 → ReadsOn limits script 0 [] before before old old
+  reads_none none = record {
+    fed = fed_none limits.line before.completed script none;
+    come = subst (λ (n : ℕ). Serves limits (take n (lines limits.line script)) before before old old) (sym none) (serves_none limits before old);
+  }
 
--- at a script and a state before its first line, where no line is answered yet
-pub told_fresh : (limits : Limits) (engine : EngineContent) (completed : ℕ) (left : Option (List ℕ)) (held : Option Contents) (old : Option (List ℕ)) (P : State → List ℕ → Type 0) → IsFresh engine completed →
-    ((start : State) (script : List ℕ) → left ≡ Some script → AreRead limits start (lines limits.line script) → HasCome limits start (take completed (lines limits.line script)) held engine false false old old → P start script) →
-    WhereTold limits (Some engine.version.first) left held P
-told_fresh limits engine completed None held old P fresh h = tt
-told_fresh limits engine completed (Some script) None old P fresh h = tt
-told_fresh limits engine completed (Some script) (Some contents) old P fresh h = λ images read.
-    h (opening engine.version.first contents images) script refl read (fresh_come limits engine completed contents images (Some contents) (lines limits.line script) old fresh refl)
+  -- the whole lines that were held are served
+  pub reads_served : (r : ℕ) (held held' : List ℕ) (mid now : Stand) (middle new : Option (List ℕ)) → ReadsOn limits script r held before mid old middle →
+      ((later : List ℕ) → lines limits.line (held ++ later) ≡ lines limits.line (ended held) ++ lines limits.line (held' ++ later)) →
+      Serves limits (lines limits.line (ended held)) mid now middle new → ReadsOn limits script r held' before now old new
+  reads_served r held held' mid now middle new reads taken serves =
+      let n = mid.completed in
+      let all = lines limits.line script in
+      let ahead = fed_ahead limits.line r n held script reads.fed in
+      let count : now.completed ≡ n + length (lines limits.line (ended held)) = serves.completed in
+      let upto : take now.completed all ≡ take n all ++ lines limits.line (ended held) = ap (λ (k : ℕ). take k all) count ∙ take_more n all (lines limits.line (ended held)) ahead.0 ahead.1 in
+      record {
+        fed = fed_served limits.line r n now.completed held held' script reads.fed taken count;
+        come = subst (λ (l : List Line). Serves limits l before now old new) (sym upto) (serves_on limits (take n all) (lines limits.line (ended held)) before mid now old middle new reads.come serves);
+      }
+
+  -- it ended among lines that come next
+  pub reads_halts : (r : ℕ) (held : List ℕ) (batch rest : List Line) (how : Ending) (kept : Type 0) (mid now : Stand) (middle new : Option (List ℕ)) → ReadsOn limits script r held before mid old middle →
+      drop mid.completed (lines limits.line script) ≡ batch ++ rest → Halts limits batch how kept mid now middle new → Halts limits (lines limits.line script) how kept before now old new
+  reads_halts r held batch rest how kept mid now middle new reads next halts =
+      let all = lines limits.line script in
+      let done = take mid.completed all in
+      let whole : all ≡ (done ++ batch) ++ rest = sym (take-append-drop mid.completed all) ∙ ap (λ (l : List Line). done ++ l) next ∙ sym (append_assoc done batch rest) in
+      subst (λ (l : List Line). Halts limits l how kept before now old new) (sym whole)
+      (halts_more limits (done ++ batch) rest how kept before now old new (halts_on limits done batch how kept before mid now old middle new reads.come halts))
+
+  -- it ended before the next line
+  pub reads_stop : (r : ℕ) (held : List ℕ) (how : Ending) (kept : Type 0) (mid : Stand) (middle : Option (List ℕ)) → (IsOfFiles how → ⊥) → ReadsOn limits script r held before mid old middle →
+      Halts limits (lines limits.line script) how kept before mid old middle
+  reads_stop r held how kept mid middle ours reads =
+      let all = lines limits.line script in
+      subst (λ (l : List Line). Halts limits l how kept before mid old middle) (take-append-drop mid.completed all)
+      (halts_more limits (take mid.completed all) (drop mid.completed all) how kept before mid old middle (halts_after limits (take mid.completed all) how kept before mid old middle ours reads.come))
+
+  -- the lines that come last are served
+  pub reads_all : (r : ℕ) (held : List ℕ) (batch : List Line) (mid now : Stand) (middle new : Option (List ℕ)) → ReadsOn limits script r held before mid old middle →
+      drop mid.completed (lines limits.line script) ≡ batch ++ [] → Serves limits batch mid now middle new → Serves limits (lines limits.line script) before now old new
+  reads_all r held batch mid now middle new reads last serves =
+      let all = lines limits.line script in
+      let whole : all ≡ take mid.completed all ++ batch = sym (take-append-drop mid.completed all) ∙ ap (λ (l : List Line). take mid.completed all ++ l) (last ∙ append-nil batch) in
+      subst (λ (l : List Line). Serves limits l before now old new) (sym whole) (serves_on limits (take mid.completed all) batch before mid now old middle new reads.come serves)
+
+  -- what was served ends within the limit
+  pub reads_within : (r : ℕ) (held : List ℕ) (mid : Stand) (middle : Option (List ℕ)) → has_newline held ≡ false → r ≤ limits.script → ReadsOn limits script r held before mid old middle → ServesWithin limits script before mid old middle
+  reads_within r held mid middle none short reads =
+      let more = fed_within limits.line r mid.completed limits.script held script reads.fed none short in
+      record { served = take mid.completed (lines limits.line script); rest = more.0; whole = more.1; later = drop mid.completed (lines limits.line script); first = sym (take-append-drop mid.completed (lines limits.line script)); serves = reads.come }
 
 -- what is so at the script
 pub at_script : (left : Option (List ℕ)) (P : List ℕ → Type 0) → ((script : List ℕ) → left ≡ Some script → P script) → IfSome left P
@@ -191,11 +229,29 @@ at_script (Some script) P h = h script refl
 pub hands_all : (r : ℕ) (left after : Option (List ℕ)) (script : List ℕ) → left ≡ Some script → HandsOver r left after → IsAtEnd after → length script ≤ r
 hands_all r left after script is hands end = omega (arith, hands.count_is, ap length (all_read left after script hands.taken hands.from end is))
 
--- only a sink that failed leaves it sure what the files hold
-pub sure_write : (fault : RunFault) → IsSure {T = Bool} (Err (of_run fault)) → fault ≡ Write
-sure_write Write sure = refl
-sure_write Files sure = absurd sure
-sure_write NoMemory sure = absurd sure
+-- a fault of a run is one of the stream
+pub run_ending : (fault : RunFault) → fault_ending (of_run fault) ≡ held_ending fault
+run_ending Write = refl
+run_ending Files = refl
+run_ending NoMemory = refl
+
+-- how a call ended, by its fault
+pub ending_is : {T : Type 0} (r : Result T StreamFault) (fault : StreamFault) → IsErrAnd r (λ e. e ≡ fault) → ending_of r ≡ fault_ending fault
+ending_is (Ok v) fault is = absurd is
+ending_is (Err e) fault is = ap fault_ending is
+
+-- no read is a fault of the files
+pub no_files : (fault : ReadFault) → IsOfFiles (fault_ending (of_read fault)) → ⊥
+no_files ReadFailed failed = failed
+no_files ReadTooLong failed = failed
+no_files ReadNoMemory failed = failed
+
+-- what is sure of a fault of a run
+pub sure_run : {T : Type 0} (r : Result T StreamFault) (fault : RunFault) → IsErrAnd r (λ e. e ≡ of_run fault) → IsSure r → IsSureOfFiles {T = T} (Err fault)
+sure_run (Ok v) fault is sure = absurd is
+sure_run (Err e) Write is sure = tt
+sure_run {T} (Err e) Files is sure = subst (λ (f : StreamFault). IsSure {T = T} (Err f)) is sure
+sure_run {T} (Err e) NoMemory is sure = subst (λ (f : StreamFault). IsSure {T = T} (Err f)) is sure
 
 pub long_read : (fault : ReadFault) → of_read fault ≡ StreamTooLong → fault ≡ ReadTooLong
 long_read ReadFailed is = absurd (cc is)
@@ -203,16 +259,11 @@ long_read ReadTooLong is = refl
 long_read ReadNoMemory is = absurd (cc is)
 
 -- a read that ended as too long
-pub read_long : (r : Result Bool StreamFault) (fault : ReadFault) → IsErrAnd r (λ e. e ≡ of_read fault) → IsErrOf r StreamTooLong → fault ≡ ReadTooLong
+pub read_long : {T : Type 0} (r : Result T StreamFault) (fault : ReadFault) → IsErrAnd r (λ e. e ≡ of_read fault) → IsErrOf r StreamTooLong → fault ≡ ReadTooLong
 read_long (Ok b) fault is long = absurd is
 read_long (Err e) fault is long =
     let same : e ≡ StreamTooLong = cc long in
     long_read fault (sym is ∙ same)
-
--- an answer that ended while it is sure what the files hold
-pub run_write : (r : Result Bool StreamFault) (fault : RunFault) → IsErrAnd r (λ e. e ≡ of_run fault) → IsSure r → fault ≡ Write
-run_write (Ok b) fault is sure = absurd is
-run_write (Err e) fault is sure = sure_write fault (subst (λ (f : StreamFault). IsSure {T = Bool} (Err f)) is sure)
 
 -- the whole lines are no more than all bytes
 pub ended_few : (bytes : List ℕ) → length (ended bytes) ≤ length bytes

@@ -1,14 +1,20 @@
 -- Where it is known what the source has left and what the files hold, and of what the lines open it is said rightly what it is an image of.
-use Rattle.std.proofs.Common.{◌≡◌, ℕ, ◌+◌, inl, List, [], take, refl, sym, subst, Option, Some, None, IsSome, IfSome, arith}
+use Rattle.std.proofs.Common.{◌≡◌, ℕ, ◌+◌, ◌||◌, inl, Bool, false, List, [], length, take, drop, append-nil, refl, sym, ap, ◌∙◌, subst, Option, Some, None, IsSome, IfSome, arith}
 use Rattle.outside.specs.Contents.{Contents}
 use Rattle.collection.specs.Engines.{EngineContent}
 use Rattle.live_version.specs.Contents.{VersionContent}
-use Rattle.script_lang.specs.Lines.{lines, text_of_lines}
+use Rattle.script_lang.specs.Lines.{Line, lines, text_of_lines}
 use Rattle.script_answers.specs.Images.{Images}
-use Rattle.script_answers.specs.States.{State, opening, IsFresh}
-use Rattle.script_answers.specs.Answers.{answers, output_by}
-use Rattle.query_run.specs.Runs.{WhereTold, WhereMade, WhereMadeBy, HasStopped, made_opening, made_summary}
-use Rattle.script_answers.specs.Stopped.{GetsPart, IsStopped}
+use Rattle.script_answers.specs.States.{State, Keeps, opening, IsFresh}
+use Rattle.script_answers.specs.Answers.{answers, output_by, state_after, AreRead}
+use Rattle.query_run.specs.Runs.{WhereTold, WhereMade, WhereMadeBy, HasAnswered, HasStopped, IsLeftBy, within, made_opening, made_summary}
+use Rattle.script_answers.specs.Stopped.{Ending, GetsPart, IsOfFiles, IsStopped, begun}
+use Rattle.script_answers.specs.inner.Service.{Halts, IsAtStand, Serves, Stand}
+use Rattle.script_answers.proofs.Stops.{stopped_after}
+use Rattle.query_run.specs.inner.Streams.{ServesWithin}
+use Rattle.live_version.specs.StandsFor.{StandsFor}
+use Rattle.script_lang.specs.Answers.{is_refusal}
+use Rattle.std.specs.List.{list_any}
 use Rattle.query_run.specs.Statuses.{IsFinished, IsMadeEnd}
 use Rattle.query_run.specs.declared.status.Status.{Status}
 use Rattle.query_run.specs.declared.status.Status.TheVariants.{Done, DoneWithRefusals, Usage, ReadFault, WriteFault, FileFault, NoMemory, ScriptTooLong}
@@ -16,7 +22,7 @@ use Rattle.script_answers.specs.declared.limits.Limits.{Limits}
 use Rattle.command_words.specs.declared.options.Made.{Made}
 use Rattle.command_words.specs.declared.options.Options.{Options}
 use Rattle.query_run.proofs.WholeScripts.{fresh_keeps}
-use Rattle.script_answers.proofs.Scripts.{part_of_all}
+use Rattle.script_answers.proofs.Scripts.{part_of_all, part_of_more, read_front}
 use Rattle.std.proofs.KnownBytes.{Appends-nil}
 
 -- at a script, contents and readings that are known
@@ -33,19 +39,86 @@ told_as limits first None held P Q h p = tt
 told_as limits first (Some script) None P Q h p = tt
 told_as limits first (Some script) (Some contents) P Q h p = λ images read. h (opening first contents images) script (p images read)
 
--- no line is completed, nothing was written, and the files are as they were
-pub stopped_before : (limits : Limits) (engine : EngineContent) (completed : ℕ) (kept : Type 0) (left : Option (List ℕ)) (held : Option Contents) (sink : Option (List ℕ)) → IsFresh engine completed →
-    WhereTold limits (Some engine.version.first) left held (λ start script. IsStopped limits start (lines limits.line script) completed engine.version kept held sink sink)
-stopped_before limits engine completed kept left held sink fresh = told limits engine.version.first left held
-    (λ start script. IsStopped limits start (lines limits.line script) completed engine.version kept held sink sink) (λ script contents images is_left is_held.
-    subst (λ (n : ℕ). IsStopped limits (opening engine.version.first contents images) (lines limits.line script) n engine.version kept held sink sink) (sym fresh.none)
-    (record {
-      within = omega arith;
-      stands = (fresh_keeps engine completed contents images fresh).stands;
-      part = record { part = []; rest = text_of_lines (answers limits (opening engine.version.first contents images) (take 1 (lines limits.line script))); whole = refl; written = Appends-nil sink };
-      files = record { contents = contents; is = is_held; same = λ name. inl refl };
-      exact = λ all_kept. is_held;
-    }))
+-- the same, and what the lines open is read rightly
+pub told_read : (limits : Limits) (first : ℕ) (left : Option (List ℕ)) (held : Option Contents) (P : State → List ℕ → Type 0) →
+    ((script : List ℕ) (contents : Contents) (images : Images) → left ≡ Some script → held ≡ Some contents → AreRead limits (opening first contents images) (lines limits.line script) → P (opening first contents images) script) →
+    WhereTold limits (Some first) left held P
+told_read limits first None held P h = tt
+told_read limits first (Some script) None P h = tt
+told_read limits first (Some script) (Some contents) P h = λ images read. h script contents images refl refl read
+
+-- what is known where the script is
+at_script : (left : Option (List ℕ)) (P : List ℕ → Type 0) (script : List ℕ) → left ≡ Some script → IfSome left P → P script
+at_script None P script is p = absurd (cc is)
+at_script (Some other) P script is p = let same : other ≡ script = cc is in subst P same p
+
+module _ (limits : Limits) (before : Stand) (first : ℕ) (left : Option (List ℕ)) (fresh : IsFresh before.engine before.completed) (is_first : before.engine.version.first ≡ first) (idle : before.pending ≡ false) where
+  -- the run is at the state before the first line
+  begins : (contents : Contents) (images : Images) → before.held ≡ Some contents → IsAtStand before (opening first contents images)
+  begins contents images held = record {
+    files = held;
+    keeps = subst (λ (n : ℕ). Keeps before.engine before.pending (opening n contents images)) is_first
+        (subst (λ (w : Bool). Keeps before.engine w (opening before.engine.version.first contents images)) (sym idle) (fresh_keeps before.engine before.completed contents images fresh));
+  }
+
+  -- a run that ended among its lines has stopped there
+  pub told_halts : (how : Ending) (kept : Type 0) (now : Stand) (old new : Option (List ℕ)) → IfSome left (λ script. Halts limits (lines limits.line script) how kept before now old new) →
+      WhereTold limits (Some first) left before.held (λ start script. IsStopped limits start (lines limits.line script) now.completed now.engine.version how kept now.held old new)
+  told_halts how kept now old new halts = told_read limits first left before.held (λ start script. IsStopped limits start (lines limits.line script) now.completed now.engine.version how kept now.held old new)
+      (λ script contents images is held read.
+      let here = at_script left (λ (t : List ℕ). Halts limits (lines limits.line t) how kept before now old new) script is halts (opening first contents images) (begins contents images held) read in
+      let count : here.taken ≡ now.completed = let c = here.completed in let none = fresh.none in omega (arith, c, none) in
+      subst (λ (n : ℕ). IsStopped limits (opening first contents images) (lines limits.line script) n now.engine.version how kept now.held old new) count here.stopped)
+
+  -- of a run that served all lines; an engine that keeps all that this one keeps has stopped there, too
+  pub told_serves : (how : Ending) (kept : Type 0) (now : Stand) (engine : EngineContent) (old new : Option (List ℕ)) → (IsOfFiles how → ⊥) → ((state : State) → Keeps now.engine now.pending state → StandsFor engine.version state.collection) →
+      IfSome left (λ script. Serves limits (lines limits.line script) before now old new) →
+      WhereTold limits (Some first) left before.held (λ start script. IsStopped limits start (lines limits.line script) now.completed engine.version how kept now.held old new)
+  told_serves how kept now engine old new ours stands serves = told_read limits first left before.held (λ start script. IsStopped limits start (lines limits.line script) now.completed engine.version how kept now.held old new)
+      (λ script contents images is held read.
+      let all = at_script left (λ (t : List ℕ). Serves limits (lines limits.line t) before now old new) script is serves in
+      let here = all.served (opening first contents images) (begins contents images held) read in
+      let count : length (lines limits.line script) ≡ now.completed = let c = all.completed in let none = fresh.none in omega (arith, c, none) in
+      subst (λ (n : ℕ). IsStopped limits (opening first contents images) (lines limits.line script) n engine.version how kept now.held old new) count
+      (stopped_after limits (opening first contents images) (lines limits.line script) engine.version how kept now.held old new (stands (state_after limits (opening first contents images) (lines limits.line script)) here.at.keeps)
+      here.written here.at.files ours))
+
+  -- its lines are answered
+  pub told_answered : (now : Stand) (old new : Option (List ℕ)) → before.refused ≡ false → IfSome left (λ script. Serves limits (lines limits.line script) before now old new) →
+      WhereTold limits (Some first) left before.held (λ start script. HasAnswered limits start script now.refused now.held old new)
+  told_answered now old new clean serves = told_read limits first left before.held (λ start script. HasAnswered limits start script now.refused now.held old new)
+      (λ script contents images is held read.
+      let here = (at_script left (λ (t : List ℕ). Serves limits (lines limits.line t) before now old new) script is serves).served (opening first contents images) (begins contents images held) read in
+      record {
+        all = here.answered;
+        written = here.written;
+        refusal_is = here.refused_is ∙ ap (λ (r : Bool). r || list_any is_refusal (answers limits (opening first contents images) (lines limits.line script))) clean;
+        files = here.at.files;
+      })
+
+  -- and an engine that keeps all that this one keeps, with no merge pending, is left
+  pub told_left : (now : Stand) (engine : EngineContent) (old new : Option (List ℕ)) → ((state : State) → Keeps now.engine now.pending state → Keeps engine false state) → IfSome left (λ script. Serves limits (lines limits.line script) before now old new) →
+      WhereTold limits (Some first) left before.held (λ start script. IsLeftBy limits start script engine now.completed)
+  told_left now engine old new keeps serves = told_read limits first left before.held (λ start script. IsLeftBy limits start script engine now.completed)
+      (λ script contents images is held read.
+      let all = at_script left (λ (t : List ℕ). Serves limits (lines limits.line t) before now old new) script is serves in
+      let here = all.served (opening first contents images) (begins contents images held) read in
+      record {
+        keeps = keeps (state_after limits (opening first contents images) (lines limits.line script)) here.at.keeps;
+        each = let c = all.completed in let none = fresh.none in omega (arith, c, none);
+      })
+
+  -- of a script that was too long a part of the output within the limit is written
+  pub told_within : (now : Stand) (old new : Option (List ℕ)) → IfSome left (λ script. ServesWithin limits script before now old new) →
+      WhereTold limits (Some first) left before.held (λ start script. GetsPart old new (output_by limits start (within limits.script script)))
+  told_within now old new serves = told_read limits first left before.held (λ start script. GetsPart old new (output_by limits start (within limits.script script)))
+      (λ script contents images is held read.
+      let start = opening first contents images in
+      let part = at_script left (λ (t : List ℕ). ServesWithin limits t before now old new) script is serves in
+      let all = read_front limits start part.served part.later (subst (AreRead limits start) part.first read) in
+      let here = part.serves.served start (begins contents images held) all in
+      subst (λ (l : List Line). GetsPart old new (text_of_lines (answers limits start l))) (sym part.whole)
+      (part_of_more limits start part.served part.rest old new (record { part = text_of_lines (answers limits start part.served); rest = []; whole = sym (append-nil _); written = here.written })))
 
 -- nothing is a part of each text
 pub part_before : (limits : Limits) (first : ℕ) (left : Option (List ℕ)) (held : Option Contents) (sink : Option (List ℕ)) (text : State → List ℕ → List ℕ) →
@@ -59,30 +132,32 @@ nothing_of limits None left held sink text = tt
 nothing_of limits (Some first) left held sink text = part_before limits first left held sink text
 
 -- no line is completed, nothing was written, and the files are as they were
-pub none_stopped : (limits : Limits) (first : Option ℕ) (kept : Type 0) (left : Option (List ℕ)) (held : Option Contents) (sink : Option (List ℕ)) →
-    WhereTold limits first left held (λ start script. HasStopped limits start (lines limits.line script) kept held sink sink)
-none_stopped limits None kept left held sink = tt
-none_stopped limits (Some first) kept left held sink = told limits first left held (λ start script. HasStopped limits start (lines limits.line script) kept held sink sink) (λ script contents images is_left is_held.
+pub none_stopped : (limits : Limits) (first : Option ℕ) (how : Ending) (ours : IsOfFiles how → ⊥) (kept : Type 0) (left : Option (List ℕ)) (held : Option Contents) (sink : Option (List ℕ)) →
+    WhereTold limits first left held (λ start script. HasStopped limits start (lines limits.line script) how kept held sink sink)
+none_stopped limits None how ours kept left held sink = tt
+none_stopped limits (Some first) how ours kept left held sink = told limits first left held (λ start script. HasStopped limits start (lines limits.line script) how kept held sink sink) (λ script contents images is_left is_held.
     record {
       completed = 0;
       within = omega arith;
-      part = record { part = []; rest = text_of_lines (answers limits (opening first contents images) (take 1 (lines limits.line script))); whole = refl; written = Appends-nil sink };
+      part = record { part = []; rest = _; whole = refl; written = Appends-nil sink };
+      all = λ due. Appends-nil sink;
       files = record { contents = contents; is = is_held; same = λ name. inl refl };
       exact = λ all_kept. is_held;
+      named = λ failed. absurd (ours failed);
     })
 
 -- a stop after so many lines is one after some
-pub some_stopped : (limits : Limits) (first : ℕ) (kept : Type 0) (left : Option (List ℕ)) (held held' : Option Contents) (old new : Option (List ℕ)) (completed : ℕ) (version : VersionContent) →
-    WhereTold limits (Some first) left held (λ start script. IsStopped limits start (lines limits.line script) completed version kept held' old new) →
-    WhereTold limits (Some first) left held (λ start script. HasStopped limits start (lines limits.line script) kept held' old new)
-some_stopped limits first kept left held held' old new completed version = told_as limits first left held
-    (λ start script. IsStopped limits start (lines limits.line script) completed version kept held' old new) (λ start script. HasStopped limits start (lines limits.line script) kept held' old new)
-    (λ start script stop. record { completed = completed; within = stop.within; part = stop.part; files = stop.files; exact = stop.exact })
+pub some_stopped : (limits : Limits) (first : ℕ) (how : Ending) (kept : Type 0) (left : Option (List ℕ)) (held held' : Option Contents) (old new : Option (List ℕ)) (completed : ℕ) (version : VersionContent) →
+    WhereTold limits (Some first) left held (λ start script. IsStopped limits start (lines limits.line script) completed version how kept held' old new) →
+    WhereTold limits (Some first) left held (λ start script. HasStopped limits start (lines limits.line script) how kept held' old new)
+some_stopped limits first how kept left held held' old new completed version = told_as limits first left held
+    (λ start script. IsStopped limits start (lines limits.line script) completed version how kept held' old new) (λ start script. HasStopped limits start (lines limits.line script) how kept held' old new)
+    (λ start script stop. record { completed = completed; within = stop.within; part = stop.part; all = stop.all; files = stop.files; exact = stop.exact; named = stop.named })
 
 -- a stop within a script is a part of its output
-pub part_stopped : (limits : Limits) (start : State) (script : List ℕ) (completed : ℕ) (version : VersionContent) (kept : Type 0) (held : Option Contents) (old new : Option (List ℕ)) →
-    IsStopped limits start (lines limits.line script) completed version kept held old new → GetsPart old new (output_by limits start script)
-part_stopped limits start script completed version kept held old new stop = part_of_all limits start (lines limits.line script) (completed + 1) old new stop.part
+pub part_stopped : (limits : Limits) (start : State) (script : List ℕ) (completed : ℕ) (version : VersionContent) (how : Ending) (kept : Type 0) (held : Option Contents) (old new : Option (List ℕ)) →
+    IsStopped limits start (lines limits.line script) completed version how kept held old new → GetsPart old new (output_by limits start script)
+part_stopped limits start script completed version how kept held old new stop = part_of_all limits start (lines limits.line script) (completed + begun (drop completed (lines limits.line script))) old new stop.part
 
 -- by the address that the words give, and by limits that are the same
 pub by_words : (o : Option ℕ) (limits limits' : Limits) (first : ℕ) (left : Option (List ℕ)) (held : Option Contents) (P : Limits → State → List ℕ → Type 0) → Some first ≡ o → limits ≡ limits' →
@@ -121,9 +196,9 @@ made_at None Calm s h = tt
 made_at (Some options) Calm s h = λ made calm. h calm
 
 -- a stop where the script is told is a part of its output
-pub told_part : (limits : Limits) (first : ℕ) (kept : Type 0) (left : Option (List ℕ)) (held held' : Option Contents) (old new : Option (List ℕ)) (completed : ℕ) (engine : EngineContent) →
-    WhereTold limits (Some first) left held (λ start script. IsStopped limits start (lines limits.line script) completed engine.version kept held' old new) →
+pub told_part : (limits : Limits) (first : ℕ) (how : Ending) (kept : Type 0) (left : Option (List ℕ)) (held held' : Option Contents) (old new : Option (List ℕ)) (completed : ℕ) (engine : EngineContent) →
+    WhereTold limits (Some first) left held (λ start script. IsStopped limits start (lines limits.line script) completed engine.version how kept held' old new) →
     WhereTold limits (Some first) left held (λ start script. GetsPart old new (output_by limits start script))
-told_part limits first kept left held held' old new completed engine = told_as limits first left held
-    (λ start script. IsStopped limits start (lines limits.line script) completed engine.version kept held' old new) (λ start script. GetsPart old new (output_by limits start script))
-    (λ start script stop. part_stopped limits start script completed engine.version kept held' old new stop)
+told_part limits first how kept left held held' old new completed engine = told_as limits first left held
+    (λ start script. IsStopped limits start (lines limits.line script) completed engine.version how kept held' old new) (λ start script. GetsPart old new (output_by limits start script))
+    (λ start script stop. part_stopped limits start script completed engine.version how kept held' old new stop)

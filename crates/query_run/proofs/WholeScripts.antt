@@ -10,10 +10,8 @@ use Rattle.collection.specs.Engines.{EngineContent}
 use Rattle.script_answers.specs.States.{State, opening, Keeps, IsFresh}
 use Rattle.script_answers.specs.Images.{Images}
 use Rattle.script_answers.specs.Answers.{state_after}
-use Rattle.script_answers.specs.Progress.{AreAnswered, HasCome}
-use Rattle.query_run.specs.Runs.{HasAnswered, IsLeftBy, HandsOverMore}
+use Rattle.query_run.specs.Runs.{HandsOverMore}
 use Rattle.script_answers.specs.declared.limits.Limits.{Limits}
-use Rattle.script_answers.proofs.Scripts.{begins}
 
 -- an engine that was just opened keeps the state before the first line
 pub fresh_keeps : (engine : EngineContent) (lines : ℕ) (contents : Contents) (images : Images) → IsFresh engine lines → Keeps engine false (opening engine.version.first contents images)
@@ -21,36 +19,6 @@ fresh_keeps engine lines contents images fresh = record {
   stands = subst (λ (v : VersionContent). StandsFor v (empty_from engine.version.first)) (sym fresh.version) (record { first = refl; next = refl; next_id = refl; dels = refl; files = refl; words = refl });
   slots = sym (ap (λ (v : VersionContent). ranges_of v.slots) fresh.version);
 }
-
--- no line is answered yet
-pub fresh_come : (limits : Limits) (engine : EngineContent) (completed : ℕ) (contents : Contents) (images : Images) (held : Option Contents) (all : List Line) (old : Option (List ℕ)) → IsFresh engine completed →
-    held ≡ Some contents → HasCome limits (opening engine.version.first contents images) (take completed all) held engine false false old old
-fresh_come limits engine completed contents images held all old fresh is =
-    subst (λ (n : ℕ). HasCome limits (opening engine.version.first contents images) (take n all) held engine false false old old) (sym fresh.none)
-    (begins limits (opening engine.version.first contents images) held engine false old (record { files = is; keeps = fresh_keeps engine completed contents images fresh }))
-
--- all lines are answered
-pub ends : (limits : Limits) (start : State) (script : List ℕ) (n : ℕ) (held : Option Contents) (engine : EngineContent) (wanted refusal : Bool) (old new : Option (List ℕ)) →
-    length (lines limits.line script) ≤ n → HasCome limits start (take n (lines limits.line script)) held engine wanted refusal old new → HasAnswered limits start script refusal held old new
-ends limits start script n held engine wanted refusal old new past come =
-    let done : take n (lines limits.line script) ≡ lines limits.line script = take_all n (lines limits.line script) past in
-    let are : AreAnswered limits start (lines limits.line script) refusal old new = subst (λ (l : List Line). AreAnswered limits start l refusal old new) done come.are in
-    record {
-      all = are.answered;
-      written = are.written;
-      refusal_is = are.refusal_is;
-      files = come.at.files ∙ ap (λ (l : List Line). Some (state_after limits start l).files) done;
-    }
-
--- the engine keeps the state after all lines
-pub left : (limits : Limits) (start : State) (script : List ℕ) (n : ℕ) (engine : EngineContent) →
-    length (lines limits.line script) ≤ n → n ≤ length (lines limits.line script) → Keeps engine false (state_after limits start (take n (lines limits.line script))) → IsLeftBy limits start script engine n
-left limits start script n engine past within keeps =
-    let done : take n (lines limits.line script) ≡ lines limits.line script = take_all n (lines limits.line script) past in
-    record {
-      keeps = subst (λ (l : List Line). Keeps engine false (state_after limits start l)) done keeps;
-      each = omega (arith, past, within);
-    }
 
 -- no more can be handed over than was left
 pub not_more : (most : ℕ) (old new : Option (List ℕ)) → IsSomeAnd old (λ script. length script ≤ most) → HandsOverMore most old new → ⊥

@@ -1,5 +1,5 @@
 pub mod Faults
 pub mod Runs
 pub mod Statuses
-pub mod Streams
 pub mod Words
+pub mod inner

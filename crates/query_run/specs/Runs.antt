@@ -1,13 +1,13 @@
 -- What a run says of its source, its files and its sink.
-use Rattle.std.specs.Prelude.{◌≡◌, Bool, false, ℕ, ◌+◌, ◌≤◌, List, length, take, drop, Option, Some, IfSome}
+use Rattle.std.specs.Prelude.{◌≡◌, Bool, false, ℕ, ◌+◌, ◌≤◌, List, [], length, take, drop, Option, Some, IfSome}
 use Rattle.std.specs.Io.KnownBytes.{Appends, Consumes, IsAtEnd}
 use Rattle.outside.specs.Contents.{Contents}
 use Rattle.script_lang.specs.Lines.{Line, lines, ended, text_of_lines}
 use Rattle.collection.specs.Engines.{EngineContent}
 use Rattle.script_answers.specs.States.{State, opening, greatest_limits, Keeps}
 use Rattle.script_answers.specs.Images.{Images}
-use Rattle.script_answers.specs.Answers.{answers, state_after, AllAnswered, AreRead, output_by, output, has_refusal_by, names_kept_of}
-use Rattle.script_answers.specs.Stopped.{GetsPart, HoldsBut}
+use Rattle.script_answers.specs.Answers.{answers, state_after, AllAnswered, AreRead, output_by, output, has_refusal_by, names_kept_of, names_of}
+use Rattle.script_answers.specs.Stopped.{Ending, GetsPart, HoldsBut, IsAllWritten, IsOfFiles, begun}
 use Rattle.script_answers.specs.declared.limits.Limits.{Limits}
 use Rattle.gcl_model.specs.Limits.{most_line}
 use Rattle.made_corpus.specs.MadeFiles.{made_files}
@@ -45,26 +45,29 @@ pub record IsLeftBy (limits : Limits) (start : State) (script : List ℕ) (engin
   pub keeps : Keeps engine false (state_after limits start (lines limits.line script))
   pub each : completed ≡ length (lines limits.line script)
 
--- Some lines are completed: the sink got the beginning of the answers to them and the line after them, and the files hold what they leave,
--- but for the name that the line after them saves, and where each keep succeeded exactly that
-pub record HasStopped (limits : Limits) (start : State) (script : List Line) (kept : Type 0) (held : Option Contents) (old new : Option (List ℕ)) : Type 0 where
+-- Some lines are completed: the sink got the beginning of the answers to them and to the query that the next line asks, if it asks one, and where no write
+-- failed and there was memory, it got all answers to them and no more. The files hold what the lines leave, but for the name that the next line
+-- saves, and where each keep succeeded exactly that. Where the files failed, the next line names one
+pub record HasStopped (limits : Limits) (start : State) (script : List Line) (how : Ending) (kept : Type 0) (held : Option Contents) (old new : Option (List ℕ)) : Type 0 where
   pub completed : ℕ
   pub within : completed ≤ length script
-  pub part : GetsPart old new (text_of_lines (answers limits start (take (completed + 1) script)))
+  pub part : GetsPart old new (text_of_lines (answers limits start (take (completed + begun (drop completed script)) script)))
+  pub all : IsAllWritten how → Appends old new (text_of_lines (answers limits start (take completed script)))
   pub files : HoldsBut (names_kept_of (take 1 (drop completed script))) (state_after limits start (take completed script)).files held
   pub exact : kept → held ≡ Some (state_after limits start (take completed script)).files
+  pub named : IsOfFiles how → ¬ (names_of (take 1 (drop completed script)) ≡ [])
 
--- the source handed over so many bytes
+-- the source handed over this many bytes
 pub record HandsOver (count : ℕ) (old new : Option (List ℕ)) : Type 0 where
   pub taken : List ℕ
   pub from : Consumes old new taken
   pub count_is : length taken ≡ count
 
--- the source handed over one byte more than so many, and no byte after that
+-- the source handed over one byte more than this many, and no byte after that
 abbrev pub HandsOverMore : ℕ → Option (List ℕ) → Option (List ℕ) → Type 0
 HandsOverMore most old new = HandsOver (most + 1) old new
 
--- the source handed over at most one byte more than so many
+-- the source handed over at most one byte more than this many
 pub record TakesWithin (most : ℕ) (old new : Option (List ℕ)) : Type 0 where
   pub taken : List ℕ
   pub from : Consumes old new taken

@@ -24,18 +24,3 @@ pub use script_answers::{BATCH_MOST, IMAGE_MOST, Limits, SCRIPT_MOST};
 pub use status::Status;
 pub use stream::serve;
 pub use top::run;
-
-#[cfg(test)]
-mod fault_tests;
-#[cfg(test)]
-mod made_tests;
-#[cfg(test)]
-mod plain_tests;
-#[cfg(test)]
-mod stream_tests;
-#[cfg(test)]
-mod tests;
-#[cfg(test)]
-mod trials;
-#[cfg(test)]
-mod window_tests;

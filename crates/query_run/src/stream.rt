@@ -1,89 +1,105 @@
-ghost use Rattle.std.specs.Prelude.{◌≡◌, ◌≤◌, ◌<◌, [], Some, true, false, IfOk, OnOk, IfSome, IsSomeAnd, IsErrOf, length};
-ghost use Rattle.gcl_model.specs.Limits.{most_readers};
+ghost use Rattle.std.specs.Prelude.{◌≡◌, ◌≤◌, ◌<◌, [], Some, true, false, OnOk, OnErr, IfSome, IsSomeAnd, IsErrOf, length};
+ghost use Rattle.gcl_model.specs.Limits.{most_readers, most_script};
 ghost use Rattle.outside.specs.Causes.{Rose};
 ghost use Rattle.script_lang.specs.Lines.{lines};
 ghost use Rattle.query_lanes.specs.Readers.{AreOf};
-ghost use Rattle.script_answers.specs.States.{AreLimits, IsFresh};
-ghost use Rattle.query_run.specs.Statuses.{IsFinished, IsCutOff, IsAllAnswered, IsSureOfFiles};
-ghost use Rattle.query_run.specs.Streams.{HasStreamCauses, IsSure};
 ghost use Rattle.script_answers.specs.Answers.{names_kept_of, names_of, output_by};
-ghost use Rattle.query_run.specs.Runs.{WhereTold, IsAnsweredBy, IsLeftBy, HandsOverMore, TakesWithin, within};
+ghost use Rattle.script_answers.specs.States.{AreLimits, IsFresh};
 ghost use Rattle.script_answers.specs.Stopped.{GetsPart, IsStopped};
+ghost use Rattle.script_answers.specs.inner.Service.{Counts, Halts, IsServing, Serves, stand};
+ghost use Rattle.query_run.specs.Runs.{HandsOverMore, HasAnswered, IsAnsweredBy, IsLeftBy, TakesWithin, WhereTold, within};
+ghost use Rattle.query_run.specs.Statuses.{IsAllAnswered, IsCutOff, IsFinished, IsSureOfFiles, ending_of as status_ending};
+ghost use Rattle.query_run.specs.inner.Streams.{HasRead, IsSure, LeavesFiles, ServesWithin, ending_of};
 
 use crate::read::read_piece;
 use crate::status::Status;
 use crate::stream_fault::StreamFault;
 use collection::Opened;
 use outside::{Files, Gate, Sink, Source};
-use query_lanes::Work;
-use script_answers::{Course, Limits, Setting, merge_wanted, serve_held};
+use query_lanes::Context;
+use script_answers::{Limits, Progress, Setting, merge_pending, serve_held};
 use script_lang::LineFeed;
 use std::alloc::Global;
 use std::sync::Wait;
 use std::thread::Threads;
 
-/// Reads a script piece by piece, and answers the lines of each piece before it reads the next; says whether a refusal is among the answers.
-fn serve_pieces<R: Threads + Wait + Sync, F: Files, S: Source, K: Sink, G: Gate + Sync>(
-    setting: &Setting<R, G>,
+/// Reads a script piece by piece, and answers the lines of each piece before it reads the next.
+fn serve_script<R: Threads + Wait + Sync, F: Files, S: Source, K: Sink, G: Gate + Sync>(
+    setting: &Setting<'_, R, G>,
     files: &mut F,
     source: &mut S,
     sink: &mut K,
     opened: &mut Opened,
-) -> Result<bool, StreamFault>
+    progress: &mut Progress,
+) -> Result<(), StreamFault>
+    requires serving { IsServing opened.old progress.old 0 }
+    requires none { opened.old.lines ≡ 0 }
+    ensures serves { OnOk result (IfSome (S.left source.old) (λ script. Serves setting.now.limits (lines setting.now.limits.line script)
+        (stand (F.held files.old) opened.old progress.old) (stand (F.held files.new) opened.new progress.new) (K.written sink.old) (K.written sink.new))) }
+    ensures halts { OnErr result (IfSome (S.left source.old) (λ script. Halts setting.now.limits (lines setting.now.limits.line script) (ending_of result)
+        (F.unkept files.new ≡ F.unkept files.old)
+        (stand (F.held files.old) opened.old progress.old) (stand (F.held files.new) opened.new progress.new) (K.written sink.old) (K.written sink.new))) }
+    ensures within { IsErrOf result StreamFault.TooLong → IfSome (S.left source.old) (λ script. ServesWithin setting.now.limits script
+        (stand (F.held files.old) opened.old progress.old) (stand (F.held files.new) opened.new progress.new) (K.written sink.old) (K.written sink.new)) }
+    ensures serving { OnOk result (IsServing opened.new progress.new 0 × (opened.new.lines ≤ most_script)) }
+    ensures read { HasRead setting.now.limits.script (S.left source.old) (S.left source.new) (S.faults source.old) (S.faults source.new) result }
+    ensures files { LeavesFiles setting.now.limits.line (S.left source.old) (files.new ≡ files.old) (F.held files.new ≡ F.held files.old)
+        (F.unkept files.new ≡ F.unkept files.old) result }
+    ensures sink { Counts (K.faults sink.old) (K.faults sink.new) (IsErrOf result StreamFault.Write) }
+    ensures faults { Counts (F.faults files.old) (F.faults files.new) (IsErrOf result StreamFault.Files) }
+{
+    let mut feed = LineFeed::new(setting.context.alloc, setting.limits.line);
+    let mut read = 0;
+    while read_piece(source, &mut feed, &mut read, setting.limits.script)? {
+        serve_held(setting, files, sink, opened, progress, feed.ready())?;
+        feed.take_ready();
+    }
+    serve_held(setting, files, sink, opened, progress, feed.rest())?;
+    Ok(())
+}
+
+/// Answers a script on an engine that was just opened, and makes the merge that is pending at its end, if one is.
+fn serve_all<R: Threads + Wait + Sync, F: Files, S: Source, K: Sink, G: Gate + Sync>(
+    setting: &Setting<'_, R, G>,
+    files: &mut F,
+    source: &mut S,
+    sink: &mut K,
+    opened: &mut Opened,
+    progress: &mut Progress,
+) -> Result<(), StreamFault>
     requires opened { IsFresh opened.old.engine opened.old.lines }
-    requires of { AreOf opened.old.engine.publisher opened.old.readers.items }
-    requires lanes { length opened.old.readers.items ≤ most_readers }
-    requires limits { AreLimits setting.now.limits }
-    ensures answered { IfOk result (λ refusal.
-        WhereTold setting.now.limits (Some opened.old.engine.version.first) (S.left source.old) (F.held files.old) (λ start script.
-        IsAnsweredBy setting.now.limits start script refusal (S.left source.new) (F.held files.new) (K.written sink.old) (K.written sink.new))) }
-    ensures left { OnOk result (
-        WhereTold setting.now.limits (Some opened.old.engine.version.first) (S.left source.old) (F.held files.old) (λ start script.
+    requires readers { AreOf opened.old.engine.publisher opened.old.readers.items × (length opened.old.readers.items ≤ most_readers) }
+    requires progress { (progress.old.asked ≡ 0) × (progress.old.refused ≡ false) × (progress.old.pending ≡ false) }
+    ensures answered { OnOk result (WhereTold setting.now.limits (Some opened.old.engine.version.first) (S.left source.old) (F.held files.old) (λ start script.
+        HasAnswered setting.now.limits start script progress.new.refused (F.held files.new) (K.written sink.old) (K.written sink.new))) }
+    ensures left { OnOk result (WhereTold setting.now.limits (Some opened.old.engine.version.first) (S.left source.old) (F.held files.old) (λ start script.
         IsLeftBy setting.now.limits start script opened.new.engine opened.new.lines)) }
     ensures stopped { WhereTold setting.now.limits (Some opened.old.engine.version.first) (S.left source.old) (F.held files.old) (λ start script.
-        IsStopped setting.now.limits start (lines setting.now.limits.line script) opened.new.lines opened.new.engine.version
+        IsStopped setting.now.limits start (lines setting.now.limits.line script) opened.new.lines opened.new.engine.version (ending_of result)
         (F.unkept files.new ≡ F.unkept files.old) (F.held files.new) (K.written sink.old) (K.written sink.new)) }
-    ensures sure { IsSure result → F.unkept files.new ≡ F.unkept files.old }
     ensures part_within { IsErrOf result StreamFault.TooLong →
         WhereTold setting.now.limits (Some opened.old.engine.version.first) (S.left source.old) (F.held files.old) (λ start script.
         GetsPart (K.written sink.old) (K.written sink.new) (output_by setting.now.limits start (within setting.now.limits.script script))) }
-    ensures too_long { IsErrOf result StreamFault.TooLong → HandsOverMore setting.now.limits.script (S.left source.old) (S.left source.new) }
-    ensures took { TakesWithin setting.now.limits.script (S.left source.old) (S.left source.new) }
-    ensures short { OnOk result (IfSome (S.left source.old) (λ script. length script ≤ setting.now.limits.script)) }
-    ensures quiet { IfSome (S.left source.old) (λ script. names_of (lines setting.now.limits.line script) ≡ [] → files.new ≡ files.old) }
-    ensures unsaved { IfSome (S.left source.old) (λ script. names_kept_of (lines setting.now.limits.line script) ≡ [] → F.held files.new ≡ F.held files.old) }
-    ensures causes { HasStreamCauses (S.faults source.old) (S.faults source.new) (K.faults sink.old) (K.faults sink.new)
-        (F.faults files.old) (F.faults files.new) result }
-    ensures source_calm { OnOk result (S.faults source.new ≡ S.faults source.old) }
-    ensures sink_calm { OnOk result (K.faults sink.new ≡ K.faults sink.old) }
-    ensures files_calm { OnOk result (F.faults files.new ≡ F.faults files.old) }
+    ensures read { HasRead setting.now.limits.script (S.left source.old) (S.left source.new) (S.faults source.old) (S.faults source.new) result }
+    ensures files { LeavesFiles setting.now.limits.line (S.left source.old) (files.new ≡ files.old) (F.held files.new ≡ F.held files.old)
+        (F.unkept files.new ≡ F.unkept files.old) result }
+    ensures sink { Counts (K.faults sink.old) (K.faults sink.new) (IsErrOf result StreamFault.Write) }
+    ensures faults { Counts (F.faults files.old) (F.faults files.new) (IsErrOf result StreamFault.Files) }
 {
+    // by it the collection of an empty engine is known to be one that can be saved
     let _version = opened.engine.version();
-    let works = Work::of_lanes(setting.alloc, opened.readers.len())?;
-    let mut course = Course::new(setting.alloc, works);
-    let mut feed = LineFeed::new(setting.alloc, setting.limits.line);
-    let mut read = 0;
-    while read_piece(source, &mut feed, &mut read, setting.limits.script)? {
-        serve_held(setting, files, sink, opened, &mut course, feed.ready())?;
-        feed.take_ready();
-    }
-    serve_held(setting, files, sink, opened, &mut course, feed.rest())?;
-    merge_wanted(
-        setting.rt,
-        setting.gate,
-        &mut opened.engine,
-        &mut course.wanted,
-    )?;
-    Ok(course.refused)
+    serve_script(setting, files, source, sink, opened, progress)?;
+    merge_pending(&setting.context, &mut opened.engine, &mut progress.pending)?;
+    Ok(())
 }
 
 /// Answers the script that a source hands out, on an engine that was just opened. Before the source is asked for more, each whole line that it
 /// has handed out is answered, and the answer is handed to the sink: so whoever waits for an answer before the next line is sent is not left
 /// waiting.
 ///
-/// Queries are answered in batches by the engine's readers, beside a merge that is wanted; before that other lines after them may be done, but
-/// for those that save or open an image. `opened.lines` counts the lines that are completed: a query once its answer is put, or it is put off
-/// before such a line, any other line once its answer is made. It is not for this call to end the engine.
+/// Queries in a row are a batch, which the engine's readers answer beside a merge that is pending. `opened.lines` counts the lines that are
+/// completed: one that changes the collection or a file once that is done, any other once its answer is made. It is not for this call to end
+/// the engine.
 pub fn serve<R: Threads + Wait + Sync, F: Files, S: Source, K: Sink, G: Gate + Sync>(
     rt: &R,
     alloc: Global,
@@ -111,10 +127,11 @@ pub fn serve<R: Threads + Wait + Sync, F: Files, S: Source, K: Sink, G: Gate + S
 
     // Whatever the status, some lines are completed, the sink gets the beginning of the output, and the files hold exactly what these lines
     // leave; but where a keep answered an error that is so of every name but the one that the next line saves. None did, unless the status
-    // names a fault of a file or want of memory.
+    // names a fault of a file or is out of memory. Where the status names a fault of the source or the files, or too long a script, all
+    // answers to these lines are written and nothing else; and at a fault of the files the next line is the one that names the file.
     ensures stopped { WhereTold limits.now (Some opened.old.engine.version.first) (S.left source.old) (F.held files.old) (λ start script.
-        IsStopped limits.now start (lines limits.now.line script) opened.new.lines opened.new.engine.version (F.unkept files.new ≡ F.unkept files.old)
-        (F.held files.new) (K.written sink.old) (K.written sink.new)) }
+        IsStopped limits.now start (lines limits.now.line script) opened.new.lines opened.new.engine.version (status_ending result)
+        (F.unkept files.new ≡ F.unkept files.old) (F.held files.new) (K.written sink.old) (K.written sink.new)) }
     ensures sure { IsSureOfFiles result → F.unkept files.new ≡ F.unkept files.old }
     ensures part { WhereTold limits.now (Some opened.old.engine.version.first) (S.left source.old) (F.held files.old) (λ start script.
         GetsPart (K.written sink.old) (K.written sink.new) (output_by limits.now start script)) }
@@ -150,14 +167,13 @@ pub fn serve<R: Threads + Wait + Sync, F: Files, S: Source, K: Sink, G: Gate + S
     ensures unsaved { IfSome (S.left source.old) (λ script. names_kept_of (lines limits.now.line script) ≡ [] → F.held files.new ≡ F.held files.old) }
 {
     let setting = Setting {
-        rt,
-        alloc,
-        gate,
+        context: Context { rt, alloc, gate },
         limits: *limits,
     };
-    match serve_pieces(&setting, files, source, sink, opened) {
-        Ok(false) => Status::Done,
-        Ok(true) => Status::DoneWithRefusals,
+    let mut progress = Progress::new(alloc);
+    match serve_all(&setting, files, source, sink, opened, &mut progress) {
+        Ok(()) if progress.refused => Status::DoneWithRefusals,
+        Ok(()) => Status::Done,
         Err(StreamFault::Read) => Status::ReadFault,
         Err(StreamFault::TooLong) => Status::ScriptTooLong,
         Err(StreamFault::Write) => Status::WriteFault,

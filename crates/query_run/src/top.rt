@@ -4,7 +4,7 @@ ghost use Rattle.gcl_model.specs.Limits.{most_line, most_script};
 ghost use Rattle.script_lang.specs.Lines.{lines};
 ghost use Rattle.command_words.specs.Grammar.{options_of};
 ghost use Rattle.query_run.specs.Words.{first_of};
-ghost use Rattle.query_run.specs.Statuses.{IsSureOfFiles, IsFinished, IsCutOff, IsAllAnswered};
+ghost use Rattle.query_run.specs.Statuses.{IsSureOfFiles, IsFinished, IsCutOff, IsAllAnswered, ending_of};
 ghost use Rattle.script_answers.specs.States.{greatest_limits};
 ghost use Rattle.script_answers.specs.Answers.{output, names_kept_of, names_of};
 ghost use Rattle.query_run.specs.Runs.{TakesWithin, WhereTold, WhereMadeBy, HasStopped, IsAnswered, IsSummed, HandsOverMore, made_summary, within};
@@ -47,9 +47,10 @@ pub fn run<R: Threads + Wait + Sync, F: Files, S: Source, K: Sink, G: Gate + Syn
 
     // Whatever the status, some lines are completed, the sink gets the beginning of the output, and the files hold exactly what these lines
     // leave; but where a keep answered an error that is so of every name but the one that the next line saves. None did, unless the status
-    // names a fault of a file or want of memory.
+    // names a fault of a file or is out of memory. Where the status names a fault of the source or the files, or too long a script, all
+    // answers to these lines are written and nothing else; and at a fault of the files the next line is the one that names the file.
     ensures stopped { WhereTold greatest_limits (first_of words.now) (S.left source.old) (F.held files.old) (λ start script.
-        HasStopped greatest_limits start (lines most_line script) (F.unkept files.new ≡ F.unkept files.old)
+        HasStopped greatest_limits start (lines most_line script) (ending_of result) (F.unkept files.new ≡ F.unkept files.old)
         (F.held files.new) (K.written sink.old) (K.written sink.new)) }
     ensures sure { IsSureOfFiles result → F.unkept files.new ≡ F.unkept files.old }
     ensures part { WhereTold greatest_limits (first_of words.now) (S.left source.old) (F.held files.old) (λ start script.

@@ -1,5 +1,5 @@
 -- Batches: the queries of lines, their answers, and what becomes of the engine.
-use Rattle.std.proofs.Common.{◌≡◌, ℕ, suc, Bool, true, false, List, [], ◌∷◌, ◌++◌, length, Option, Some, None, IsSome, refl, sym, ap, ◌∙◌, subst, append_assoc}
+use Rattle.std.proofs.Common.{◌≡◌, ℕ, ◌<◌, zero, suc, Bool, true, false, List, [], ◌∷◌, ◌++◌, length, take, drop, arith, Option, Some, None, IsSome, refl, sym, ap, ◌∙◌, subst, append_assoc}
 use Rattle.std.specs.Prelude.{flat_map, if◌then◌else◌}
 use Rattle.gcl_model.specs.Texts.{Text}
 use Rattle.gcl_model.specs.Forms.{Form}
@@ -20,8 +20,9 @@ use Rattle.query_lanes.specs.declared.asks.Ask.{Ask}
 use Rattle.query_lanes.specs.declared.asks.Asked.{Asked}
 use Rattle.query_lanes.specs.Merges.{IsMergedWhere}
 use Rattle.script_answers.specs.States.{State, Keeps}
-use Rattle.script_answers.specs.Answers.{Reply, asked_lines, query_lines, lines_by, unchanged, refusal_lines, reply, answer, answers, after_reply, state_after, with_later, AllAnswered, AreRead}
-use Rattle.script_answers.specs.Batches.{ask_lines, IsAskedBy, AsksLine, AreAsked, Begins}
+use Rattle.script_answers.specs.Stopped.{begun}
+use Rattle.script_answers.specs.Answers.{Reply, asked_lines, query_lines, lines_by, unchanged, refusal_lines, reply, answer, answers, asks_query, is_query, after_reply, state_after, with_later, AllAnswered, AreRead}
+use Rattle.script_answers.specs.inner.Asks.{ask_lines, asks_text, IsAskedBy, AsksLine, AreAsked}
 use Rattle.script_answers.specs.declared.limits.Limits.{Limits}
 
 -- the lines of a query that is not refused are those of the one form that it stands for
@@ -39,22 +40,8 @@ pub no_fault : (fault : Option QueryFault) → ((wrong : QueryFault) → fault �
 no_fault None none = refl
 no_fault (Some wrong) none = absurd (none wrong refl)
 
-asked_more : (asks : List Ask) (batch : List Line) (ask : Ask) (line : Line) → AreAsked asks batch → AsksLine ask line → AreAsked (asks ++ ask ∷ []) (batch ++ line ∷ [])
-asked_more [] [] ask line are is = (is, tt)
-asked_more [] (other ∷ batch) ask line are is = absurd are
-asked_more (other ∷ asks) [] ask line are is = absurd are
-asked_more (other ∷ asks) (first ∷ batch) ask line are is = (are.0, asked_more asks batch ask line are.1 is)
-
--- a line more
-pub begins_more : (asks : List Ask) (all left rest : List Line) (ask : Ask) (line : Line) → Begins asks all left → left ≡ line ∷ rest → AsksLine ask line → Begins (asks ++ ask ∷ []) all rest
-begins_more asks all left rest ask line begins next is = record {
-  batch = begins.batch ++ line ∷ [];
-  whole = begins.whole ∙ ap (λ l. begins.batch ++ l) next ∙ sym (append_assoc begins.batch (line ∷ []) rest);
-  are = asked_more asks begins.batch ask line begins.are is;
-}
-
--- beside a batch the engine keeps the state, with the merge made where it was wanted
-pub merged_keeps : (wanted : Bool) (old new : EngineContent) (state : State) → IsMergedWhere wanted old new → Keeps old wanted state → Keeps new false state
+-- beside a batch the engine keeps the state, with the merge made where it was pending
+pub merged_keeps : (pending : Bool) (old new : EngineContent) (state : State) → IsMergedWhere pending old new → Keeps old pending state → Keeps new false state
 merged_keeps true old new state merged keeps = record {
   stands = merged.1.change.stands state.collection keeps.stands;
   slots = keeps.slots ∙ sym (merged.1.change.ranges state.collection keeps.stands);
@@ -118,11 +105,43 @@ batch_length [] (line ∷ batch) are = absurd are
 batch_length (ask ∷ asks) [] are = absurd are
 batch_length (ask ∷ asks) (line ∷ batch) are = ap suc (batch_length asks batch are.1)
 
--- what the lines after it open is read rightly
-pub batch_read : (limits : Limits) (state : State) (asks : List Ask) (batch rest : List Line) → AreAsked asks batch → AreRead limits state (batch ++ rest) → AreRead limits state rest
-batch_read limits state [] [] rest are read = read
-batch_read limits state [] (line ∷ batch) rest are read = absurd are
-batch_read limits state (ask ∷ asks) [] rest are read = absurd are
-batch_read limits state (ask ∷ asks) (line ∷ batch) rest are read =
-    batch_read limits state asks batch rest are.1
-    (subst (λ (o : Option Reply). AreRead limits (after_reply state o) (batch ++ rest)) (batch_answers limits state ask line are.0) read.1)
+-- a query more
+pub asked_more : (asks : List Ask) (batch : List Line) (ask : Ask) (line : Line) → AreAsked asks batch → AsksLine ask line → AreAsked (asks ++ ask ∷ []) (batch ++ line ∷ [])
+asked_more [] [] ask line are is = (is, tt)
+asked_more [] (other ∷ batch) ask line are is = absurd are
+asked_more (other ∷ asks) [] ask line are is = absurd are
+asked_more (other ∷ asks) (first ∷ batch) ask line are is = (are.0, asked_more asks batch ask line are.1 is)
+
+-- the front of a batch
+pub asked_front : (n : ℕ) (asks : List Ask) (batch : List Line) → AreAsked asks batch → AreAsked (take n asks) (take n batch)
+asked_front zero asks batch are = tt
+asked_front (suc n) [] [] are = tt
+asked_front (suc n) [] (line ∷ batch) are = absurd are
+asked_front (suc n) (ask ∷ asks) [] are = absurd are
+asked_front (suc n) (ask ∷ asks) (line ∷ batch) are = (are.0, asked_front n asks batch are.1)
+
+-- a line that asks a query is known to
+asks_known : (ask : Ask) (command : Command) → IsAskedBy ask command → is_query command ≡ true
+asks_known ask (Find query) asks = refl
+asks_known ask (Count query) asks = refl
+asks_known ask (Top most query) asks = refl
+asks_known ask Blank asks = absurd asks
+asks_known ask (Add name) asks = absurd asks
+asks_known ask (Del id) asks = absurd asks
+asks_known ask Files asks = absurd asks
+asks_known ask Merge asks = absurd asks
+asks_known ask Shards asks = absurd asks
+asks_known ask (Save name) asks = absurd asks
+asks_known ask (Load name) asks = absurd asks
+asks_known ask Wrong asks = absurd asks
+
+asks_a_query : (ask : Ask) (line : Line) → AsksLine ask line → asks_query line ≡ true
+asks_a_query ask line asks = ap (λ (long : Bool). if long then false else is_query (command_of line.bytes)) asks.short ∙ asks_known ask (command_of line.bytes) asks.asks
+
+-- of the lines of a batch that are left the first one may be answered in part
+pub one_begun : (i : ℕ) (asks : List Ask) (batch : List Line) → AreAsked asks batch → i < length batch → begun (drop i batch) ≡ 1
+one_begun i [] [] are lt = absurd (omega (arith, lt))
+one_begun i [] (line ∷ batch) are lt = absurd are
+one_begun i (ask ∷ asks) [] are lt = absurd are
+one_begun zero (ask ∷ asks) (line ∷ batch) are lt = ap (λ (b : Bool). if b then 1 else 0) (asks_a_query ask line are.0)
+one_begun (suc i) (ask ∷ asks) (line ∷ batch) are lt = one_begun i asks batch are.1 (omega (arith, lt))

@@ -1,47 +1,100 @@
--- The text of the answers to the first queries of a batch.
-use Rattle.std.proofs.Common.{◌≡◌, ℕ, ◌+◌, ◌-◌, ◌<◌, List, [], ◌∷◌, ◌++◌, zero, suc, length, map, take, drop, get_or, sym, ap, ◌∙◌, Option, arith, take-add, append-nil}
-use Rattle.std.proofs.lemmas.List.{take_more, length-map, length-drop}
-use Rattle.std.proofs.lemmas.Grind.{flat_map-append}
-use Rattle.std.specs.Prelude.{flat_map}
+-- A whole batch, and a stop within it.
+use Rattle.std.proofs.Common.{◌≡◌, ℕ, ◌+◌, ◌-◌, ◌≤◌, ◌<◌, ◌||◌, inl, inr, List, [], ◌++◌, length, take, drop, take_all, refl, sym, ap, ◌∙◌, Option, Some, subst, arith}
+use Rattle.std.specs.Prelude.{flat_map, ⊤}
+use Rattle.std.specs.List.{list_any}
+use Rattle.std.specs.Io.KnownBytes.{Appends}
+use Rattle.std.proofs.KnownBytes.{Appends-nil}
+use Rattle.std.proofs.Math.Dec.{ltb}
+use Rattle.std.proofs.lemmas.Bool.{cases_Bool, ltb-false, ltb-true}
+use Rattle.gcl_model.specs.Collections.{text_of}
 use Rattle.gcl_model.specs.Texts.{Text}
+use Rattle.live_version.specs.Contents.{version_text}
+use Rattle.live_version.specs.StandsFor.{StandsFor}
+use Rattle.script_lang.specs.Answers.{is_refusal}
 use Rattle.script_lang.specs.Lines.{Line, text_of_lines}
 use Rattle.query_lanes.specs.declared.asks.Ask.{Ask}
-use Rattle.script_answers.specs.Batches.{AreAsked, ask_lines}
-use Rattle.script_answers.specs.Pages.{PutsPart}
-use Rattle.script_answers.proofs.PutLemmas.{part_as, part_on}
+use Rattle.script_answers.specs.States.{State, Keeps}
+use Rattle.script_answers.specs.Answers.{answers, state_after}
+use Rattle.script_answers.specs.Stopped.{Ending, GetsPart, IsAllWritten, IsOfFiles, begun}
+use Rattle.script_answers.specs.inner.Asks.{AreAsked, ask_lines, asks_refuse, asks_text}
+use Rattle.script_answers.specs.inner.Service.{Halts, IsAtStand, Serves, Stand}
+use Rattle.script_answers.specs.declared.limits.Limits.{Limits}
+use Rattle.script_answers.proofs.BatchLemmas.{asked_front, batch_answered, batch_length, batch_lines, batch_state, one_begun}
+use Rattle.script_answers.proofs.Scripts.{all_held}
 
--- the text of the answers to the first so many queries
-abbrev pub front_text : Text → List Ask → ℕ → List ℕ
-front_text text asks n = text_of_lines (flat_map (ask_lines text) (take n asks))
+-- it was answered where the engine keeps each state of before, and the answers are those to its queries over the collection
+pub serves_batch : (limits : Limits) (asks : List Ask) (batch : List Line) (before after : Stand) (old new : Option (List ℕ)) → AreAsked asks batch → after.completed ≡ before.completed + length asks → after.held ≡ before.held →
+    ((state : State) → Keeps before.engine before.pending state → Keeps after.engine after.pending state) →
+    ((state : State) → Keeps before.engine before.pending state → (text_of state.collection ≡ version_text after.engine.version)) →
+    after.refused ≡ (before.refused || asks_refuse (version_text after.engine.version) asks) → Appends old new (asks_text (version_text after.engine.version) asks) → Serves limits batch before after old new
+serves_batch limits asks batch before after old new are count held keeps same refused written = record {
+  completed = let long = batch_length asks batch are in omega (arith, count, long);
+  served = λ state at read.
+      let left : state_after limits state batch ≡ state = batch_state limits state asks batch are in
+      let lines : answers limits state batch ≡ flat_map (ask_lines (version_text after.engine.version)) asks =
+      batch_lines limits state asks batch are ∙ ap (λ (t : Text). flat_map (ask_lines t) asks) (same state at.keeps) in
+      record {
+        answered = batch_answered limits state asks batch are;
+        at = subst (IsAtStand after) (sym left) (record { files = held ∙ at.files; keeps = keeps state at.keeps });
+        refused_is = refused ∙ ap (λ (l : List (List ℕ)). before.refused || list_any is_refusal l) (sym lines);
+        written = subst (λ (l : List (List ℕ)). Appends old new (text_of_lines l)) (sym lines) written;
+      };
+}
 
--- the front of a batch
-pub asked_front : (n : ℕ) (asks : List Ask) (batch : List Line) → AreAsked asks batch → AreAsked (take n asks) (take n batch)
-asked_front zero asks batch are = tt
-asked_front (suc n) [] [] are = tt
-asked_front (suc n) [] (line ∷ batch) are = absurd are
-asked_front (suc n) (ask ∷ asks) [] are = absurd are
-asked_front (suc n) (ask ∷ asks) (line ∷ batch) are = (are.0, asked_front n asks batch are.1)
+-- it ended before any answer was made
+pub waits_batch : (limits : Limits) (batch : List Line) (how : Ending) (before after : Stand) (old : Option (List ℕ)) → ¬ IsOfFiles how → after.completed ≡ before.completed → after.held ≡ before.held →
+    ((state : State) → Keeps before.engine before.pending state → StandsFor after.engine.version state.collection) → Halts limits batch how ⊤ before after old old
+waits_batch limits batch how before after old ours count held stands = λ state at read. record {
+  taken = 0;
+  completed = let same = count in omega (arith, same);
+  stopped = record {
+    within = omega arith;
+    stands = stands state at.keeps;
+    part = record { part = []; rest = _; whole = refl; written = Appends-nil old };
+    all = λ due. Appends-nil old;
+    files = all_held _ state.files after.held (held ∙ at.files);
+    exact = λ kept. held ∙ at.files;
+    named = λ failed. absurd (ours failed);
+  };
+}
 
-text_on : (text : Text) (xs ys : List Ask) → text_of_lines (flat_map (ask_lines text) (xs ++ ys)) ≡ text_of_lines (flat_map (ask_lines text) xs) ++ text_of_lines (flat_map (ask_lines text) ys)
-text_on text xs ys = ap text_of_lines (flat_map-append (ask_lines text) xs ys) ∙ flat_map-append _ (flat_map (ask_lines text) xs) (flat_map (ask_lines text) ys)
-
--- with the answer to the next one
-pub next_text : (text : Text) (asks : List Ask) (i n : ℕ) (ask : Ask) → i < length asks → ask ≡ get_or asks i ask → n ≡ i + 1 → front_text text asks i ++ text_of_lines (ask_lines text ask) ≡ front_text text asks n
-next_text text asks i n ask lt is count =
-    let one : text_of_lines (flat_map (ask_lines text) (ask ∷ [])) ≡ text_of_lines (ask_lines text ask) = ap text_of_lines (append-nil (ask_lines text ask)) in
-    let more : take n asks ≡ take i asks ++ ask ∷ [] = ap (λ (k : ℕ). take k asks) count ∙ take_more asks i ask lt ∙ ap (λ a. take i asks ++ a ∷ []) (sym is) in
-    sym (ap (λ l. text_of_lines (flat_map (ask_lines text) l)) more ∙ text_on text (take i asks) (ask ∷ []) ∙ ap (λ l. front_text text asks i ++ l) one)
-
--- a part of the text is one of more
-pub later_part : (text : Text) (a c : Option (List ℕ)) (h : List ℕ) (asks : List Ask) (i n : ℕ) → n ≡ i + 1 → PutsPart a c h (front_text text asks i) → PutsPart a c h (front_text text asks n)
-later_part text a c h asks i n count part =
-    let more : take n asks ≡ take i asks ++ take 1 (drop i asks) = ap (λ (k : ℕ). take k asks) count ∙ take-add i 1 asks in
-    part_as a c h (front_text text asks i ++ text_of_lines (flat_map (ask_lines text) (take 1 (drop i asks)))) (front_text text asks n)
-    (sym (ap (λ l. text_of_lines (flat_map (ask_lines text) l)) more ∙ text_on text (take i asks) (take 1 (drop i asks))))
-    (part_on a c h (front_text text asks i) (text_of_lines (flat_map (ask_lines text) (take 1 (drop i asks)))) part)
-
--- where something is left to the right of a place, the place lies within
-pub some_left : {X Y : Type 0} (f : X → Y) (xs : List X) (i : ℕ) (y : Y) (rest : List Y) → y ∷ rest ≡ map f (drop i xs) → i < length xs
-some_left f xs i y rest is =
-    let long : suc (length rest) ≡ length xs - i = ap length is ∙ length-map (drop i xs) f ∙ length-drop i xs in
-    omega (arith, long)
+-- it ended once some of its answers were put
+pub halts_batch : (limits : Limits) (asks : List Ask) (batch : List Line) (how : Ending) (before after : Stand) (old new : Option (List ℕ)) → AreAsked asks batch → ¬ IsAllWritten how → ¬ IsOfFiles how →
+    (before.completed ≤ after.completed) × (after.completed ≤ before.completed + length asks) → after.held ≡ before.held →
+    ((state : State) → Keeps before.engine before.pending state → Keeps after.engine after.pending state) →
+    ((state : State) → Keeps before.engine before.pending state → (text_of state.collection ≡ version_text after.engine.version)) →
+    GetsPart old new (asks_text (version_text after.engine.version) (take (after.completed - before.completed + 1) asks)) → Halts limits batch how ⊤ before after old new
+halts_batch limits asks batch how before after old new are lost ours counted held keeps same part = λ state at read.
+    let i : ℕ = after.completed - before.completed in
+    let some : before.completed ≤ after.completed = counted.0 in
+    let few : after.completed ≤ before.completed + length asks = counted.1 in
+    let long = batch_length asks batch are in
+    let within : i ≤ length batch = omega (arith, some, few, long) in
+    let front = asked_front i asks batch are in
+    let left : state_after limits state (take i batch) ≡ state = batch_state limits state (take i asks) (take i batch) front in
+    let text : (n : ℕ) → text_of_lines (answers limits state (take n batch)) ≡ asks_text (version_text after.engine.version) (take n asks) =
+    λ n. ap text_of_lines (batch_lines limits state (take n asks) (take n batch) (asked_front n asks batch are) ∙ ap (λ (t : Text). flat_map (ask_lines t) (take n asks)) (same state at.keeps)) in
+    let files : after.held ≡ Some state.files = held ∙ at.files in
+    record {
+      taken = i;
+      completed = omega (arith, some);
+      stopped = record {
+        within = within;
+        stands = subst (λ (s : State). StandsFor after.engine.version s.collection) (sym left) (keeps state at.keeps).stands;
+        part = begun_part limits state asks batch i old new are within (subst (GetsPart old new) (sym (text (i + 1))) part);
+        all = λ due. absurd (lost due);
+        files = all_held _ _ after.held (files ∙ ap (λ (s : State). Some s.files) (sym left));
+        exact = λ kept. files ∙ ap (λ (s : State). Some s.files) (sym left);
+        named = λ failed. absurd (ours failed);
+      };
+    }
+  where
+    begun_part : (limits : Limits) (state : State) (asks : List Ask) (batch : List Line) (i : ℕ) (old new : Option (List ℕ)) → AreAsked asks batch → i ≤ length batch →
+        GetsPart old new (text_of_lines (answers limits state (take (i + 1) batch))) → GetsPart old new (text_of_lines (answers limits state (take (i + begun (drop i batch)) batch)))
+    begun_part limits state asks batch i old new are within part = elim (cases_Bool (ltb i (length batch))) [
+      | inl t ↦ let one : begun (drop i batch) ≡ 1 = one_begun i asks batch are (ltb-true i (length batch) t) in
+          subst (λ (n : ℕ). GetsPart old new (text_of_lines (answers limits state (take (i + n) batch)))) (sym one) part
+      | inr f ↦ let over : length batch ≤ i = ltb-false i (length batch) f in
+          let all : take (i + 1) batch ≡ take (i + begun (drop i batch)) batch = take_all (i + 1) batch (omega (arith, over)) ∙ sym (take_all (i + begun (drop i batch)) batch (omega (arith, over))) in
+          subst (λ (l : List Line). GetsPart old new (text_of_lines (answers limits state l))) all part
+    ]

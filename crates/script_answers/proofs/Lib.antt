@@ -1,14 +1,15 @@
 -- Lemmas, and worked examples.
+pub mod ActionSteps
+pub mod AskLemmas
 pub mod BatchLemmas
 pub mod BatchSteps
 pub mod ImageLemmas
+pub mod PageLemmas
+pub mod PageLists
+pub mod PutLemmas
 pub mod Replies
 pub mod SaveReplies
 pub mod Scripts
-pub mod LineSteps
-pub mod PageLists
-pub mod PageSteps
-pub mod PutLemmas
-pub mod Turns
-pub mod WindowLemmas
-mod Worked
+pub mod Service
+pub mod Stops
+pub mod TaskLemmas

@@ -2,7 +2,7 @@
 use Rattle.std.proofs.Common.{◌≡◌, ℕ, ◌≤◌, zero, suc, List, [], ◌∷◌, ◌++◌, take, refl, sym, ap, ◌∙◌, subst, arith, append_assoc, Option}
 use Rattle.std.specs.Io.KnownBytes.{Appends}
 use Rattle.std.proofs.KnownBytes.{Appends-nil, Appends-trans}
-use Rattle.script_answers.specs.Pages.{IsPut, Puts, PutsPart}
+use Rattle.script_answers.specs.inner.Puts.{IsPut, Puts, PutsPart}
 use Rattle.script_answers.specs.Stopped.{GetsPart}
 
 -- the front of a piece

@@ -1,5 +1,5 @@
 -- The replies to saving and opening, by what an engine and the files do.
-use Rattle.std.proofs.Common.{◌≡◌, ℕ, ◌+◌, ◌≤◌, ◌<◌, inl, inr, Bool, true, false, List, [], ◌∷◌, ◌++◌, length, bytes_eq, nat_lt, Option, None, Some, refl, sym, ap, ◌∙◌, subst, arith}
+use Rattle.std.proofs.Common.{◌≡◌, ℕ, ◌+◌, ◌≤◌, ◌<◌, inl, inr, Bool, true, false, List, [], ◌∷◌, length, bytes_eq, nat_lt, Option, None, Some, refl, sym, ap, ◌∙◌, subst, arith}
 use Rattle.std.specs.Option.{option_map}
 use Rattle.std.proofs.lemmas.Bool.{cases_Bool}
 use Rattle.std.proofs.lemmas.Bool.Decides.{nat_tests}
@@ -18,16 +18,18 @@ use Rattle.image_file.proofs.Saving.{added_short, deleted_saves, start_saves}
 use Rattle.image_read.specs.Answers.{IsImageOf}
 use Rattle.collection.specs.Engines.{EngineContent, IsEngine}
 use Rattle.collection.specs.Changes.{Adopts, AddsFileTo, DeletesFileFrom}
-use Rattle.script_lang.specs.Answers.{saved_line, opened_line}
-use Rattle.script_lang.specs.declared.commands.Command.TheVariants.{Save, Load}
-use Rattle.script_lang.specs.declared.refusals.Refusal.TheVariants.{NotEmpty, NotImage}
-use Rattle.script_answers.specs.Images.{image_of, IsReading}
+use Rattle.script_lang.specs.Answers.{opened_line}
+use Rattle.script_lang.specs.declared.refusals.Refusal.TheVariants.{NotImage}
+use Rattle.script_answers.specs.Images.{IsReading, image_of}
 use Rattle.script_answers.specs.States.{State, Keeps, IsFresh}
-use Rattle.script_answers.specs.Answers.{Reply, unchanged, refusal_lines, state_keeping, bytes_reply, reading_reply, reply}
-use Rattle.script_answers.specs.Progress.{Says, Follows, Gives, HoldsWithin, IsAt, StopsWithin}
+use Rattle.script_answers.specs.Answers.{Reply, bytes_reply, reading_reply, save_reply, state_keeping}
+use Rattle.script_lang.specs.Answers.{saved_line}
+use Rattle.script_answers.specs.inner.Service.{IsAt, Unmade}
+use Rattle.script_answers.specs.inner.Tasks.{Follows}
+use Rattle.script_answers.specs.declared.answer.Answer.TheVariants.{Opened, Refused}
 use Rattle.script_answers.specs.declared.limits.Limits.{Limits}
 use Rattle.script_answers.proofs.ImageLemmas.{reads, spelled_short, tokens_short}
-use Rattle.script_answers.proofs.Replies.{one_line, refused_follows}
+use Rattle.script_answers.proofs.Replies.{refused_follows}
 
 not_many : (limits : Limits) (state : State) (name bytes : List ℕ) → length bytes ≤ limits.image →
     bytes_reply limits state name bytes ≡ record { lines = saved_line (length bytes) ∷ []; after = state_keeping state name bytes }
@@ -35,30 +37,18 @@ not_many limits state name bytes fits =
     let few : nat_lt limits.image (length bytes) ≡ false = grind (arith, nat_tests) in
     rw few refl
 
--- the bytes are the image of each collection that the version stands for
-abbrev IsImage : VersionContent → List ℕ → Type 0
-IsImage v bytes = (c : Collection) → StandsFor v c → bytes ≡ image_of c
+-- the reply to saving an image that is short enough
+pub saved_reply : (limits : Limits) (state : State) (name bytes : List ℕ) → bytes ≡ image_of state.collection → length bytes ≤ limits.image →
+    save_reply limits state name ≡ record { lines = saved_line (length bytes) ∷ []; after = state_keeping state name bytes }
+saved_reply limits state name bytes image fits = ap (bytes_reply limits state name) (sym image) ∙ not_many limits state name bytes fits
 
-saved_reply : (limits : Limits) (state : State) (name bytes : List ℕ) (v : VersionContent) → IsImage v bytes → StandsFor v state.collection → reply limits state (Save name) ≡ Some (bytes_reply limits state name bytes)
-saved_reply limits state name bytes v image stands = ap (λ (b : List ℕ). Some (bytes_reply limits state name b)) (sym (image state.collection stands))
-
-pub saving_given : (limits : Limits) (state : State) (name bytes : List ℕ) (engine : EngineContent) (held : Option Contents) (out out' : List ℕ) → IsImage engine.version bytes →
-    length bytes ≤ limits.image → IsAt held engine false state → out' ≡ out ++ saved_line (length bytes) ++ 10 ∷ [] → Gives (reply limits state (Save name)) engine false out out' false
-saving_given limits state name bytes engine held out out' image fits at text = record {
-  reply = record { lines = saved_line (length bytes) ∷ []; after = state_keeping state name bytes };
-  is = saved_reply limits state name bytes engine.version image at.keeps.stands ∙ ap Some (not_many limits state name bytes fits);
-  follows = record {
-    keeps = record { stands = at.keeps.stands; slots = at.keeps.slots };
-    says = record { text = one_line (saved_line (length bytes)) out out' text; refusal_is = refl };
-  };
-}
-
--- and after a keep that failed, all names but one
-pub held_but_one : (state : State) (told : Option Reply) (name : List ℕ) (n m failed failed' : ℕ) (engine : EngineContent) (wanted : Bool) (before now : Option Contents) → IsAt before engine wanted state → ChangesOnly name before now →
-    failed' ≡ failed + 1 → m ≡ n → HoldsWithin state told (name ∷ []) n m (failed' ≡ failed) now
-held_but_one state told name n m failed failed' engine wanted before now at changes one stays = record {
-  exact = λ none is. absurd (omega (arith, one, none));
-  early = λ is. record {
+-- after a keep that failed, all names but one hold what they held
+pub held_but_one : (state : State) (name : List ℕ) (failed failed' : ℕ) (engine : EngineContent) (before now : Option Contents) → IsAt before engine false state → ChangesOnly name before now →
+    failed' ≡ failed + 1 → Unmade (name ∷ []) (failed' ≡ failed) state engine now
+held_but_one state name failed failed' engine before now at changes one = record {
+  stands = at.keeps.stands;
+  exact = λ none. absurd (omega (arith, one, none));
+  files = record {
     contents = changed_at name changes.content state.files;
     is = changes.is ∙ ap (option_map (changed_at name changes.content)) at.files;
     same = λ other. elim (cases_Bool (bytes_eq name other)) [
@@ -66,20 +56,13 @@ held_but_one state told name n m failed failed' engine wanted before now at chan
       | inr h ↦ inl (rw h refl)
     ];
   };
-  late = λ is. absurd (omega (arith, is, stays));
 }
 
--- once a file was added nothing is opened
-has_files : (limits : Limits) (state : State) (name : List ℕ) → 0 < state.collection.next_id → reply limits state (Load name) ≡ Some (unchanged state (refusal_lines NotEmpty))
-has_files limits state name some =
-    let much : nat_lt 0 state.collection.next_id ≡ true = grind (arith, nat_tests) in
-    rw much refl
-
 -- what is no image is refused
-pub reading_refused : (state : State) (bytes : List ℕ) (engine : EngineContent) (out out' : List ℕ) (refusal : Bool) → ((o : Option Collection) → IsReading bytes o → o ≡ None) → Keeps engine false state →
-    IsReading bytes (state.images bytes) → Says (refusal_lines NotImage) out out' refusal → Follows (reading_reply state (state.images bytes)) engine false out out' refusal
-reading_refused state bytes engine out out' refusal none keeps reading said =
-    refused_follows (reading_reply state (state.images bytes)) state (refusal_lines NotImage) engine engine out out' refusal (ap (reading_reply state) (none (state.images bytes) reading)) keeps refl said
+pub reading_refused : (state : State) (bytes : List ℕ) (engine : EngineContent) → ((o : Option Collection) → IsReading bytes o → o ≡ None) → Keeps engine false state →
+    IsReading bytes (state.images bytes) → Follows (reading_reply state (state.images bytes)) state engine false (Refused NotImage)
+reading_refused state bytes engine none keeps reading =
+    refused_follows (reading_reply state (state.images bytes)) state NotImage engine engine (ap (reading_reply state) (none (state.images bytes) reading)) keeps refl
 
 -- the collection that it was read as
 read_as : (state : State) (bytes : List ℕ) (v : VersionContent) → (image : IsImageOf bytes v) → IsReading bytes (state.images bytes) → reading_reply state (state.images bytes) ≡ reading_reply state (Some image.1)
@@ -94,27 +77,15 @@ kept_by_opening state bytes old opened new image adopts reading =
       slots = sym image.3.ranges ∙ sym ranges;
     })
 
-pub follows_opening : (state : State) (bytes : List ℕ) (old opened : VersionContent) (new : EngineContent) (files : ℕ) (out out' : List ℕ) → IsImageOf bytes opened → Adopts old opened new.version →
-    files ≡ length (files_of opened.slots) → IsReading bytes (state.images bytes) → out' ≡ out ++ opened_line files ++ 10 ∷ [] → Follows (reading_reply state (state.images bytes)) new false out out' false
-follows_opening state bytes old opened new files out out' image adopts counted reading text =
+pub follows_opening : (state : State) (bytes : List ℕ) (old opened : VersionContent) (new : EngineContent) (files : ℕ) → IsImageOf bytes opened → Adopts old opened new.version →
+    files ≡ length (files_of opened.slots) → IsReading bytes (state.images bytes) → Follows (reading_reply state (state.images bytes)) state new false (Opened files)
+follows_opening state bytes old opened new files image adopts counted reading =
     let number : files ≡ length image.1.files = counted ∙ ap length image.3.stands.files ∙ length-map image.1.files entry_of in
     record {
       keeps = kept_by_opening state bytes old opened new image adopts reading;
-      says = subst (λ (r : Reply). Says r.lines out out' false) (sym (read_as state bytes opened image reading)) (record {
-        text = one_line (opened_line (length image.1.files)) out out' (text ∙ ap (λ n. out ++ opened_line n ++ 10 ∷ []) number);
-        refusal_is = refl;
-      });
+      lines = ap (λ (r : Reply). r.lines) (read_as state bytes opened image reading) ∙ ap (λ n. opened_line n ∷ []) (sym number);
+      still = λ no. absurd (cc no);
     }
-
--- an accepted opening that was not answered: the line is completed
-pub stops_after_opening : (state : State) (bytes : List ℕ) (old opened : VersionContent) (new : EngineContent) (n m : ℕ) → IsImageOf bytes opened → Adopts old opened new.version →
-    IsReading bytes (state.images bytes) → m ≡ n + 1 → StopsWithin state (Some (reading_reply state (state.images bytes))) n m new
-stops_after_opening state bytes old opened new n m image adopts reading more = inr (more, (kept_by_opening state bytes old opened new image adopts reading).stands)
-
--- the same of another reply and other names that are equal
-pub holds_as : (state : State) (told now : Option Reply) (names names' : List (List ℕ)) (n m : ℕ) (kept : Type 0) (held : Option Contents) → now ≡ told → names' ≡ names → HoldsWithin state told names n m kept held → HoldsWithin state now names' n m kept held
-holds_as state told now names names' n m kept held is same holds =
-    subst (λ (o : Option Reply). HoldsWithin state o names' n m kept held) (sym is) (subst (λ (l : List (List ℕ)). HoldsWithin state told l n m kept held) (sym same) holds)
 
 -- what can be saved stays so
 

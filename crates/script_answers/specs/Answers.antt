@@ -183,6 +183,17 @@ abbrev pub AllAnswered : Limits → State → List Line → Type 0
 AllAnswered limits state [] = ⊤
 AllAnswered limits state (line ∷ rest) = IsSome (answer limits state line) × AllAnswered limits (after_reply state (answer limits state line)) rest
 
+-- whether a command asks a query
+abbrev pub is_query : Command → Bool
+is_query (Find query) = true
+is_query (Count query) = true
+is_query (Top most query) = true
+is_query _ = false
+
+-- whether a line does; a long one does not
+abbrev pub asks_query : Line → Bool
+asks_query line = if line.long then false else is_query (command_of line.bytes)
+
 -- what a command opens is read rightly
 abbrev pub IsReadBy : State → Command → Type 0
 IsReadBy state (Load name) = IfSome (state.files name) (λ content. IsReading content (state.images content))

@@ -1,9 +1,6 @@
 pub mod Answers
-pub mod Batches
 pub mod Faults
 pub mod Images
-pub mod Pages
-pub mod Progress
 pub mod States
 pub mod Stopped
-pub mod Windows
+pub mod inner

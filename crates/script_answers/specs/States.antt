@@ -27,28 +27,24 @@ opening first contents images = record { collection = empty_from first; slots = 
 abbrev pub greatest_limits : Limits
 greatest_limits = record { line = most_line; file = most_file; script = most_script; image = most_image; batch = most_batch }
 
--- each limit is at least 1, and none is above that of a run
-pub record AreLimits (limits : Limits) : Type 0 where
-  pub some_line : 1 ≤ limits.line
-  pub some_file : 1 ≤ limits.file
-  pub some_script : 1 ≤ limits.script
-  pub some_image : 1 ≤ limits.image
-  pub some_batch : 1 ≤ limits.batch
-  pub line : limits.line ≤ most_line
-  pub file : limits.file ≤ most_file
-  pub script : limits.script ≤ most_script
-  pub image : limits.image ≤ most_image
-  pub batch : limits.batch ≤ most_batch
+-- a limit is at least 1, and at most that of a run
+abbrev pub IsLimit : ℕ → ℕ → Type 0
+IsLimit most limit = (1 ≤ limit) × (limit ≤ most)
 
--- the ranges once a merge that is wanted was made
+-- each limit is
+abbrev pub AreLimits : Limits → Type 0
+AreLimits limits =
+    IsLimit most_line limits.line × (IsLimit most_file limits.file × (IsLimit most_script limits.script × (IsLimit most_image limits.image × IsLimit most_batch limits.batch)))
+
+-- the ranges once a pending merge was made
 abbrev pub slots_soon : Bool → List SlotRange → List File → List SlotRange
-slots_soon wanted ranges files = if wanted then slots_after_merge ranges files else ranges
+slots_soon pending ranges files = if pending then slots_after_merge ranges files else ranges
 
 -- The engine's version stands for the collection of the state, and its slots have the ranges of the state, or will have them once a
--- wanted merge is made
-pub record Keeps (engine : EngineContent) (wanted : Bool) (state : State) : Type 0 where
+-- pending merge is made
+pub record Keeps (engine : EngineContent) (pending : Bool) (state : State) : Type 0 where
   pub stands : StandsFor engine.version state.collection
-  pub slots : state.slots ≡ slots_soon wanted (ranges_of engine.version.slots) state.collection.files
+  pub slots : state.slots ≡ slots_soon pending (ranges_of engine.version.slots) state.collection.files
 
 -- as an engine is opened: nothing was added yet, and no line is completed
 pub record IsFresh (engine : EngineContent) (lines : ℕ) : Type 0 where

@@ -2,32 +2,32 @@ ghost use Rattle.std.specs.Prelude.{◌≡◌, ◌+◌, ◌≤◌, ◌<◌, fals
 ghost use Rattle.gcl_model.specs.Limits.{merge_end};
 ghost use Rattle.image_file.specs.Images.{CanBeSaved};
 ghost use Rattle.script_answers.specs.States.{State, Keeps};
-ghost use Rattle.script_answers.specs.Progress.{wish};
+ghost use Rattle.script_answers.specs.inner.Service.{merges_pending};
 
 use collection::Engine;
 use outside::Gate;
+use query_lanes::Context;
 use std::alloc::AllocError;
 use std::sync::Wait;
 
-/// Makes the merge that is wanted, if one is. Where memory is wanted it is wanted still.
-pub fn merge_wanted<R: Wait, G: Gate>(
-    rt: &R,
-    gate: &G,
+/// Makes the merge that is pending, if one is. Where there is no memory it is pending still.
+pub fn merge_pending<R: Wait, G: Gate>(
+    context: &Context<'_, R, G>,
     engine: &mut Engine,
-    wanted: &mut bool,
+    pending: &mut bool,
 ) -> Result<(), AllocError>
     requires { engine.old.version.number < merge_end }
-    ensures keeps { OnOk result ((state : State) → Keeps engine.old wanted.old state → Keeps engine.new wanted.new state) }
-    ensures made { OnOk result (wanted.new ≡ false) }
-    ensures number { OnOk result (engine.new.version.number ≤ engine.old.version.number + wish wanted.old) }
+    ensures keeps { OnOk result ((state : State) → Keeps engine.old pending.old state → Keeps engine.new pending.new state) }
+    ensures made { OnOk result (pending.new ≡ false) }
+    ensures number { OnOk result (engine.new.version.number ≤ engine.old.version.number + merges_pending pending.old) }
     ensures savable { OnOk result (CanBeSaved engine.old.version → CanBeSaved engine.new.version) }
     ensures publisher { engine.new.publisher ≡ engine.old.publisher }
     ensures err { OnErr result (engine.new ≡ engine.old) }
 {
-    if !*wanted {
+    if !*pending {
         return Ok(());
     }
-    let _receipt = engine.merge_all(rt, gate)?;
-    *wanted = false;
+    let _receipt = engine.merge_all(context.rt, context.gate)?;
+    *pending = false;
     Ok(())
 }

@@ -1,36 +1,41 @@
-ghost use Rattle.std.specs.Prelude.{◌≡◌, ◌≤◌, ◌<◌, [], ℕ, List, length, take, drop, map, false, Option, Ok, IfOk, IfSome, IsNone, OnOk};
+//! The answers to the queries of a batch are put page by page.
+ghost use Rattle.std.specs.Prelude.{◌≡◌, ◌+◌, ◌-◌, ◌≤◌, ◌++◌, [], ℕ, length, map, take, IfOk, OnOk};
 ghost use Rattle.std.specs.List.{list_any};
-ghost use Rattle.gcl_model.specs.Extents.{Extent};
-ghost use Rattle.gcl_model.specs.FormOf.{form_of};
-ghost use Rattle.gcl_model.specs.WellFormed.{IsWellFormed};
+ghost use Rattle.std.specs.Io.KnownBytes.{Appends};
+ghost use Rattle.gcl_model.specs.Limits.{address_end, far};
 ghost use Rattle.live_version.specs.Contents.{version_text};
-ghost use Rattle.outside.specs.Causes.{HasWriteCause};
+ghost use Rattle.outside.specs.Causes.{HasWriteCause, CountsWriteFault};
 ghost use Rattle.script_lang.specs.Answers.{interval_line, is_refusal};
 ghost use Rattle.script_lang.specs.Lines.{text_of_lines};
-ghost use Rattle.query_lanes.specs.Answers.{answer_in, page_size};
-ghost use Rattle.script_answers.specs.Batches.{ask_lines};
-ghost use Rattle.script_answers.specs.Pages.{IsPage, Puts, PutsPart, members_asked, members_found, page_from};
-ghost use Rattle.script_answers.specs.Progress.{HasCauses};
-ghost use Rattle.script_answers.specs.Windows.{ask_text};
+ghost use Rattle.query_lanes.specs.Answers.{answer_in};
+ghost use Rattle.script_answers.specs.Stopped.{GetsPart};
+ghost use Rattle.script_answers.specs.inner.Asks.{ask_lines, asks_refuse, asks_text};
+ghost use Rattle.script_answers.specs.inner.Puts.{Puts, PutsPart};
 
-use crate::queries::put_intervals;
-use crate::refusals::refuse;
-use crate::run_fault::RunFault;
 use crate::write::{PIECE, write_all};
 use collection::Engine;
-use gcl_model::{Expr, IntervalList};
-use manifest_publish::Pass;
+use gcl_model::{Interval, IntervalList};
 use outside::{Sink, WriteError};
-use query_lanes::{Ask, Asked, Found, PAGE, page_behind, text_end};
-use script_lang::{Refusal, put_total};
+use query_lanes::{Ask, Found, Listing};
+use script_lang::{Refusal, put_interval, put_refusal, put_total};
 use std::alloc::{AllocError, Global};
+
+/// Appends a line for each interval.
+fn put_intervals(out: &mut Vec<u8>, list: &[Interval]) -> Result<(), AllocError>
+    ensures { OnOk result (out.new.items ≡ out.old.items ++ text_of_lines (map interval_line list.now)) }
+{
+    for interval in list {
+        put_interval(out, *interval)?;
+    }
+    Ok(())
+}
 
 /// Hands over what is held back, once it is a piece.
 fn hand_over<K: Sink>(sink: &mut K, out: &mut Vec<u8>) -> Result<(), WriteError>
     ensures puts { OnOk result (Puts (K.written sink.old) (K.written sink.new) out.old.items out.new.items []) }
     ensures part { PutsPart (K.written sink.old) (K.written sink.new) out.old.items [] }
     ensures cause { HasWriteCause (K.faults sink.old) (K.faults sink.new) result }
-    ensures calm { OnOk result (K.faults sink.new ≡ K.faults sink.old) }
+    ensures counts { CountsWriteFault (K.faults sink.old) (K.faults sink.new) result }
 {
     if out.len() < PIECE {
         return Ok(());
@@ -41,118 +46,137 @@ fn hand_over<K: Sink>(sink: &mut K, out: &mut Vec<u8>) -> Result<(), WriteError>
 }
 
 /// Puts a line for each interval of a page.
-fn put_page<K: Sink>(sink: &mut K, out: &mut Vec<u8>, page: &IntervalList) -> Result<(), RunFault>
+fn put_page<K: Sink>(sink: &mut K, out: &mut Vec<u8>, page: &IntervalList) -> Result<(), WriteError>
     ensures puts { OnOk result (Puts (K.written sink.old) (K.written sink.new) out.old.items out.new.items (text_of_lines (map interval_line page.now))) }
     ensures part { PutsPart (K.written sink.old) (K.written sink.new) out.old.items (text_of_lines (map interval_line page.now)) }
-    ensures causes { (n : ℕ) → HasCauses (K.faults sink.old) (K.faults sink.new) n n result }
-    ensures calm { OnOk result (K.faults sink.new ≡ K.faults sink.old) }
+    ensures cause { HasWriteCause (K.faults sink.old) (K.faults sink.new) result }
+    ensures counts { CountsWriteFault (K.faults sink.old) (K.faults sink.new) result }
 {
     put_intervals(out, page.as_slice())?;
     hand_over(sink, out)?;
     Ok(())
 }
 
-/// How many members the next page may have, once so many of those that are asked for were put.
-fn page_most(asked: Asked, put: u64) -> u64
-    ensures { (list : List Extent) → page_from put (members_asked asked list) ≡ take result (drop put list) }
-{
-    match asked {
-        Asked::First(most) => most.saturating_sub(put).min(PAGE),
-        Asked::All | Asked::Number => PAGE,
-    }
-}
-
-/// The page after the one that was put last, and None where that was not full: then no more members are asked for or there. So many
-/// were put in all.
-fn page_after(
-    alloc: Global,
-    engine: &Engine,
-    own: &Option<Pass>,
-    expr: &Expr,
-    asked: Asked,
-    put: u64,
-    page: &IntervalList,
-) -> Result<Option<IntervalList>, AllocError>
-    requires well_formed { IsWellFormed (form_of expr.now) }
-    requires page { IsPage (members_found asked own.now engine.now expr.now) put page.now }
-    ensures some { IfOk result (λ next. IfSome next (λ page. page ≡ page_from put (members_found asked own.now engine.now expr.now))) }
-    ensures full { IfOk result (λ next. IfSome next (λ _. page_size ≤ length page.now)) }
-    ensures none { IfOk result (λ next. IsNone next → drop put (members_found asked own.now engine.now expr.now) ≡ []) }
-{
-    let count = page.len();
-    if (count as u64) < PAGE {
-        return Ok(None);
-    }
-    let last = page.as_slice()[count - 1];
-    let next = page_behind(alloc, engine, own, expr, last, page_most(asked, put))?;
-    Ok(Some(next))
-}
-
-/// Puts the members of a list that are asked for, page by page, and says how many they are. `first` is the first page.
+/// Puts a line for each member that is still to come, page by page, and gives their number.
 fn put_members<K: Sink>(
     alloc: Global,
-    out: &mut Vec<u8>,
     sink: &mut K,
-    engine: &Engine,
-    ask: &Ask,
-    expr: &Expr,
-    first: IntervalList,
-) -> Result<u64, RunFault>
-    requires well_formed { IsWellFormed (form_of expr.now) }
-    requires first { first ≡ page_from 0 (members_found ask.now.asked ask.now.pass engine.now expr.now) }
-    ensures puts { OnOk result (Puts (K.written sink.old) (K.written sink.new) out.old.items out.new.items
-        (text_of_lines (map interval_line (members_found ask.now.asked ask.now.pass engine.now expr.now)))) }
-    ensures part { PutsPart (K.written sink.old) (K.written sink.new) out.old.items
-        (text_of_lines (map interval_line (members_found ask.now.asked ask.now.pass engine.now expr.now))) }
-    ensures count { IfOk result (λ count. count ≡ length (members_found ask.now.asked ask.now.pass engine.now expr.now)) }
-    ensures causes { (n : ℕ) → HasCauses (K.faults sink.old) (K.faults sink.new) n n result }
-    ensures calm { OnOk result (K.faults sink.new ≡ K.faults sink.old) }
+    out: &mut Vec<u8>,
+    listing: &mut Listing,
+) -> Result<u64, WriteError>
+    requires few { length listing.old ≤ address_end }
+    ensures puts { OnOk result (Puts (K.written sink.old) (K.written sink.new) out.old.items out.new.items (text_of_lines (map interval_line listing.old))) }
+    ensures part { PutsPart (K.written sink.old) (K.written sink.new) out.old.items (text_of_lines (map interval_line listing.old)) }
+    ensures count { IfOk result (λ count. count ≡ length listing.old) }
+    ensures cause { HasWriteCause (K.faults sink.old) (K.faults sink.new) result }
+    ensures counts { CountsWriteFault (K.faults sink.old) (K.faults sink.new) result }
 {
-    // by it addresses are known to end, and so is every list
-    let _end = text_end(engine, &ask.pass);
-    let mut put = 0;
-    let mut next = Some(first);
-    while let Some(page) = next {
+    let mut count = 0;
+    while let Some(page) = listing.next_page(alloc)? {
         put_page(sink, out, &page)?;
-        put += page.len() as u64;
-        next = page_after(alloc, engine, &ask.pass, expr, ask.asked, put, &page)?;
+        count += page.len() as u64;
     }
-    Ok(put)
+    Ok(count)
 }
 
-/// Puts the answer to a query whose first page was found, and says whether it is a refusal. Each further page is looked for once the one
-/// before it is put, on the query's own pass or else on the engine's.
-pub fn put_answer<K: Sink>(
+/// By it addresses are known to end, and so is every list.
+fn ends(engine: &Engine)
+    ensures { (version_text engine.now.version).next ≤ address_end }
+{
+    let _next = engine.version().next();
+}
+
+/// Puts the answer to a query, and says whether it is a refusal.
+fn put_answer<K: Sink>(
     alloc: Global,
-    out: &mut Vec<u8>,
     sink: &mut K,
+    out: &mut Vec<u8>,
     engine: &Engine,
     ask: &Ask,
     found: Found,
-) -> Result<bool, RunFault>
+) -> Result<bool, WriteError>
     requires found { found ≡ answer_in (version_text engine.now.version) ask.now }
     ensures puts { OnOk result (Puts (K.written sink.old) (K.written sink.new) out.old.items out.new.items
-        (ask_text (version_text engine.now.version) ask.now)) }
-    ensures part { PutsPart (K.written sink.old) (K.written sink.new) out.old.items (ask_text (version_text engine.now.version) ask.now) }
+        (text_of_lines (ask_lines (version_text engine.now.version) ask.now))) }
+    ensures part { PutsPart (K.written sink.old) (K.written sink.new) out.old.items (text_of_lines (ask_lines (version_text engine.now.version) ask.now)) }
     ensures refusal { IfOk result (λ refusal. refusal ≡ list_any is_refusal (ask_lines (version_text engine.now.version) ask.now)) }
-    ensures causes { (n : ℕ) → HasCauses (K.faults sink.old) (K.faults sink.new) n n result }
-    ensures calm { OnOk result (K.faults sink.new ≡ K.faults sink.old) }
+    ensures cause { HasWriteCause (K.faults sink.old) (K.faults sink.new) result }
+    ensures counts { CountsWriteFault (K.faults sink.old) (K.faults sink.new) result }
 {
-    match (&ask.query, found) {
-        (Ok(expr), Found::List(first)) => {
-            let count = put_members(alloc, out, sink, engine, ask, expr, first)?;
+    ends(engine);
+    match found {
+        Found::List(listing) => {
+            let mut listing = listing;
+            let count = put_members(alloc, sink, out, &mut listing)?;
             put_total(out, count)?;
             Ok(false)
         }
-        (Ok(_), Found::Number(number)) => {
-            put_total(out, number)?;
+        Found::Total(total) => {
+            put_total(out, total)?;
             Ok(false)
         }
-        (Err(fault), _) => {
-            let refused = refuse(out, &Refusal::Query(*fault))?;
-            Ok(refused)
+        Found::Refused(fault) => {
+            put_refusal(out, &Refusal::Query(fault))?;
+            Ok(true)
         }
-        // what a query finds is never refused once it has an expression
-        (Ok(_), Found::Refused(_)) => unreachable!(),
     }
+}
+
+/// Puts the answers to a batch in the order of its queries, and says whether a refusal is among them. Each line is completed once its answer is put.
+fn put_answers<K: Sink>(
+    alloc: Global,
+    sink: &mut K,
+    out: &mut Vec<u8>,
+    engine: &Engine,
+    completed: &mut u64,
+    asks: &[Ask],
+    answers: Vec<Found>,
+) -> Result<bool, WriteError>
+    requires answers { answers.items ≡ map (answer_in (version_text engine.now.version)) asks.now }
+    requires room { completed.old + length asks.now ≤ far }
+    ensures puts { OnOk result (Puts (K.written sink.old) (K.written sink.new) out.old.items out.new.items
+        (asks_text (version_text engine.now.version) asks.now)) }
+    ensures part { PutsPart (K.written sink.old) (K.written sink.new) out.old.items
+        (asks_text (version_text engine.now.version) (take (completed.new - completed.old + 1) asks.now)) }
+    ensures refusal { IfOk result (λ refusal. refusal ≡ asks_refuse (version_text engine.now.version) asks.now) }
+    ensures completed { OnOk result (completed.new ≡ completed.old + length asks.now) }
+    ensures counted { (completed.old ≤ completed.new) × (completed.new ≤ completed.old + length asks.now) }
+    ensures cause { HasWriteCause (K.faults sink.old) (K.faults sink.new) result }
+    ensures counts { CountsWriteFault (K.faults sink.old) (K.faults sink.new) result }
+{
+    let mut refused = false;
+    let mut i = 0;
+    for found in answers {
+        refused |= put_answer(alloc, sink, out, engine, &asks[i], found)?;
+        i += 1;
+        *completed += 1;
+    }
+    Ok(refused)
+}
+
+/// Writes the answers to a batch in the order of its queries, and says whether a refusal is among them.
+pub(crate) fn write_answers<K: Sink>(
+    alloc: Global,
+    sink: &mut K,
+    out: &mut Vec<u8>,
+    engine: &Engine,
+    completed: &mut u64,
+    asks: &[Ask],
+    answers: Vec<Found>,
+) -> Result<bool, WriteError>
+    requires answers { answers.items ≡ map (answer_in (version_text engine.now.version)) asks.now }
+    requires room { completed.old + length asks.now ≤ far }
+    ensures written { OnOk result (Appends (K.written sink.old) (K.written sink.new) (asks_text (version_text engine.now.version) asks.now)) }
+    ensures part { GetsPart (K.written sink.old) (K.written sink.new)
+        (asks_text (version_text engine.now.version) (take (completed.new - completed.old + 1) asks.now)) }
+    ensures refusal { IfOk result (λ refusal. refusal ≡ asks_refuse (version_text engine.now.version) asks.now) }
+    ensures completed { OnOk result (completed.new ≡ completed.old + length asks.now) }
+    ensures counted { (completed.old ≤ completed.new) × (completed.new ≤ completed.old + length asks.now) }
+    ensures cause { HasWriteCause (K.faults sink.old) (K.faults sink.new) result }
+    ensures counts { CountsWriteFault (K.faults sink.old) (K.faults sink.new) result }
+{
+    out.clear();
+    let refused = put_answers(alloc, sink, out, engine, completed, asks, answers)?;
+    write_all(sink, out.as_slice())?;
+    Ok(refused)
 }

@@ -1,17 +1,19 @@
-ghost use Rattle.std.specs.Prelude.{◌≡◌, ◌+◌, ◌≤◌, ◌<◌, false, Some, IfOk, OnOk, OnErr};
+ghost use Rattle.std.specs.Prelude.{◌≡◌, ◌<◌, [], ◌∷◌, false, IfOk, OnOk, OnErr};
 ghost use Rattle.gcl_model.specs.Collections.{Collection};
-ghost use Rattle.gcl_model.specs.Limits.{far, merge_end};
-ghost use Rattle.outside.specs.Causes.{HasFileCause};
+ghost use Rattle.gcl_model.specs.Limits.{merge_end};
+ghost use Rattle.gcl_model.specs.Names.{is_name};
+ghost use Rattle.outside.specs.Causes.{CountsFileFault, HasFileCause};
 ghost use Rattle.live_version.specs.StandsFor.{StandsFor};
 ghost use Rattle.image_file.specs.Images.{CanBeSaved};
 ghost use Rattle.image_read.specs.Answers.{IsImageOf};
-ghost use Rattle.script_lang.specs.declared.commands.Command.TheVariants.{Save, Load};
 ghost use Rattle.script_answers.specs.Images.{IsReading, image_of};
 ghost use Rattle.script_answers.specs.States.{State, Keeps};
-ghost use Rattle.script_answers.specs.Answers.{image_reply, reading_reply, reply, IsReadBy};
-ghost use Rattle.script_answers.specs.Progress.{Follows, Gives, HoldsSaved, IsAt, StopsWithin};
+ghost use Rattle.script_answers.specs.Answers.{reading_reply};
+ghost use Rattle.script_answers.specs.declared.action.Action.TheVariants.{Save, Open};
+ghost use Rattle.script_answers.specs.inner.Service.{IsAt, StepsOn, Unmade};
+ghost use Rattle.script_answers.specs.inner.Tasks.{Follows, Gives, IsReadByAction, action_reply};
 
-use crate::refusals::refuse;
+use crate::answer::Answer;
 use crate::setting::Setting;
 use collection::{AdoptFault, Engine};
 use gcl_model::Bytes;
@@ -19,7 +21,8 @@ use image_file::image;
 use image_read::{ImageFault, read_image};
 use live_version::Version;
 use outside::{FileError, Files, Loaded};
-use script_lang::{Refusal, put_opened, put_saved};
+use query_lanes::Context;
+use script_lang::Refusal;
 use std::alloc::{AllocError, Global};
 use std::sync::Wait;
 
@@ -32,152 +35,107 @@ fn image_now(alloc: Global, engine: &Engine) -> Result<Bytes, AllocError>
     Ok(bytes)
 }
 
-/// Saves the collection under a name, and appends the answer. An accepted line is completed before its answer is made.
-pub fn save<R, F: Files, G>(
-    setting: &Setting<R, G>,
-    out: &mut Vec<u8>,
+/// Saves the collection under a name.
+pub(crate) fn save<R, F: Files, G>(
+    setting: &Setting<'_, R, G>,
     files: &mut F,
     engine: &Engine,
-    lines: &mut u64,
     name: &[u8],
-) -> Result<bool, FileError>
+) -> Result<Answer, FileError>
     requires savable { CanBeSaved engine.now.version }
-    requires room { lines.old < far }
-    ensures reply { IfOk result (λ refusal. (state : State) → IsAt (F.held files.old) engine.now false state →
-        Gives (reply setting.now.limits state (Save name.now)) engine.now false out.old.items out.new.items refusal) }
-    ensures stop { OnErr result ((state : State) → IsAt (F.held files.old) engine.now false state →
-        StopsWithin state (reply setting.now.limits state (Save name.now)) lines.old lines.new engine.now) }
-    ensures saved { (state : State) → IsAt (F.held files.old) engine.now false state →
-        HoldsSaved setting.now.limits state (Save name.now) lines.old lines.new (F.unkept files.new ≡ F.unkept files.old) (F.held files.new) result }
+    ensures gives { IfOk result (λ answer. (state : State) → IsAt (F.held files.old) engine.now false state →
+        Gives (action_reply setting.now.limits state (Save name.now)) state engine.now false (F.held files.new) answer) }
+    ensures unmade { OnErr result ((state : State) → IsAt (F.held files.old) engine.now false state →
+        Unmade (name.now ∷ []) (F.unkept files.new ≡ F.unkept files.old) state engine.now (F.held files.new)) }
     ensures cause { HasFileCause (F.faults files.old) (F.faults files.new) result }
-    ensures calm { OnOk result (F.faults files.new ≡ F.faults files.old) }
+    ensures counts { CountsFileFault (F.faults files.old) (F.faults files.new) result }
     ensures unkept { OnOk result (F.unkept files.new ≡ F.unkept files.old) }
 {
-    let bytes = image_now(setting.alloc, engine)?;
-    if bytes.len() as u64 > setting.limits.image {
-        let refused = refuse(out, &Refusal::TooLong)?;
-        return Ok(refused);
+    let bytes = image_now(setting.context.alloc, engine)?;
+    let length = bytes.len() as u64;
+    if length > setting.limits.image {
+        return Ok(Answer::Refused(Refusal::TooLong));
     }
     files.keep(name, bytes.as_slice())?;
-    *lines += 1;
-    put_saved(out, bytes.len() as u64)?;
-    Ok(false)
+    Ok(Answer::Saved(length))
 }
 
-/// Puts an opened version in place of the empty collection, and appends the answer.
+/// Puts an opened version in place of the empty collection.
 fn adopt<R: Wait>(
     rt: &R,
-    out: &mut Vec<u8>,
     engine: &mut Engine,
-    lines: &mut u64,
     bytes: &[u8],
     version: Version,
-) -> Result<bool, AllocError>
+) -> Result<Answer, AllocError>
     requires opened { IsImageOf bytes.now version }
     requires empty { engine.old.version.next_id ≡ 0 }
     requires number { engine.old.version.number < merge_end }
-    requires room { lines.old < far }
-    ensures reply { IfOk result (λ refusal. (state : State) → Keeps engine.old false state → IsReading bytes.now (state.images bytes.now) →
-        Follows (reading_reply state (state.images bytes.now)) engine.new false out.old.items out.new.items refusal) }
-    ensures stop { OnErr result ((state : State) → Keeps engine.old false state → IsReading bytes.now (state.images bytes.now) →
-        StopsWithin state (Some (reading_reply state (state.images bytes.now))) lines.old lines.new engine.new) }
-    ensures number { OnOk result (engine.new.version.number ≤ engine.old.version.number + 1) }
-    ensures savable { OnOk result (CanBeSaved engine.new.version) }
-    ensures publisher { engine.new.publisher ≡ engine.old.publisher }
+    ensures follows { IfOk result (λ answer. (state : State) → Keeps engine.old false state → IsReading bytes.now (state.images bytes.now) →
+        Follows (reading_reply state (state.images bytes.now)) state engine.new false answer) }
+    ensures unmade { OnErr result (engine.new ≡ engine.old) }
+    ensures steps { OnOk result (StepsOn engine.old engine.new false) }
 {
     let files = version.file_count();
     match engine.adopt(rt, version) {
-        Ok(_receipt) => {
-            *lines += 1;
-            put_opened(out, files)?;
-            Ok(false)
-        }
+        Ok(_receipt) => Ok(Answer::Opened(files)),
         // the engine has no file
         Err(AdoptFault::NotEmpty(_)) => unreachable!(),
         Err(AdoptFault::NoMemory) => Err(AllocError),
     }
 }
 
-/// Opens a content, and appends the answer.
-fn open_content<R: Wait>(
-    rt: &R,
-    alloc: Global,
-    out: &mut Vec<u8>,
+/// Opens a content.
+fn open_content<R: Wait, G>(
+    context: &Context<'_, R, G>,
     engine: &mut Engine,
-    lines: &mut u64,
     content: &[u8],
-) -> Result<bool, AllocError>
+) -> Result<Answer, AllocError>
     requires savable { CanBeSaved engine.old.version }
     requires empty { engine.old.version.next_id ≡ 0 }
     requires number { engine.old.version.number < merge_end }
-    requires room { lines.old < far }
-    ensures reply { IfOk result (λ refusal. (state : State) → Keeps engine.old false state → IsReading content.now (state.images content.now) →
-        Follows (reading_reply state (state.images content.now)) engine.new false out.old.items out.new.items refusal) }
-    ensures stop { OnErr result ((state : State) → Keeps engine.old false state → IsReading content.now (state.images content.now) →
-        StopsWithin state (Some (reading_reply state (state.images content.now))) lines.old lines.new engine.new) }
-    ensures number { OnOk result (engine.new.version.number ≤ engine.old.version.number + 1) }
-    ensures savable { OnOk result (CanBeSaved engine.new.version) }
-    ensures publisher { engine.new.publisher ≡ engine.old.publisher }
+    ensures follows { IfOk result (λ answer. (state : State) → Keeps engine.old false state → IsReading content.now (state.images content.now) →
+        Follows (reading_reply state (state.images content.now)) state engine.new false answer) }
+    ensures unmade { OnErr result (engine.new ≡ engine.old) }
+    ensures steps { OnOk result (StepsOn engine.old engine.new false) }
 {
-    match read_image(alloc, content) {
+    match read_image(context.alloc, content) {
         Ok(version) => {
-            let refused = adopt(rt, out, engine, lines, content, version)?;
-            Ok(refused)
+            let answer = adopt(context.rt, engine, content, version)?;
+            Ok(answer)
         }
-        Err(ImageFault::NotImage) => {
-            let refused = refuse(out, &Refusal::NotImage)?;
-            Ok(refused)
-        }
+        Err(ImageFault::NotImage) => Ok(Answer::Refused(Refusal::NotImage)),
         Err(ImageFault::NoMemory) => Err(AllocError),
     }
 }
 
-/// Loads an image and opens it in place of the empty collection, and appends the answer. Once a file was added nothing is loaded. An
-/// accepted line is completed before its answer is made.
-pub fn open<R: Wait, F: Files, G>(
-    setting: &Setting<R, G>,
-    out: &mut Vec<u8>,
+/// Loads an image and opens it in place of the empty collection. Once a file was added nothing is loaded.
+pub(crate) fn open<R: Wait, F: Files, G>(
+    setting: &Setting<'_, R, G>,
     files: &mut F,
     engine: &mut Engine,
-    lines: &mut u64,
     name: &[u8],
-) -> Result<bool, FileError>
+) -> Result<Answer, FileError>
     requires savable { CanBeSaved engine.old.version }
     requires number { engine.old.version.number < merge_end }
-    requires room { lines.old < far }
-    ensures reply { IfOk result (λ refusal. (state : State) → IsAt (F.held files.old) engine.old false state → IsReadBy state (Load name.now) →
-        Gives (reply setting.now.limits state (Load name.now)) engine.new false out.old.items out.new.items refusal) }
-    ensures stop { OnErr result ((state : State) → IsAt (F.held files.old) engine.old false state → IsReadBy state (Load name.now) →
-        StopsWithin state (reply setting.now.limits state (Load name.now)) lines.old lines.new engine.new) }
-    ensures number { OnOk result (engine.new.version.number ≤ engine.old.version.number + 1) }
-    ensures savable { OnOk result (CanBeSaved engine.new.version) }
-    ensures publisher { engine.new.publisher ≡ engine.old.publisher }
+    ensures gives { IfOk result (λ answer. (state : State) → IsAt (F.held files.old) engine.old false state → IsReadByAction state (Open name.now) →
+        Gives (action_reply setting.now.limits state (Open name.now)) state engine.new false (F.held files.new) answer) }
+    ensures unmade { OnErr result (engine.new ≡ engine.old) }
+    ensures steps { OnOk result (StepsOn engine.old engine.new false) }
     ensures unasked { 0 < engine.old.version.next_id → files.new ≡ files.old }
     ensures same { F.held files.new ≡ F.held files.old }
     ensures cause { HasFileCause (F.faults files.old) (F.faults files.new) result }
-    ensures calm { OnOk result (F.faults files.new ≡ F.faults files.old) }
+    ensures counts { CountsFileFault (F.faults files.old) (F.faults files.new) result }
     ensures unkept { F.unkept files.new ≡ F.unkept files.old }
 {
     if engine.version().next_id() > 0 {
-        let refused = refuse(out, &Refusal::NotEmpty)?;
-        return Ok(refused);
+        return Ok(Answer::Refused(Refusal::NotEmpty));
     }
-    let mut content = Vec::new(setting.alloc);
+    let mut content = Vec::new(setting.context.alloc);
     match files.load(name, setting.limits.image, &mut content)? {
-        Loaded::Long => {
-            let refused = refuse(out, &Refusal::TooLong)?;
-            Ok(refused)
-        }
+        Loaded::Long => Ok(Answer::Refused(Refusal::TooLong)),
         Loaded::Whole => {
-            let refused = open_content(
-                setting.rt,
-                setting.alloc,
-                out,
-                engine,
-                lines,
-                content.as_slice(),
-            )?;
-            Ok(refused)
+            let answer = open_content(&setting.context, engine, content.as_slice())?;
+            Ok(answer)
         }
     }
 }

@@ -1,196 +1,212 @@
-ghost use Rattle.std.specs.Prelude.{◌≡◌, ◌+◌, ◌-◌, ◌≤◌, ◌<◌, [], false, IfOk, OnOk, IsErrOf, length};
-ghost use Rattle.gcl_model.specs.Limits.{far, merge_end, most_readers, most_script};
-ghost use Rattle.image_file.specs.Images.{CanBeSaved};
-ghost use Rattle.script_lang.specs.Lines.{lines, IsCut};
-ghost use Rattle.query_lanes.specs.Readers.{AreOf};
-ghost use Rattle.script_answers.specs.States.{State, AreLimits};
-ghost use Rattle.script_answers.specs.Answers.{answer, IsRead, names_kept_of, names_kept_of_line, names_of_line, names_of};
-ghost use Rattle.script_answers.specs.Batches.{asks_query};
-ghost use Rattle.script_answers.specs.Progress.{Advances, ComesNext, GoesBetween, HasCauses, HasWritten, HoldsAfterLine, IsAt, Stops, StopsWithin};
-ghost use Rattle.script_answers.specs.Progress.{answer_text, line_at_hand, lines_from, stand, wish};
-ghost use Rattle.script_answers.specs.Stopped.{GetsPart};
+ghost use Rattle.std.specs.Prelude.{◌≡◌, ◌+◌, ◌≤◌, ◌<◌, ◌++◌, [], ◌∷◌, ℕ, List, Option, ⊤, OnOk, OnErr, IsErrOf, length};
+ghost use Rattle.gcl_model.specs.Limits.{most_script};
+ghost use Rattle.outside.specs.Contents.{Contents};
+ghost use Rattle.script_lang.specs.Lines.{Line, lines};
+ghost use Rattle.script_answers.specs.Answers.{names_kept_of, names_of};
+ghost use Rattle.script_answers.specs.inner.Asks.{AreAsked};
+ghost use Rattle.script_answers.specs.inner.Service.{Goes, Halts, CountsFiles, CountsSink, IsServing, KeepsFiles, Serves, ending_of, stand};
+ghost use Rattle.script_answers.specs.inner.Tasks.{IsActionOf, IsNamedAction, IsNamedTask, IsTaskOf, action_kept, action_names, completes, task_kept, task_names};
 
-use crate::answering::serve_queries;
-use crate::answers::answer_line;
-use crate::batches::take_batch;
-use crate::course::Course;
+use crate::acting::act;
+use crate::action::Action;
+use crate::answer::{Answer, put_answer};
+use crate::merging::merge_pending;
+use crate::pages::write_answers;
+use crate::progress::Progress;
 use crate::run_fault::RunFault;
-use crate::script_line::ScriptLine;
 use crate::setting::Setting;
+use crate::task::{Task, read_task};
 use crate::write::write_all;
 use collection::Opened;
 use outside::{Files, Gate, Sink};
-use script_lang::{LineCut, line_at};
+use query_lanes::{Ask, answer_batch};
+use script_lang::line_at;
+use std::alloc::AllocError;
 use std::sync::Wait;
 use std::thread::Threads;
 
-/// Answers a line that asks no query, and writes the answer.
-fn serve_line<R: Wait, F: Files, K: Sink, G: Gate>(
-    setting: &Setting<R, G>,
-    out: &mut Vec<u8>,
-    files: &mut F,
+/// Answers the queries that wait for their batch, beside the merge that is pending, if one is, and writes the answers. Then none waits.
+fn serve_batch<R: Threads + Wait + Sync, K: Sink, G: Gate + Sync>(
+    setting: &Setting<'_, R, G>,
     sink: &mut K,
     opened: &mut Opened,
-    wanted: &mut bool,
-    line: &ScriptLine<'_>,
-) -> Result<bool, RunFault>
-    requires unasked { asks_query (line_at_hand line.now) ≡ false }
-    requires limits { AreLimits setting.now.limits }
-    requires savable { CanBeSaved opened.old.engine.version }
-    requires number { opened.old.engine.version.number + wish wanted.old < merge_end }
-    requires room { opened.old.lines < far }
-    ensures step { IfOk result (λ refusal. (state : State) → IsAt (F.held files.old) opened.old.engine wanted.old state → IsRead state (line_at_hand line.now) →
-        HasWritten setting.now.limits state (line_at_hand line.now) opened.new.engine wanted.new refusal (K.written sink.old) (K.written sink.new)) }
-    ensures stop { (state : State) → IsAt (F.held files.old) opened.old.engine wanted.old state → IsRead state (line_at_hand line.now) →
-        StopsWithin state (answer setting.now.limits state (line_at_hand line.now)) opened.old.lines opened.new.lines opened.new.engine }
-    ensures part { (state : State) → IsAt (F.held files.old) opened.old.engine wanted.old state → IsRead state (line_at_hand line.now) →
-        GetsPart (K.written sink.old) (K.written sink.new) (answer_text setting.now.limits state (line_at_hand line.now)) }
-    ensures completed { OnOk result (opened.new.lines ≡ opened.old.lines + 1) }
-    ensures readers { opened.new.readers ≡ opened.old.readers }
-    ensures publisher { opened.new.engine.publisher ≡ opened.old.engine.publisher }
-    ensures number { OnOk result (opened.new.engine.version.number + wish wanted.new ≤ opened.old.engine.version.number + wish wanted.old + 1) }
-    ensures savable { OnOk result (CanBeSaved opened.new.engine.version) }
-    ensures quiet { names_of_line (line_at_hand line.now) ≡ [] → files.new ≡ files.old }
-    ensures unsaved { names_kept_of_line (line_at_hand line.now) ≡ [] → F.held files.new ≡ F.held files.old }
-    ensures files { (state : State) → IsAt (F.held files.old) opened.old.engine wanted.old state →
-        HoldsAfterLine setting.now.limits state (line_at_hand line.now) opened.old.lines opened.new.lines
-        (F.unkept files.new ≡ F.unkept files.old) (F.held files.new) result }
-    ensures causes { HasCauses (K.faults sink.old) (K.faults sink.new) (F.faults files.old) (F.faults files.new) result }
-    ensures sink_calm { OnOk result (K.faults sink.new ≡ K.faults sink.old) }
-    ensures files_calm { OnOk result (F.faults files.new ≡ F.faults files.old) }
-    ensures unkept { OnOk result (F.unkept files.new ≡ F.unkept files.old) }
-    ensures kept { IsErrOf result RunFault.Write → F.unkept files.new ≡ F.unkept files.old }
-{
-    let refused = answer_line(
-        setting,
-        out,
-        files,
-        &mut opened.engine,
-        &mut opened.lines,
-        wanted,
-        line,
-    )?;
-    write_all(sink, out.as_slice())?;
-    Ok(refused)
-}
-
-/// Answers the queries that begin with the line at hand, or else this line alone.
-fn serve_some<R: Threads + Wait + Sync, F: Files, K: Sink, G: Gate + Sync>(
-    setting: &Setting<R, G>,
-    files: &mut F,
-    sink: &mut K,
-    opened: &mut Opened,
-    course: &mut Course,
-    script: &[u8],
-    cut: LineCut,
+    progress: &mut Progress,
+    asks: &mut Vec<Ask>,
 ) -> Result<(), RunFault>
-    requires cut { IsCut script.now course.old.at cut }
-    requires line { ComesNext setting.now.limits.line script.now course.old.at cut }
-    requires room { opened.old.lines + (length script.now - course.old.at) ≤ most_script }
-    requires asked { course.old.asked ≤ opened.old.lines }
-    requires limits { AreLimits setting.now.limits }
-    requires savable { CanBeSaved opened.old.engine.version }
-    requires numbers { opened.old.engine.version.number + wish course.old.wanted ≤ opened.old.lines }
-    requires same { length course.old.works.items ≡ length opened.old.readers.items }
-    requires lanes { length opened.old.readers.items ≤ most_readers }
-    requires of { AreOf opened.old.engine.publisher opened.old.readers.items }
-    ensures goes { OnOk result (GoesBetween setting.now.limits.line script.now course.old.at course.new.at opened.old.lines opened.new.lines) }
-    ensures come { OnOk result (Advances setting.now.limits (lines_from setting.now.limits.line script.now course.old.at)
-        (stand opened.old.lines (F.held files.old) opened.old.engine course.old.wanted course.old.refused)
-        (stand opened.new.lines (F.held files.new) opened.new.engine course.new.wanted course.new.refused) (K.written sink.old) (K.written sink.new)) }
-    ensures stopped { Stops setting.now.limits (lines_from setting.now.limits.line script.now course.old.at) (F.unkept files.new ≡ F.unkept files.old)
-        (stand opened.old.lines (F.held files.old) opened.old.engine course.old.wanted course.old.refused)
-        (stand opened.new.lines (F.held files.new) opened.new.engine course.new.wanted course.new.refused) (K.written sink.old) (K.written sink.new) }
-    ensures further { OnOk result ((course.old.at < course.new.at) × (course.new.at ≤ length script.now)) }
-    ensures counted { OnOk result ((opened.new.lines + course.old.at ≤ opened.old.lines + course.new.at) × (course.new.asked ≤ opened.new.lines)) }
-    ensures numbers { OnOk result (opened.new.engine.version.number + wish course.new.wanted ≤ opened.new.lines) }
-    ensures savable { OnOk result (CanBeSaved opened.new.engine.version) }
-    ensures of { AreOf opened.new.engine.publisher opened.new.readers.items }
-    ensures same { length course.new.works.items ≡ length opened.new.readers.items }
-    ensures lanes { length opened.new.readers.items ≤ most_readers }
-    ensures quiet { names_of (lines_from setting.now.limits.line script.now course.old.at) ≡ [] → files.new ≡ files.old }
-    ensures unsaved { names_kept_of (lines_from setting.now.limits.line script.now course.old.at) ≡ [] → F.held files.new ≡ F.held files.old }
-    ensures causes { HasCauses (K.faults sink.old) (K.faults sink.new) (F.faults files.old) (F.faults files.new) result }
-    ensures sink_calm { OnOk result (K.faults sink.new ≡ K.faults sink.old) }
-    ensures files_calm { OnOk result (F.faults files.new ≡ F.faults files.old) }
-    ensures unkept { OnOk result (F.unkept files.new ≡ F.unkept files.old) }
-    ensures kept { IsErrOf result RunFault.Write → F.unkept files.new ≡ F.unkept files.old }
+    requires serving { IsServing opened.old progress.old (length asks.old.items) }
+    requires room { opened.old.lines + length asks.old.items ≤ most_script }
+    ensures serves { OnOk result ((held : Option Contents) (batch : List Line) → AreAsked asks.old.items batch →
+        Serves setting.now.limits batch (stand held opened.old progress.old) (stand held opened.new progress.new) (K.written sink.old) (K.written sink.new)) }
+    ensures halts { OnErr result ((held : Option Contents) (batch : List Line) → AreAsked asks.old.items batch →
+        Halts setting.now.limits batch (ending_of result) ⊤ (stand held opened.old progress.old) (stand held opened.new progress.new) (K.written sink.old) (K.written sink.new)) }
+    ensures serving { OnOk result (IsServing opened.new progress.new 0) }
+    ensures each { OnOk result (opened.new.lines ≡ opened.old.lines + length asks.old.items) }
+    ensures none { OnOk result (asks.new.items ≡ []) }
+    ensures ours { ¬ IsErrOf result RunFault.Files }
+    ensures sink { CountsSink (K.faults sink.old) (K.faults sink.new) result }
 {
-    let batch = take_batch(
-        setting.alloc,
-        script,
-        course.at,
-        setting.limits.line as usize,
-        setting.limits.batch as usize,
-        course.asked + 1,
-    )?;
-    if !batch.asks.is_empty() {
-        serve_queries(setting, files, sink, opened, course, script, batch)?;
+    if asks.is_empty() {
         return Ok(());
     }
-    let line = ScriptLine {
-        long: cut.long,
-        bytes: &script[cut.from..cut.to],
-    };
-    let refused = serve_line(
-        setting,
-        &mut course.out,
-        files,
-        sink,
-        opened,
-        &mut course.wanted,
-        &line,
+    let answers = answer_batch(
+        &setting.context,
+        asks.as_slice(),
+        progress.pending,
+        &mut opened.engine,
+        opened.readers.as_mut_slice(),
     )?;
-    course.refused |= refused;
-    course.at = cut.after;
+    progress.pending = false;
+    progress.refused |= write_answers(
+        setting.context.alloc,
+        sink,
+        &mut progress.out,
+        &opened.engine,
+        &mut opened.lines,
+        asks.as_slice(),
+        answers,
+    )?;
+    asks.clear();
     Ok(())
 }
 
-/// Answers the lines of some bytes, one after the other, and hands each answer to the sink before the line after it is done. Queries in a row are
-/// answered in batches by the engine's readers, beside a merge that is wanted; before that lines after them may be done that save and open nothing.
-///
-/// A last line without a newline is answered as any other, so the bytes are to end where a line ends. `course.at` begins at 0, whatever it was.
-/// `opened.lines` counts the lines that are completed, also where it ends early.
-pub fn serve_held<R: Threads + Wait + Sync, F: Files, K: Sink, G: Gate + Sync>(
-    setting: &Setting<R, G>,
+/// How many lines are completed once one of them is done: it is among them where it made a change.
+fn after_change(lines: u64, answer: &Answer) -> u64
+    requires { lines < most_script }
+    ensures { result ≡ lines + completes answer.now }
+{
+    if answer.is_change() { lines + 1 } else { lines }
+}
+
+/// Does what a line asks for that asks no query, and writes its answer. A change is made once no merge is pending, and the line is completed
+/// with it; every other line once its answer is made.
+fn serve_action<R: Wait, F: Files, K: Sink, G: Gate>(
+    setting: &Setting<'_, R, G>,
     files: &mut F,
     sink: &mut K,
     opened: &mut Opened,
-    course: &mut Course,
+    progress: &mut Progress,
+    action: &Action,
+) -> Result<(), RunFault>
+    requires named { IsNamedAction action.now }
+    requires serving { IsServing opened.old progress.old 0 }
+    requires room { opened.old.lines < most_script }
+    ensures serves { OnOk result ((line : Line) → IsActionOf action.now line →
+        Serves setting.now.limits (line ∷ []) (stand (F.held files.old) opened.old progress.old) (stand (F.held files.new) opened.new progress.new)
+        (K.written sink.old) (K.written sink.new)) }
+    ensures halts { OnErr result ((line : Line) → IsActionOf action.now line →
+        Halts setting.now.limits (line ∷ []) (ending_of result) (F.unkept files.new ≡ F.unkept files.old)
+        (stand (F.held files.old) opened.old progress.old) (stand (F.held files.new) opened.new progress.new) (K.written sink.old) (K.written sink.new)) }
+    ensures serving { OnOk result (IsServing opened.new progress.new 0) }
+    ensures each { OnOk result (opened.new.lines ≡ opened.old.lines + 1) }
+    ensures files { KeepsFiles (action_names action.now) (action_kept action.now) (files.new ≡ files.old) (F.held files.new ≡ F.held files.old)
+        (F.unkept files.new ≡ F.unkept files.old) result }
+    ensures sink { CountsSink (K.faults sink.old) (K.faults sink.new) result }
+    ensures faults { CountsFiles (F.faults files.old) (F.faults files.new) result }
+{
+    merge_pending(&setting.context, &mut opened.engine, &mut progress.pending)?;
+    let answer = act(setting, files, &mut opened.engine, action)?;
+    progress.pending = action.is_merge();
+    let completed = opened.lines + 1;
+    opened.lines = after_change(opened.lines, &answer);
+    progress.out.clear();
+    put_answer(&mut progress.out, opened.engine.version(), &answer)?;
+    opened.lines = completed;
+    write_all(sink, progress.out.as_slice())?;
+    progress.refused |= answer.is_refused();
+    Ok(())
+}
+
+/// One query more waits for its batch.
+fn push(asks: &mut Vec<Ask>, ask: Ask) -> Result<(), AllocError>
+    ensures { OnOk result (asks.new.items ≡ asks.old.items ++ ask ∷ []) }
+{
+    asks.push(ask)?;
+    Ok(())
+}
+
+/// Does what a line asks for, once the queries before it are answered. A query waits for its batch, which is answered when it is full.
+fn serve_task<R: Threads + Wait + Sync, F: Files, K: Sink, G: Gate + Sync>(
+    setting: &Setting<'_, R, G>,
+    files: &mut F,
+    sink: &mut K,
+    opened: &mut Opened,
+    progress: &mut Progress,
+    asks: &mut Vec<Ask>,
+    task: Task,
+) -> Result<(), RunFault>
+    requires named { IsNamedTask task }
+    requires serving { IsServing opened.old progress.old (length asks.old.items) }
+    requires room { opened.old.lines + length asks.old.items < most_script }
+    ensures goes { OnOk result ((waiting : List Line) (line : Line) → AreAsked asks.old.items waiting → IsTaskOf task line →
+        Goes setting.now.limits (waiting ++ line ∷ []) asks.new.items (stand (F.held files.old) opened.old progress.old)
+        (stand (F.held files.new) opened.new progress.new) (K.written sink.old) (K.written sink.new)) }
+    ensures halts { OnErr result ((waiting : List Line) (line : Line) → AreAsked asks.old.items waiting → IsTaskOf task line →
+        Halts setting.now.limits (waiting ++ line ∷ []) (ending_of result) (F.unkept files.new ≡ F.unkept files.old)
+        (stand (F.held files.old) opened.old progress.old) (stand (F.held files.new) opened.new progress.new) (K.written sink.old) (K.written sink.new)) }
+    ensures serving { OnOk result (IsServing opened.new progress.new (length asks.new.items)) }
+    ensures each { OnOk result (opened.new.lines + length asks.new.items ≡ opened.old.lines + length asks.old.items + 1) }
+    ensures files { KeepsFiles (task_names task) (task_kept task) (files.new ≡ files.old) (F.held files.new ≡ F.held files.old)
+        (F.unkept files.new ≡ F.unkept files.old) result }
+    ensures sink { CountsSink (K.faults sink.old) (K.faults sink.new) result }
+    ensures faults { CountsFiles (F.faults files.old) (F.faults files.new) result }
+{
+    match task {
+        Task::Ask(ask) => {
+            push(asks, ask)?;
+            progress.asked += 1;
+            if (asks.len() as u64) < setting.limits.batch {
+                return Ok(());
+            }
+            serve_batch(setting, sink, opened, progress, asks)?;
+            Ok(())
+        }
+        Task::Nothing => {
+            serve_batch(setting, sink, opened, progress, asks)?;
+            opened.lines += 1;
+            Ok(())
+        }
+        Task::Act(action) => {
+            serve_batch(setting, sink, opened, progress, asks)?;
+            serve_action(setting, files, sink, opened, progress, &action)?;
+            Ok(())
+        }
+    }
+}
+
+/// Answers the lines of some bytes, one after the other: the answer to each is handed to the sink before the line after it is done. Queries in
+/// a row are a batch, which the engine's readers answer beside a merge that is pending.
+///
+/// A last line without a newline is answered as any other, so the bytes are to end where a line ends. `opened.lines` counts the lines that are
+/// completed, also where it ends early.
+pub fn serve_held<R: Threads + Wait + Sync, F: Files, K: Sink, G: Gate + Sync>(
+    setting: &Setting<'_, R, G>,
+    files: &mut F,
+    sink: &mut K,
+    opened: &mut Opened,
+    progress: &mut Progress,
     script: &[u8],
 ) -> Result<(), RunFault>
+    requires serving { IsServing opened.old progress.old 0 }
     requires room { opened.old.lines + length script.now ≤ most_script }
-    requires asked { course.old.asked ≤ opened.old.lines }
-    requires limits { AreLimits setting.now.limits }
-    requires savable { CanBeSaved opened.old.engine.version }
-    requires numbers { opened.old.engine.version.number + wish course.old.wanted ≤ opened.old.lines }
-    requires same { length course.old.works.items ≡ length opened.old.readers.items }
-    requires lanes { length opened.old.readers.items ≤ most_readers }
-    requires of { AreOf opened.old.engine.publisher opened.old.readers.items }
-    ensures each { OnOk result (opened.new.lines ≡ opened.old.lines + length (lines setting.now.limits.line script.now)) }
-    ensures come { OnOk result (Advances setting.now.limits (lines setting.now.limits.line script.now)
-        (stand opened.old.lines (F.held files.old) opened.old.engine course.old.wanted course.old.refused)
-        (stand opened.new.lines (F.held files.new) opened.new.engine course.new.wanted course.new.refused) (K.written sink.old) (K.written sink.new)) }
-    ensures stopped { Stops setting.now.limits (lines setting.now.limits.line script.now) (F.unkept files.new ≡ F.unkept files.old)
-        (stand opened.old.lines (F.held files.old) opened.old.engine course.old.wanted course.old.refused)
-        (stand opened.new.lines (F.held files.new) opened.new.engine course.new.wanted course.new.refused) (K.written sink.old) (K.written sink.new) }
-    ensures counted { OnOk result ((opened.new.lines ≤ opened.old.lines + length script.now) × (course.new.asked ≤ opened.new.lines)) }
-    ensures numbers { OnOk result (opened.new.engine.version.number + wish course.new.wanted ≤ opened.new.lines) }
-    ensures savable { OnOk result (CanBeSaved opened.new.engine.version) }
-    ensures of { AreOf opened.new.engine.publisher opened.new.readers.items }
-    ensures same { length course.new.works.items ≡ length opened.new.readers.items }
-    ensures lanes { length opened.new.readers.items ≤ most_readers }
-    ensures quiet { names_of (lines setting.now.limits.line script.now) ≡ [] → files.new ≡ files.old }
-    ensures unsaved { names_kept_of (lines setting.now.limits.line script.now) ≡ [] → F.held files.new ≡ F.held files.old }
-    ensures causes { HasCauses (K.faults sink.old) (K.faults sink.new) (F.faults files.old) (F.faults files.new) result }
-    ensures sink_calm { OnOk result (K.faults sink.new ≡ K.faults sink.old) }
-    ensures files_calm { OnOk result (F.faults files.new ≡ F.faults files.old) }
-    ensures unkept { OnOk result (F.unkept files.new ≡ F.unkept files.old) }
-    ensures kept { IsErrOf result RunFault.Write → F.unkept files.new ≡ F.unkept files.old }
+    ensures serves { OnOk result (Serves setting.now.limits (lines setting.now.limits.line script.now)
+        (stand (F.held files.old) opened.old progress.old) (stand (F.held files.new) opened.new progress.new) (K.written sink.old) (K.written sink.new)) }
+    ensures halts { OnErr result (Halts setting.now.limits (lines setting.now.limits.line script.now) (ending_of result) (F.unkept files.new ≡ F.unkept files.old)
+        (stand (F.held files.old) opened.old progress.old) (stand (F.held files.new) opened.new progress.new) (K.written sink.old) (K.written sink.new)) }
+    ensures serving { OnOk result (IsServing opened.new progress.new 0) }
+    ensures counted { OnOk result (opened.new.lines ≤ opened.old.lines + length script.now) }
+    ensures files { KeepsFiles (names_of (lines setting.now.limits.line script.now)) (names_kept_of (lines setting.now.limits.line script.now))
+        (files.new ≡ files.old) (F.held files.new ≡ F.held files.old) (F.unkept files.new ≡ F.unkept files.old) result }
+    ensures sink { CountsSink (K.faults sink.old) (K.faults sink.new) result }
+    ensures faults { CountsFiles (F.faults files.old) (F.faults files.new) result }
 {
-    course.at = 0;
-    while let Some(cut) = line_at(script, course.at, setting.limits.line as usize) {
-        serve_some(setting, files, sink, opened, course, script, cut)?;
+    let mut at = 0;
+    let mut asks = Vec::new(setting.context.alloc);
+    while let Some(cut) = line_at(script, at, setting.limits.line as usize) {
+        let bytes = &script[cut.from..cut.to];
+        let task = read_task(setting.context.alloc, cut.long, bytes, progress.asked + 1)?;
+        serve_task(setting, files, sink, opened, progress, &mut asks, task)?;
+        at = cut.after;
     }
+    serve_batch(setting, sink, opened, progress, &mut asks)?;
     Ok(())
 }

@@ -1,6 +1,6 @@
-ghost use Rattle.std.specs.Prelude.{◌≡◌, ◌≤◌, OnOk, IsErrOf};
+ghost use Rattle.std.specs.Prelude.{OnOk};
 ghost use Rattle.std.specs.Io.KnownBytes.{Appends};
-ghost use Rattle.outside.specs.Causes.{HasWriteCause};
+ghost use Rattle.outside.specs.Causes.{CountsWriteFault, HasWriteCause};
 ghost use Rattle.script_answers.specs.Stopped.{GetsPart};
 
 use outside::{Sink, WriteError};
@@ -13,7 +13,7 @@ pub fn write_all<K: Sink>(sink: &mut K, text: &[u8]) -> Result<(), WriteError>
     ensures written { OnOk result (Appends (K.written sink.old) (K.written sink.new) text.now) }
     ensures part { GetsPart (K.written sink.old) (K.written sink.new) text.now }
     ensures cause { HasWriteCause (K.faults sink.old) (K.faults sink.new) result }
-    ensures calm { OnOk result (K.faults sink.new ≡ K.faults sink.old) }
+    ensures counts { CountsWriteFault (K.faults sink.old) (K.faults sink.new) result }
 {
     let mut at = 0;
     while at < text.len() {

@@ -1,25 +1,23 @@
-ghost use Rattle.std.specs.Prelude.{◌≡◌, List, ◌++◌, None, Ok, IfOk};
-ghost use Rattle.gcl_model.specs.Extents.{Extent};
-ghost use Rattle.gcl_model.specs.FormOf.{form_of};
-ghost use Rattle.gcl_model.specs.Meaning.{concordance};
-ghost use Rattle.gcl_model.specs.WellFormed.{IsWellFormed};
-ghost use Rattle.gcl_model.specs.declared.expr.Expr.{Expr as Expression};
-ghost use Rattle.live_version.specs.Contents.{version_text};
-ghost use Rattle.query_lanes.specs.declared.asks.Asked.TheVariants.{All};
+ghost use Rattle.std.specs.Prelude.{◌≡◌};
+ghost use Rattle.query_lanes.specs.Readers.{AreOf};
 
-use crate::batches::{opened, query};
+use crate::batches::{MOST, opened, query};
 use address_space::is_name;
 use collection::{Engine, Opened};
-use gcl_model::{Expr, IntervalList};
-use query_lanes::{Ask, Asked, Found, PAGE, answer_alone, page_behind};
+use gcl_model::IntervalList;
+use outside::FreeGate;
+use query_lanes::{Ask, Asked, Context, Found, Listing, Search, answer_batch};
 use std::alloc::{AllocError, Global};
 use std::sync::Wait;
 use std::test::Fail;
+use std::thread::Threads;
 
 /// Of a page the number of its members, the start of the first and the end of the last one, or 0 where there is none.
-fn summary(page: &IntervalList) -> (usize, u64, u64) {
+type Summary = (u64, u64, u64);
+
+fn summary(page: &IntervalList) -> Summary {
     match (page.as_slice().first(), page.as_slice().last()) {
-        (Some(first), Some(last)) => (page.len(), first.start, last.end),
+        (Some(first), Some(last)) => (page.len() as u64, first.start, last.end),
         _ => (0, 0, 0),
     }
 }
@@ -49,109 +47,125 @@ fn engine_of_words<R: Wait>(rt: &R, alloc: Global) -> Result<Engine, AllocError>
     Ok(engine)
 }
 
-/// What is found where all members are asked for.
-fn first_page(alloc: Global, engine: &Engine, ask: &Ask) -> Result<IntervalList, AllocError>
-    requires asked { ask.now.asked ≡ All }
-    requires free { ask.now.pass ≡ None }
-    ensures { (expr : Expression) → ask.now.query ≡ Ok expr → IfOk result (λ page. (before : List Extent) × (rest : List Extent) × (concordance (version_text engine.now.version) (form_of expr) ≡ before ++ page ++ rest)) }
-{
-    match answer_alone(alloc, engine, ask)? {
-        Found::List(page) => Ok(page),
-        _ => Err(AllocError),
+/// The pages of a listing, at most ten.
+fn pages_of(alloc: Global, listing: &mut Listing) -> Result<Vec<Summary>, AllocError> {
+    let mut pages = Vec::new(alloc);
+    for _ in 0..10 {
+        let Some(page) = listing.next_page(alloc)? else {
+            return Ok(pages);
+        };
+        pages.push(summary(&page))?;
     }
+    Ok(pages)
 }
 
-/// The page after a page, or none where that has no member.
-fn next_page(
+/// The pages of an answer, or its total alone.
+fn pages_found(alloc: Global, found: &mut Found) -> Result<Vec<Summary>, AllocError> {
+    let mut pages = Vec::new(alloc);
+    match found {
+        Found::List(listing) => return pages_of(alloc, listing),
+        Found::Total(total) => pages.push((*total, 0, 0))?,
+        Found::Refused(_) => return Err(AllocError),
+    }
+    Ok(pages)
+}
+
+/// What a query for `"x"` finds.
+fn found_of_words<R: Threads + Wait + Sync>(
+    rt: &R,
     alloc: Global,
-    engine: &Engine,
-    expr: &Expr,
-    page: &IntervalList,
-) -> Result<IntervalList, AllocError>
-    requires well_formed { IsWellFormed (form_of expr.now) }
-    requires page { (before : List Extent) × (rest : List Extent) × (concordance (version_text engine.now.version) (form_of expr.now) ≡ before ++ page.now ++ rest) }
-    ensures { IfOk result (λ next. (before : List Extent) × (rest : List Extent) × (concordance (version_text engine.now.version) (form_of expr.now) ≡ before ++ next ++ rest)) }
-{
-    let [.., last] = page.as_slice() else {
-        return Ok(IntervalList::new(alloc));
-    };
-    let next = page_behind(alloc, engine, &None, expr, *last, PAGE)?;
-    Ok(next)
-}
-
-/// The first three pages of what `"x"` finds.
-fn three_pages(alloc: Global, engine: &Engine) -> Result<[(usize, u64, u64); 3], AllocError> {
-    let ask = Ask {
-        number: 1,
-        asked: Asked::All,
-        query: query(alloc, b"\"x\"")?,
-        pass: None,
-    };
-    let first = first_page(alloc, engine, &ask)?;
-    let Ok(expr) = &ask.query else {
+    asked: Asked,
+    engine: &mut Engine,
+) -> Result<Vec<Summary>, AllocError> {
+    if engine.version().number() >= MOST {
         return Err(AllocError);
-    };
-    let second = next_page(alloc, engine, expr, &first)?;
-    let third = next_page(alloc, engine, expr, &second)?;
-    Ok([summary(&first), summary(&second), summary(&third)])
-}
-
-#[test]
-fn a_list_is_found_page_by_page(rt: HostRuntime) -> Result<(), Fail> {
-    let engine = engine_of_words(&rt, rt.alloc())?;
-    let pages = three_pages(rt.alloc(), &engine);
-    engine.end(&rt);
-    assert_eq!(rt;
-        pages,
-        Ok([(4_096, 1, 4_096), (904, 4_097, 5_000), (0, 0, 0)])
-    );
-    Ok(())
-}
-
-/// How many members are found at once, or counted, where so many of `"x"` are asked for.
-fn found_at_once(alloc: Global, engine: &Engine, asked: Asked) -> Result<u64, AllocError> {
-    let ask = Ask {
+    }
+    let mut asks = Vec::new(alloc);
+    asks.push(Ask {
         number: 1,
         asked,
         query: query(alloc, b"\"x\"")?,
-        pass: None,
+    })?;
+    let context = Context {
+        rt,
+        alloc,
+        gate: &FreeGate,
     };
-    match answer_alone(alloc, engine, &ask)? {
-        Found::List(page) => Ok(page.len() as u64),
-        Found::Number(count) => Ok(count),
-        Found::Refused(_) => Err(AllocError),
-    }
+    let mut answers = answer_batch(&context, asks.as_slice(), false, engine, &mut [])?;
+    let Some(found) = answers.first_mut() else {
+        return Err(AllocError);
+    };
+    pages_found(alloc, found)
 }
 
-/// The same of each of these.
-fn each_at_once(
+/// What is found of 5,000 words `x` from address 1 on.
+const CASES: [(Asked, &[Summary]); 7] = [
+    (Asked::All, &[(4_096, 1, 4_096), (904, 4_097, 5_000)]),
+    (
+        Asked::First(5_001),
+        &[(4_096, 1, 4_096), (904, 4_097, 5_000)],
+    ),
+    (Asked::First(4_100), &[(4_096, 1, 4_096), (4, 4_097, 4_100)]),
+    (Asked::First(4_096), &[(4_096, 1, 4_096)]),
+    (Asked::First(3), &[(3, 1, 3)]),
+    (Asked::First(0), &[]),
+    (Asked::Number, &[(5_000, 0, 0)]),
+];
+
+fn finds_the_cases<R: Threads + Wait + Sync>(
+    rt: &R,
     alloc: Global,
-    engine: &Engine,
-    cases: &[(Asked, u64)],
-) -> Result<Vec<u64>, AllocError> {
-    let mut found = Vec::new(alloc);
-    for (asked, _) in cases {
-        found.push(found_at_once(alloc, engine, *asked)?)?;
+    engine: &mut Engine,
+) -> Result<bool, AllocError> {
+    for (asked, want) in CASES {
+        if found_of_words(rt, alloc, asked, engine)?.as_slice() != want {
+            return Ok(false);
+        }
     }
-    Ok(found)
+    Ok(true)
 }
 
 #[test]
-fn no_more_than_a_page_is_found_at_once(rt: HostRuntime) -> Result<(), Fail> {
-    let cases = [
-        (Asked::All, 4_096),
-        (Asked::First(4_100), 4_096),
-        (Asked::First(4_096), 4_096),
-        (Asked::First(3), 3),
-        (Asked::Number, 5_000),
-    ];
-    let engine = engine_of_words(&rt, rt.alloc())?;
-    let found = each_at_once(rt.alloc(), &engine, &cases);
+fn a_list_is_handed_out_page_by_page(rt: HostRuntime) -> Result<(), Fail> {
+    let mut engine = engine_of_words(&rt, rt.alloc())?;
+    let found = finds_the_cases(&rt, rt.alloc(), &mut engine);
     engine.end(&rt);
-    let found = found?;
-    assert_eq!(rt; found.len(), cases.len());
-    for ((asked, want), count) in cases.iter().zip(found.as_slice().iter()) {
-        assert_eq!(rt; *count, *want, "{asked:?}");
+    assert_eq!(rt; found, Ok(true));
+    Ok(())
+}
+
+/// How many members of `"x"` are to come before each of some pages, each of this size, and its summary.
+fn pages_searched(
+    alloc: Global,
+    engine: &Engine,
+    sizes: &[u64],
+) -> Result<Vec<(u64, Summary)>, AllocError> {
+    let mut pages = Vec::new(alloc);
+    let pass = engine.pass()?;
+    let Ok(expr) = query(alloc, b"\"x\"")? else {
+        return Err(AllocError);
+    };
+    let mut search = Search::of(pass, expr);
+    for most in sizes {
+        let left = search.count();
+        let page = search.page(alloc, *most)?;
+        pages.push((left, summary(&page)))?;
     }
+    Ok(pages)
+}
+
+#[test]
+fn a_search_goes_on_after_each_page(rt: HostRuntime) -> Result<(), Fail> {
+    let engine = engine_of_words(&rt, rt.alloc())?;
+    let pages = pages_searched(rt.alloc(), &engine, &[2, 0, 4_997, 9, 9]);
+    engine.end(&rt);
+    let want = [
+        (5_000, (2, 1, 2)),
+        (4_998, (0, 0, 0)),
+        (4_998, (4_997, 3, 4_999)),
+        (1, (1, 5_000, 5_000)),
+        (0, (0, 0, 0)),
+    ];
+    assert_eq!(rt; pages?.as_slice(), want.as_slice());
     Ok(())
 }

@@ -11,9 +11,9 @@ use gcl_model::Expr;
 use gcl_parser::{ParseFault, QueryFault, parse};
 use manifest_publish::Reader;
 use outside::{FreeGate, Gate, TurnGate};
-use query_lanes::{Ask, Asked, Found, Work, answer_batch};
+use query_lanes::{Ask, Asked, Context, Found, Listing, answer_batch};
 use std::alloc::{AllocError, Global};
-use std::sync::Wait;
+use std::sync::{Arc, Wait};
 use std::test::Fail;
 use std::thread::Threads;
 
@@ -22,7 +22,7 @@ pub(crate) const MOST: u64 = 1 << 61;
 
 /// Queries over `to be or not to be` from address 0 on, and what each finds: the first and last address of each member, their number, or the place of a
 /// fault.
-pub(crate) const TABLE: [(Asked, &[u8], &[u64]); 7] = [
+const TABLE: [(Asked, &[u8], &[u64]); 7] = [
     (Asked::All, b"\"to\"", &[1, 1, 5, 5]),
     (Asked::Number, b"\"be\"", &[2]),
     (Asked::First(1), b"\"to be\"", &[1, 2]),
@@ -32,18 +32,30 @@ pub(crate) const TABLE: [(Asked, &[u8], &[u64]); 7] = [
     (Asked::Number, b"\"nobody\"", &[0]),
 ];
 
-pub(crate) fn query(alloc: Global, text: &[u8]) -> Result<Result<Expr, QueryFault>, AllocError>
-    ensures { IfOk result (λ query. IfOk query (λ expr. IsWellFormed (form_of expr))) }
+fn shared(alloc: Global, expr: Expr) -> Result<Arc<Expr>, AllocError>
+    ensures { IfOk result (λ shared. shared.value ≡ expr) }
+{
+    match Arc::new(alloc, expr) {
+        Ok(shared) => Ok(shared),
+        Err(_) => Err(AllocError),
+    }
+}
+
+pub(crate) fn query(alloc: Global, text: &[u8]) -> Result<Result<Arc<Expr>, QueryFault>, AllocError>
+    ensures { IfOk result (λ query. IfOk query (λ expr. IsWellFormed (form_of expr.value))) }
 {
     match parse(alloc, text) {
-        Ok(expr) => Ok(Ok(expr)),
+        Ok(expr) => {
+            let expr = shared(alloc, expr)?;
+            Ok(Ok(expr))
+        }
         Err(ParseFault::Query(fault)) => Ok(Err(fault)),
         Err(ParseFault::NoMemory) => Err(AllocError),
     }
 }
 
 /// The queries of the table, numbered from 1.
-pub(crate) fn asks(alloc: Global) -> Result<Vec<Ask>, AllocError> {
+fn asks(alloc: Global) -> Result<Vec<Ask>, AllocError> {
     let mut asks = Vec::new(alloc);
     for (i, (asked, text, _)) in TABLE.iter().enumerate() {
         let query = query(alloc, text)?;
@@ -51,40 +63,52 @@ pub(crate) fn asks(alloc: Global) -> Result<Vec<Ask>, AllocError> {
             number: i as u64 + 1,
             asked: *asked,
             query,
-            pass: None,
         })?;
     }
     Ok(asks)
 }
 
+/// Puts the first and last address of each member, of at most ten pages.
+fn put_members(
+    alloc: Global,
+    listing: &mut Listing,
+    numbers: &mut Vec<u64>,
+) -> Result<(), AllocError> {
+    for _ in 0..10 {
+        let Some(page) = listing.next_page(alloc)? else {
+            return Ok(());
+        };
+        for member in page.as_slice() {
+            numbers.push(member.start)?;
+            numbers.push(member.end)?;
+        }
+    }
+    Ok(())
+}
+
 /// The numbers of an answer, as the table has them.
-fn numbers(alloc: Global, found: &Found) -> Result<Vec<u64>, AllocError> {
+fn numbers(alloc: Global, found: &mut Found) -> Result<Vec<u64>, AllocError> {
     let mut numbers = Vec::new(alloc);
     match found {
-        Found::List(members) => {
-            for member in members.as_slice() {
-                numbers.push(member.start)?;
-                numbers.push(member.end)?;
-            }
-        }
-        Found::Number(count) => numbers.push(*count)?,
+        Found::List(listing) => put_members(alloc, listing, &mut numbers)?,
+        Found::Total(count) => numbers.push(*count)?,
         Found::Refused(fault) => numbers.push(fault.at)?,
     }
     Ok(numbers)
 }
 
-pub(crate) fn added<R: Wait>(rt: &R, engine: &mut Engine) -> bool
+fn added<R: Wait>(rt: &R, engine: &mut Engine) -> bool
     ensures { engine.new.publisher ≡ engine.old.publisher }
 {
     is_name(b"a") && engine.add(rt, b"a", b"to be or not to be").is_ok()
 }
 
-/// The answers to so many of the table's queries from the first on, in order.
+/// The answers to the first `count` of the table's queries, in order.
 fn answered<R: Threads + Wait + Sync, G: Gate + Sync>(
     rt: &R,
     alloc: Global,
     gate: &G,
-    wanted: bool,
+    pending: bool,
     count: usize,
     engine: &mut Engine,
     readers: &mut [Reader],
@@ -98,30 +122,21 @@ fn answered<R: Threads + Wait + Sync, G: Gate + Sync>(
     }
     let asks = asks(alloc)?;
     let (asks, _) = asks.as_slice().split_at(count.min(asks.len()));
-    let mut works = Work::of_lanes(alloc, readers.len())?;
-    let answers = answer_batch(
-        rt,
-        alloc,
-        gate,
-        asks,
-        wanted,
-        engine,
-        works.as_mut_slice(),
-        readers,
-    )?;
+    let context = Context { rt, alloc, gate };
+    let answers = answer_batch(&context, asks, pending, engine, readers)?;
     Ok(answers)
 }
 
-/// Whether these are the answers that the table has to so many queries from the first on.
-pub(crate) fn are_those_of_the_table(
+/// Whether these are the answers that the table has to its first `count` queries.
+fn are_those_of_the_table(
     alloc: Global,
     count: usize,
-    answers: &[Found],
+    answers: &mut [Found],
 ) -> Result<bool, AllocError> {
     if answers.len() != count {
         return Ok(false);
     }
-    for (found, (_, _, want)) in answers.iter().zip(TABLE.iter()) {
+    for (found, (_, _, want)) in answers.iter_mut().zip(TABLE.iter()) {
         if numbers(alloc, found)?.as_slice() != *want {
             return Ok(false);
         }
@@ -139,7 +154,7 @@ fn answers_batches<R: Threads + Wait + Sync>(
     requires few { length readers.old ≤ most_readers }
     requires of { AreOf engine.old.publisher readers.old }
 {
-    for (wanted, count) in [
+    for (pending, count) in [
         (false, 7),
         (true, 7),
         (false, 7),
@@ -147,8 +162,8 @@ fn answers_batches<R: Threads + Wait + Sync>(
         (false, 1),
         (true, 0),
     ] {
-        let answers = answered(rt, alloc, &FreeGate, wanted, count, engine, readers)?;
-        if !are_those_of_the_table(alloc, count, answers.as_slice())? {
+        let mut answers = answered(rt, alloc, &FreeGate, pending, count, engine, readers)?;
+        if !are_those_of_the_table(alloc, count, answers.as_mut_slice())? {
             return Ok(false);
         }
     }
@@ -204,7 +219,9 @@ fn take_turns<R: Threads + Wait + Sync>(
             &mut engine,
             readers.as_mut_slice(),
         ) {
-            Ok(answers) => are_those_of_the_table(alloc, 7, answers.as_slice()) == Ok(true),
+            Ok(mut answers) => {
+                are_those_of_the_table(alloc, 7, answers.as_mut_slice()) == Ok(true)
+            }
             Err(_) => false,
         };
     engine.end(rt);

@@ -1,8 +1,7 @@
 //! Tests of the public calls of the crates that read scripts and words, make a corpus and answer batches.
 //!
 //! They stand apart from those crates, since a crate that has tests is proved twice. `script` is of `script_lang`,
-//! `corpus` of `made_corpus`, `options` of `command_words`, and `batches`, `batch_pages` and `put_off_queries` are
-//! of `query_lanes`.
+//! `corpus` of `made_corpus`, `options` of `command_words`, and `batches` and `batch_pages` are of `query_lanes`.
 //!
 //! Beside them there are `fixtures`: what several tests begin with. Of an engine of no file with four readers each
 //! reader is of that engine.
@@ -17,7 +16,5 @@ mod corpus;
 pub mod fixtures;
 #[cfg(test)]
 mod options;
-#[cfg(test)]
-mod put_off_queries;
 #[cfg(test)]
 mod script;

@@ -4,7 +4,8 @@ use Rattle.collection.specs.Engines.{EngineContent}
 use Rattle.script_lang.specs.Lines.{lines}
 use Rattle.script_answers.specs.States.{greatest_limits}
 use Rattle.script_answers.specs.Answers.{output_by}
-use Rattle.script_answers.specs.Stopped.{GetsPart}
+use Rattle.script_answers.specs.Stopped.{GetsPart, out_of_memory}
+use Rattle.query_run.specs.Statuses.{ending_of}
 use Rattle.query_run.specs.Runs.{HasStopped, TakesWithin, within}
 use Rattle.query_run.proofs.Told.{by_words, none_stopped, some_stopped}
 use Rattle.query_run.proofs.StreamLemmas.{takes_none}
@@ -25,7 +26,7 @@ returns-clause-part_within g c = λ long.
     first c.greatest-limits.ensures (c.serve-status.ensures.part_within long)
 
 pub returns-in-Err-NoMemory-clause-stopped : goal.returns-in-Err-NoMemory-clause-stopped
-returns-in-Err-NoMemory-clause-stopped g c = none_stopped greatest_limits (Some c.args.first) (g.F.Files.unkept c.args.files.now ≡ g.F.Files.unkept c.args.files.now) (g.S.Source.left c.args.source.now) (g.F.Files.held c.args.files.now) (g.K.Sink.written c.args.sink.now)
+returns-in-Err-NoMemory-clause-stopped g c = none_stopped greatest_limits (Some c.args.first) out_of_memory (λ failed. failed) (g.F.Files.unkept c.args.files.now ≡ g.F.Files.unkept c.args.files.now) (g.S.Source.left c.args.source.now) (g.F.Files.held c.args.files.now) (g.K.Sink.written c.args.sink.now)
 
 pub returns-clause-stopped : goal.returns-clause-stopped
 returns-clause-stopped g c =
@@ -37,8 +38,8 @@ returns-clause-stopped g c =
     let old = g.K.Sink.written c.args.sink.now in
     let new = g.K.Sink.written c.serve-status.new.sink in
     by_words (Some c.args.first) c.greatest-limits.result greatest_limits c.in-Ok.opened.engine.version.first left held
-    (λ limits start script. HasStopped limits start (lines limits.line script) kept held' old new) first c.greatest-limits.ensures
-    (some_stopped c.greatest-limits.result c.in-Ok.opened.engine.version.first kept left held held' old new c.serve-status.new.opened.lines c.serve-status.new.opened.engine.version c.serve-status.ensures.stopped)
+    (λ limits start script. HasStopped limits start (lines limits.line script) (ending_of c.serve-status.result) kept held' old new) first c.greatest-limits.ensures
+    (some_stopped c.greatest-limits.result c.in-Ok.opened.engine.version.first (ending_of c.serve-status.result) kept left held held' old new c.serve-status.new.opened.lines c.serve-status.new.opened.engine.version c.serve-status.ensures.stopped)
 
 pub returns-in-Err-NoMemory-clause-took : goal.returns-in-Err-NoMemory-clause-took
 returns-in-Err-NoMemory-clause-took g c = takes_none most_script (g.S.Source.left c.args.source.now)

@@ -4,30 +4,30 @@ use Rattle.query_run.proofs.stream.serve.Goals as goal
 
 pub returns-in-Err-Read-clause-part : goal.returns-in-Err-Read-clause-part
 returns-in-Err-Read-clause-part g c =
-    told_part c.args.limits.now c.args.opened.now.engine.version.first (g.F.Files.unkept c.serve_pieces.new.files ≡ g.F.Files.unkept c.args.files.now)
-    (g.S.Source.left c.args.source.now) (g.F.Files.held c.args.files.now) (g.F.Files.held c.serve_pieces.new.files)
-    (g.K.Sink.written c.args.sink.now) (g.K.Sink.written c.serve_pieces.new.sink) c.serve_pieces.new.opened.lines c.serve_pieces.new.opened.engine c.serve_pieces.ensures.stopped
+    told_part c.args.limits.now c.args.opened.now.engine.version.first _ (g.F.Files.unkept c.serve_all.new.files ≡ g.F.Files.unkept c.args.files.now)
+    (g.S.Source.left c.args.source.now) (g.F.Files.held c.args.files.now) (g.F.Files.held c.serve_all.new.files)
+    (g.K.Sink.written c.args.sink.now) (g.K.Sink.written c.serve_all.new.sink) c.serve_all.new.opened.lines c.serve_all.new.opened.engine c.serve_all.ensures.stopped
 
 pub returns-in-Err-TooLong-clause-part : goal.returns-in-Err-TooLong-clause-part
 returns-in-Err-TooLong-clause-part g c =
-    told_part c.args.limits.now c.args.opened.now.engine.version.first (g.F.Files.unkept c.serve_pieces.new.files ≡ g.F.Files.unkept c.args.files.now)
-    (g.S.Source.left c.args.source.now) (g.F.Files.held c.args.files.now) (g.F.Files.held c.serve_pieces.new.files)
-    (g.K.Sink.written c.args.sink.now) (g.K.Sink.written c.serve_pieces.new.sink) c.serve_pieces.new.opened.lines c.serve_pieces.new.opened.engine c.serve_pieces.ensures.stopped
+    told_part c.args.limits.now c.args.opened.now.engine.version.first _ (g.F.Files.unkept c.serve_all.new.files ≡ g.F.Files.unkept c.args.files.now)
+    (g.S.Source.left c.args.source.now) (g.F.Files.held c.args.files.now) (g.F.Files.held c.serve_all.new.files)
+    (g.K.Sink.written c.args.sink.now) (g.K.Sink.written c.serve_all.new.sink) c.serve_all.new.opened.lines c.serve_all.new.opened.engine c.serve_all.ensures.stopped
 
 pub returns-in-Err-Write-clause-part : goal.returns-in-Err-Write-clause-part
 returns-in-Err-Write-clause-part g c =
-    told_part c.args.limits.now c.args.opened.now.engine.version.first (g.F.Files.unkept c.serve_pieces.new.files ≡ g.F.Files.unkept c.args.files.now)
-    (g.S.Source.left c.args.source.now) (g.F.Files.held c.args.files.now) (g.F.Files.held c.serve_pieces.new.files)
-    (g.K.Sink.written c.args.sink.now) (g.K.Sink.written c.serve_pieces.new.sink) c.serve_pieces.new.opened.lines c.serve_pieces.new.opened.engine c.serve_pieces.ensures.stopped
+    told_part c.args.limits.now c.args.opened.now.engine.version.first _ (g.F.Files.unkept c.serve_all.new.files ≡ g.F.Files.unkept c.args.files.now)
+    (g.S.Source.left c.args.source.now) (g.F.Files.held c.args.files.now) (g.F.Files.held c.serve_all.new.files)
+    (g.K.Sink.written c.args.sink.now) (g.K.Sink.written c.serve_all.new.sink) c.serve_all.new.opened.lines c.serve_all.new.opened.engine c.serve_all.ensures.stopped
 
 pub returns-in-Err-Files-clause-part : goal.returns-in-Err-Files-clause-part
 returns-in-Err-Files-clause-part g c =
-    told_part c.args.limits.now c.args.opened.now.engine.version.first (g.F.Files.unkept c.serve_pieces.new.files ≡ g.F.Files.unkept c.args.files.now)
-    (g.S.Source.left c.args.source.now) (g.F.Files.held c.args.files.now) (g.F.Files.held c.serve_pieces.new.files)
-    (g.K.Sink.written c.args.sink.now) (g.K.Sink.written c.serve_pieces.new.sink) c.serve_pieces.new.opened.lines c.serve_pieces.new.opened.engine c.serve_pieces.ensures.stopped
+    told_part c.args.limits.now c.args.opened.now.engine.version.first _ (g.F.Files.unkept c.serve_all.new.files ≡ g.F.Files.unkept c.args.files.now)
+    (g.S.Source.left c.args.source.now) (g.F.Files.held c.args.files.now) (g.F.Files.held c.serve_all.new.files)
+    (g.K.Sink.written c.args.sink.now) (g.K.Sink.written c.serve_all.new.sink) c.serve_all.new.opened.lines c.serve_all.new.opened.engine c.serve_all.ensures.stopped
 
-pub returns-in-Err-NoMemory-clause-part : goal.returns-in-Err-NoMemory-clause-part
-returns-in-Err-NoMemory-clause-part g c =
-    told_part c.args.limits.now c.args.opened.now.engine.version.first (g.F.Files.unkept c.serve_pieces.new.files ≡ g.F.Files.unkept c.args.files.now)
-    (g.S.Source.left c.args.source.now) (g.F.Files.held c.args.files.now) (g.F.Files.held c.serve_pieces.new.files)
-    (g.K.Sink.written c.args.sink.now) (g.K.Sink.written c.serve_pieces.new.sink) c.serve_pieces.new.opened.lines c.serve_pieces.new.opened.engine c.serve_pieces.ensures.stopped
+pub returns-clause-part : goal.returns-clause-part
+returns-clause-part g c =
+    told_part c.args.limits.now c.args.opened.now.engine.version.first _ (g.F.Files.unkept c.serve_all.new.files ≡ g.F.Files.unkept c.args.files.now)
+    (g.S.Source.left c.args.source.now) (g.F.Files.held c.args.files.now) (g.F.Files.held c.serve_all.new.files)
+    (g.K.Sink.written c.args.sink.now) (g.K.Sink.written c.serve_all.new.sink) c.serve_all.new.opened.lines c.serve_all.new.opened.engine c.serve_all.ensures.stopped

@@ -3,6 +3,7 @@ use Rattle.gcl_model.specs.Limits.{most_line, most_script}
 use Rattle.script_lang.specs.Lines.{lines}
 use Rattle.command_words.specs.Grammar.{options_of}
 use Rattle.script_answers.specs.States.{greatest_limits}
+use Rattle.script_answers.specs.Stopped.{out_of_memory}
 use Rattle.outside.specs.Causes.{Rose}
 use Rattle.query_run.specs.declared.status.Status.TheVariants.{NoMemory}
 use Rattle.query_run.specs.Words.{first_of}
@@ -15,7 +16,7 @@ pub returns-in-Err-clause-part : goal.returns-in-Err-clause-part
 returns-in-Err-clause-part g c = nothing_of greatest_limits (first_of c.args.words.now) (g.S.Source.left c.args.source.now) (g.F.Files.held c.args.files.now) (g.K.Sink.written c.args.sink.now) output
 
 pub returns-in-Err-clause-stopped : goal.returns-in-Err-clause-stopped
-returns-in-Err-clause-stopped g c = none_stopped greatest_limits (first_of c.args.words.now) (g.F.Files.unkept c.args.files.now ≡ g.F.Files.unkept c.args.files.now) (g.S.Source.left c.args.source.now) (g.F.Files.held c.args.files.now) (g.K.Sink.written c.args.sink.now)
+returns-in-Err-clause-stopped g c = none_stopped greatest_limits (first_of c.args.words.now) out_of_memory (λ failed. failed) (g.F.Files.unkept c.args.files.now ≡ g.F.Files.unkept c.args.files.now) (g.S.Source.left c.args.source.now) (g.F.Files.held c.args.files.now) (g.K.Sink.written c.args.sink.now)
 
 pub returns-in-Err-clause-part_summed : goal.returns-in-Err-clause-part_summed
 returns-in-Err-clause-part_summed g c = nothing_of_made (options_of c.args.words.now) (g.K.Sink.written c.args.sink.now)

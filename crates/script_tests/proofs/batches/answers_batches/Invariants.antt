@@ -1,5 +1,5 @@
 use Rattle.query_lanes.specs.Readers.{AreOf}
 use Rattle.script_tests.proofs.batches.answers_batches.Given as goal
 
-abbrev pub invariant-loop-wanted : goal.invariant-loop-wanted
-invariant-loop-wanted g l = AreOf l.engine.publisher l.readers
+abbrev pub invariant-loop-pending : goal.invariant-loop-pending
+invariant-loop-pending g l = AreOf l.engine.publisher l.readers

@@ -1,0 +1,138 @@
+-- A line that asks no query, and a stop within it.
+use Rattle.std.proofs.Common.{◌≡◌, ℕ, ◌+◌, ◌||◌, inl, Bool, true, false, inr, List, [], ◌∷◌, ◌++◌, refl, sym, ap, ◌∙◌, Option, Some, None, IsSome, append-nil, subst, arith}
+use Rattle.std.specs.Prelude.{if◌then◌else◌}
+use Rattle.std.specs.List.{list_any}
+use Rattle.std.specs.Io.KnownBytes.{Appends}
+use Rattle.std.proofs.KnownBytes.{Appends-nil}
+use Rattle.std.proofs.lemmas.Bool.{cases_Bool}
+use Rattle.gcl_model.specs.Collections.{Collection}
+use Rattle.outside.specs.Contents.{Contents}
+use Rattle.live_version.specs.StandsFor.{StandsFor}
+use Rattle.script_lang.specs.Answers.{is_refusal}
+use Rattle.script_lang.specs.Lines.{Line, text_of_lines}
+use Rattle.script_answers.specs.States.{State}
+use Rattle.script_answers.specs.Answers.{Reply, after_reply, answer, answers, names_kept_of_line, names_of_line, state_after, unchanged, with_later}
+use Rattle.script_answers.specs.Stopped.{Ending, GetsPart, HoldsBut, IsAllWritten, IsOfFiles}
+use Rattle.script_answers.specs.inner.Service.{Halts, Halted, IsAt, IsAtStand, Served, Serves, Stand, Unmade}
+use Rattle.script_answers.specs.inner.Tasks.{Gives, IsActionOf, IsNothing, IsReadByAction, action_kept, action_names, action_reply, answer_lines, completes, is_change}
+use Rattle.script_answers.specs.declared.action.Action.{Action}
+use Rattle.script_answers.specs.declared.answer.Answer.{Answer}
+use Rattle.script_answers.specs.declared.limits.Limits.{Limits}
+use Rattle.script_answers.proofs.Service.{or_false}
+use Rattle.script_answers.proofs.Stops.{stopped_after}
+
+-- what follows the lines of a reply, where nothing does
+alone : (o : Option Reply) (reply : Reply) → o ≡ Some reply → with_later o [] ≡ reply.lines
+alone None reply is = absurd (cc is)
+alone (Some other) reply is = let same : other ≡ reply = cc is in append-nil other.lines ∙ ap (λ (r : Reply). r.lines) same
+
+after : (state : State) (o : Option Reply) (reply : Reply) → o ≡ Some reply → after_reply state o ≡ reply.after
+after state None reply is = absurd (cc is)
+after state (Some other) reply is = let same : other ≡ reply = cc is in ap (λ (r : Reply). r.after) same
+
+some : (o : Option Reply) (reply : Reply) → o ≡ Some reply → IsSome o
+some None reply is = absurd (cc is)
+some (Some other) reply is = refl
+
+module _ (limits : Limits) where
+  -- a line was answered and its answer written
+  served_line : (state : State) (line : Line) (reply : Reply) (before now : Stand) (old new : Option (List ℕ)) → answer limits state line ≡ Some reply → IsAtStand now reply.after →
+      now.refused ≡ (before.refused || list_any is_refusal reply.lines) → Appends old new (text_of_lines reply.lines) → Served limits state (line ∷ []) before now old new
+  served_line state line reply before now old new is at refused written =
+      let o = answer limits state line in
+      let lines : answers limits state (line ∷ []) ≡ reply.lines = alone o reply is in
+      record {
+        answered = (some o reply is, tt);
+        at = subst (IsAtStand now) (sym (after state o reply is)) at;
+        refused_is = refused ∙ ap (λ (l : List (List ℕ)). before.refused || list_any is_refusal l) (sym lines);
+        written = subst (λ (l : List (List ℕ)). Appends old new (text_of_lines l)) (sym lines) written;
+      }
+
+  -- an empty line
+  pub serves_nothing : (line : Line) (before now : Stand) (old : Option (List ℕ)) → IsNothing line → now.completed ≡ before.completed + 1 → now.held ≡ before.held → now.engine ≡ before.engine → now.pending ≡ before.pending →
+      now.refused ≡ before.refused → Serves limits (line ∷ []) before now old old
+  serves_nothing line before now old nothing count held engine pending refused = record {
+    completed = count;
+    served = λ state at read.
+        let here : IsAtStand now state = subst (λ (h : Option Contents). IsAt h now.engine now.pending state) (sym held)
+        (subst (λ (e : _). IsAt before.held e now.pending state) (sym engine) (subst (λ (p : Bool). IsAt before.held before.engine p state) (sym pending) at)) in
+        served_line state line (unchanged state []) before now old old (nothing.reply_is limits state) here (refused ∙ or_false before.refused) (Appends-nil old);
+  }
+
+  -- what a line asks for was done, and its answer written
+  pub serves_action : (action : Action) (line : Line) (given : Answer) (before now : Stand) (old new : Option (List ℕ)) → IsActionOf action line → now.completed ≡ before.completed + 1 →
+      ((state : State) → IsAtStand before state → IsReadByAction state action → Gives (action_reply limits state action) state now.engine now.pending now.held given) →
+      now.refused ≡ (before.refused || list_any is_refusal (answer_lines now.engine.version given)) → Appends old new (text_of_lines (answer_lines now.engine.version given)) → Serves limits (line ∷ []) before now old new
+  serves_action action line given before now old new is count gives refused written = record {
+    completed = count;
+    served = λ state at read.
+        let g = gives state at (is.reads state read.0) in
+        served_line state line g.reply before now old new (is.reply_is limits state ∙ g.is) (record { files = g.files; keeps = g.follows.keeps })
+        (refused ∙ ap (λ (l : List (List ℕ)). before.refused || list_any is_refusal l) (sym g.follows.lines))
+        (subst (λ (l : List (List ℕ)). Appends old new (text_of_lines l)) (sym g.follows.lines) written);
+  }
+
+  -- it ended before the change
+  pub halts_unmade : (action : Action) (line : Line) (how : Ending) (kept : Type 0) (before now : Stand) (old : Option (List ℕ)) → IsActionOf action line → now.completed ≡ before.completed →
+      ((state : State) → IsAtStand before state → IsReadByAction state action → Unmade (action_kept action) kept state now.engine now.held) → (IsOfFiles how → action_names action ≡ [] → ⊥) → Halts limits (line ∷ []) how kept before now old old
+  halts_unmade action line how kept before now old is count unmade named = λ state at read.
+      let u = unmade state at (is.reads state read.0) in
+      record {
+        taken = 0;
+        completed = let same = count in omega (arith, same);
+        stopped = record {
+          within = omega arith;
+          stands = u.stands;
+          part = record { part = []; rest = _; whole = refl; written = Appends-nil old };
+          all = λ due. Appends-nil old;
+          files = subst (λ (l : List (List ℕ)). HoldsBut l state.files now.held) (sym (append-nil (names_kept_of_line line) ∙ is.kept_are)) u.files;
+          exact = u.exact;
+          named = λ failed none. named failed (sym is.names_are ∙ sym (append-nil (names_of_line line)) ∙ none);
+        };
+      }
+
+  -- it ended once the line was completed, and of its answer a part is written
+  pub halts_made : (action : Action) (line : Line) (given : Answer) (how : Ending) (kept : Type 0) (before now : Stand) (old new : Option (List ℕ)) → IsActionOf action line → now.completed ≡ before.completed + 1 →
+      ((state : State) → IsAtStand before state → IsReadByAction state action → Gives (action_reply limits state action) state now.engine now.pending now.held given) → (IsAllWritten how → ⊥) → (IsOfFiles how → ⊥) →
+      GetsPart old new (text_of_lines (answer_lines now.engine.version given)) → Halts limits (line ∷ []) how kept before now old new
+  halts_made action line given how kept before now old new is count gives lost ours part = λ state at read.
+      let g = gives state at (is.reads state read.0) in
+      let o = answer limits state line in
+      let told : o ≡ Some g.reply = is.reply_is limits state ∙ g.is in
+      let lines : answers limits state (line ∷ []) ≡ g.reply.lines = alone o g.reply told in
+      let left : state_after limits state (line ∷ []) ≡ g.reply.after = after state o g.reply told in
+      let files : now.held ≡ Some (state_after limits state (line ∷ [])).files = g.files ∙ ap (λ (s : State). Some s.files) (sym left) in
+      record {
+        taken = 1;
+        completed = count;
+        stopped = record {
+          within = omega arith;
+          stands = subst (λ (s : State). StandsFor now.engine.version s.collection) (sym left) g.follows.keeps.stands;
+          part = subst (λ (l : List (List ℕ)). GetsPart old new (text_of_lines l)) (sym (lines ∙ g.follows.lines)) part;
+          all = λ due. absurd (lost due);
+          files = record { contents = (state_after limits state (line ∷ [])).files; is = files; same = λ name. inl refl };
+          exact = λ all_kept. files;
+          named = λ failed. absurd (ours failed);
+        };
+      }
+
+  -- it ended while the answer was made: the line is completed where a change was
+  pub halts_unsaid : (action : Action) (line : Line) (given : Answer) (how : Ending) (kept : Type 0) (before now : Stand) (old : Option (List ℕ)) → IsActionOf action line → now.completed ≡ before.completed + completes given →
+      ((state : State) → IsAtStand before state → IsReadByAction state action → Gives (action_reply limits state action) state now.engine now.pending now.held given) → (IsAllWritten how → ⊥) → (IsOfFiles how → ⊥) →
+      Halts limits (line ∷ []) how kept before now old old
+  halts_unsaid action line given how kept before now old is count gives lost ours = elim (cases_Bool (is_change given)) [
+    | inl changed ↦ halts_made action line given how kept before now old old is (count ∙ ap (λ (b : Bool). before.completed + (if b then 1 else 0)) changed) gives lost ours
+        (record { part = []; rest = _; whole = refl; written = Appends-nil old })
+    | inr still ↦ halts_unmade action line how kept before now old is (let same = count ∙ ap (λ (b : Bool). before.completed + (if b then 1 else 0)) still in omega (arith, same))
+        (λ state at read. stays still state at (gives state at read)) (λ failed none. ours failed)
+  ]
+    where
+      stays : is_change given ≡ false → (state : State) → IsAtStand before state → Gives (action_reply limits state action) state now.engine now.pending now.held given → Unmade (action_kept action) kept state now.engine now.held
+      stays still state at g =
+          let same = g.follows.still still in
+          let files : now.held ≡ Some state.files = g.files ∙ ap (λ (f : Contents). Some f) same.1 in
+          record {
+            stands = subst (λ (c : Collection). StandsFor now.engine.version c) same.0 g.follows.keeps.stands;
+            files = record { contents = state.files; is = files; same = λ name. inl refl };
+            exact = λ all_kept. files;
+          }

@@ -1,0 +1,132 @@
+-- What a line asks for, once it is read, and what its answer says.
+use Rattle.std.specs.Prelude.{◌≡◌, ℕ, Bool, true, false, List, [], ◌∷◌, length, map, Option, Some, None, IfSome, ⊤, if◌then◌else◌}
+use Rattle.std.specs.Option.{option_map}
+use Rattle.gcl_model.specs.Collections.{text_of}
+use Rattle.gcl_model.specs.Names.{is_name}
+use Rattle.live_version.specs.Contents.{VersionContent, files_of}
+use Rattle.collection.specs.Engines.{EngineContent}
+use Rattle.outside.specs.Contents.{Contents}
+use Rattle.script_lang.specs.Lines.{Line}
+use Rattle.script_lang.specs.Answers.{file_line, gone_line, merging_line, opened_line, saved_line, shards_line}
+use Rattle.script_answers.specs.Answers.{Reply, add_reply, answer, asks_query, del_reply, files_lines, listing_lines, names_kept_of_line, names_of_line, open_reply, refusal_lines, save_reply, state_merged, unchanged, IsRead}
+use Rattle.script_answers.specs.Images.{IsReading}
+use Rattle.script_answers.specs.States.{State, Keeps}
+use Rattle.script_answers.specs.inner.Asks.{AsksLine}
+use Rattle.script_answers.specs.declared.action.Action.{Action}
+use Rattle.script_answers.specs.declared.action.Action.TheVariants.{Add, Delete, ListFiles, Merge, CountSlots, Save, Open, Refuse}
+use Rattle.script_answers.specs.declared.answer.Answer.{Answer}
+use Rattle.script_answers.specs.declared.answer.Answer.TheVariants.{Added, Gone, Files, Merging, Slots, Saved, Opened, Refused}
+use Rattle.script_answers.specs.declared.task.Task.{Task}
+use Rattle.script_answers.specs.declared.task.Task.TheVariants.{Nothing, Ask, Act}
+use Rattle.script_answers.specs.declared.limits.Limits.{Limits}
+
+-- the reply to a line that asks for this
+abbrev pub action_reply : Limits → State → Action → Option Reply
+action_reply limits state (Add name) = option_map (add_reply limits state name) (state.files name)
+action_reply limits state (Delete id) = Some (del_reply state id)
+action_reply limits state ListFiles = Some (unchanged state (files_lines state.collection))
+action_reply limits state Merge = Some record { lines = merging_line ∷ []; after = state_merged state }
+action_reply limits state CountSlots = Some (unchanged state (shards_line (length state.slots) ∷ []))
+action_reply limits state (Save name) = Some (save_reply limits state name)
+action_reply limits state (Open name) = open_reply limits state name
+action_reply limits state (Refuse refusal) = Some (unchanged state (refusal_lines refusal))
+
+-- whether a merge is pending after it
+abbrev pub merges : Action → Bool
+merges Merge = true
+merges _ = false
+
+-- the names that it asks the files for
+abbrev pub action_names : Action → List (List ℕ)
+action_names (Add name) = name ∷ []
+action_names (Save name) = name ∷ []
+action_names (Open name) = name ∷ []
+action_names _ = []
+
+-- the names that it gives another content
+abbrev pub action_kept : Action → List (List ℕ)
+action_kept (Save name) = name ∷ []
+action_kept _ = []
+
+-- its name is one
+abbrev pub IsNamedAction : Action → Type 0
+IsNamedAction (Add name) = is_name name ≡ true
+IsNamedAction (Save name) = is_name name ≡ true
+IsNamedAction (Open name) = is_name name ≡ true
+IsNamedAction _ = ⊤
+
+-- what it opens is read rightly
+abbrev pub IsReadByAction : State → Action → Type 0
+IsReadByAction state (Open name) = IfSome (state.files name) (λ content. IsReading content (state.images content))
+IsReadByAction state _ = ⊤
+
+-- a line asks for this, and for no query
+pub record IsActionOf (action : Action) (line : Line) : Type 0 where
+  pub reply_is : (limits : Limits) (state : State) → answer limits state line ≡ action_reply limits state action
+  pub names_are : names_of_line line ≡ action_names action
+  pub kept_are : names_kept_of_line line ≡ action_kept action
+  pub reads : (state : State) → IsRead state line → IsReadByAction state action
+  pub unasked : asks_query line ≡ false
+
+-- an empty line asks for nothing
+pub record IsNothing (line : Line) : Type 0 where
+  pub reply_is : (limits : Limits) (state : State) → answer limits state line ≡ Some (unchanged state [])
+  pub names_are : names_of_line line ≡ []
+  pub kept_are : names_kept_of_line line ≡ []
+
+-- what a line asks for
+abbrev pub IsTaskOf : Task → Line → Type 0
+IsTaskOf Nothing line = IsNothing line
+IsTaskOf (Ask ask) line = AsksLine ask line
+IsTaskOf (Act action) line = IsActionOf action line
+
+-- the name of an action is one
+abbrev pub IsNamedTask : Task → Type 0
+IsNamedTask (Act action) = IsNamedAction action
+IsNamedTask _ = ⊤
+
+-- the names that a task asks the files for
+abbrev pub task_names : Task → List (List ℕ)
+task_names (Act action) = action_names action
+task_names _ = []
+
+-- the names that it gives another content
+abbrev pub task_kept : Task → List (List ℕ)
+task_kept (Act action) = action_kept action
+task_kept _ = []
+
+-- the lines of an answer; those of a list of files are of the files of this version
+abbrev pub answer_lines : VersionContent → Answer → List (List ℕ)
+answer_lines version (Added id first last) = file_line id first last ∷ []
+answer_lines version (Gone id) = gone_line id ∷ []
+answer_lines version Files = listing_lines (files_of version.slots)
+answer_lines version Merging = merging_line ∷ []
+answer_lines version (Slots count) = shards_line count ∷ []
+answer_lines version (Saved bytes) = saved_line bytes ∷ []
+answer_lines version (Opened files) = opened_line files ∷ []
+answer_lines version (Refused refusal) = refusal_lines refusal
+
+-- it says that the collection or a file was changed: such a line is completed once that is done
+abbrev pub is_change : Answer → Bool
+is_change (Added id first last) = true
+is_change (Gone id) = true
+is_change (Saved bytes) = true
+is_change (Opened files) = true
+is_change _ = false
+
+-- how many lines are completed by the change that it says
+abbrev pub completes : Answer → ℕ
+completes given = if is_change given then 1 else 0
+
+-- the engine keeps the state that a reply leaves, and the answer has its lines; where it says of no change, there is none
+pub record Follows (reply : Reply) (state : State) (engine : EngineContent) (pending : Bool) (answer : Answer) : Type 0 where
+  pub keeps : Keeps engine pending reply.after
+  pub lines : reply.lines ≡ answer_lines engine.version answer
+  pub still : is_change answer ≡ false → (reply.after.collection ≡ state.collection) × (reply.after.files ≡ state.files)
+
+-- the same of a reply that there may be, and the files hold what it leaves
+pub record Gives (told : Option Reply) (state : State) (engine : EngineContent) (pending : Bool) (held : Option Contents) (answer : Answer) : Type 0 where
+  pub reply : Reply
+  pub is : told ≡ Some reply
+  pub follows : Follows reply state engine pending answer
+  pub files : held ≡ Some reply.after.files

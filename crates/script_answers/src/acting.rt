@@ -1,0 +1,53 @@
+ghost use Rattle.std.specs.Prelude.{◌≡◌, ◌<◌, [], true, false, IfOk, IsErrOf, OnOk, OnErr};
+ghost use Rattle.gcl_model.specs.Limits.{merge_end};
+ghost use Rattle.image_file.specs.Images.{CanBeSaved};
+ghost use Rattle.outside.specs.Causes.{CountsFileFault, HasFileCause};
+ghost use Rattle.script_answers.specs.States.{State};
+ghost use Rattle.script_answers.specs.inner.Service.{IsAt, StepsOn, Unmade};
+ghost use Rattle.script_answers.specs.inner.Tasks.{Gives, IsNamedAction, IsReadByAction, action_kept, action_names, action_reply, merges};
+
+use crate::action::Action;
+use crate::answer::Answer;
+use crate::changes::{add, delete};
+use crate::saving::{open, save};
+use crate::setting::Setting;
+use collection::Engine;
+use outside::{FileError, Files, Gate};
+use std::sync::Wait;
+
+/// Does what a line asks for, once no merge is pending, and says what it is answered. At `Err` the change is not made.
+pub(crate) fn act<R: Wait, F: Files, G: Gate>(
+    setting: &Setting<'_, R, G>,
+    files: &mut F,
+    engine: &mut Engine,
+    action: &Action,
+) -> Result<Answer, FileError>
+    requires named { IsNamedAction action.now }
+    requires savable { CanBeSaved engine.old.version }
+    requires number { engine.old.version.number < merge_end }
+    ensures gives { IfOk result (λ answer. (state : State) → IsAt (F.held files.old) engine.old false state → IsReadByAction state action.now →
+        Gives (action_reply setting.now.limits state action.now) state engine.new (merges action.now) (F.held files.new) answer) }
+    ensures unmade { OnErr result ((state : State) → IsAt (F.held files.old) engine.old false state →
+        Unmade (action_kept action.now) (F.unkept files.new ≡ F.unkept files.old) state engine.new (F.held files.new)) }
+    ensures named { IsErrOf result FileError.Failed → ¬ (action_names action.now ≡ []) }
+    ensures steps { OnOk result (StepsOn engine.old engine.new (merges action.now)) }
+    ensures quiet { action_names action.now ≡ [] → files.new ≡ files.old }
+    ensures unsaved { action_kept action.now ≡ [] → F.held files.new ≡ F.held files.old }
+    ensures cause { HasFileCause (F.faults files.old) (F.faults files.new) result }
+    ensures counts { CountsFileFault (F.faults files.old) (F.faults files.new) result }
+    ensures unkept { OnOk result (F.unkept files.new ≡ F.unkept files.old) }
+{
+    match action {
+        Action::Add(name) => add(setting, files, engine, name.as_slice()),
+        Action::Delete(id) => {
+            let answer = delete(setting.context.rt, engine, *id)?;
+            Ok(answer)
+        }
+        Action::ListFiles => Ok(Answer::Files),
+        Action::Merge => Ok(Answer::Merging),
+        Action::CountSlots => Ok(Answer::Slots(engine.version().slot_count() as u64)),
+        Action::Save(name) => save(setting, files, engine, name.as_slice()),
+        Action::Open(name) => open(setting, files, engine, name.as_slice()),
+        Action::Refuse(refusal) => Ok(Answer::Refused(*refusal)),
+    }
+}

@@ -1,0 +1,107 @@
+ghost use Rattle.std.specs.Prelude.{◌≡◌, false, true, IfOk};
+ghost use Rattle.script_lang.specs.Commands.{IsNamed, command_of};
+ghost use Rattle.script_lang.specs.Lines.{Line};
+ghost use Rattle.gcl_model.specs.FormOf.{form_of};
+ghost use Rattle.gcl_model.specs.Texts.{Text};
+ghost use Rattle.gcl_model.specs.WellFormed.{IsWellFormed};
+ghost use Rattle.query_lanes.specs.declared.asks.Asked.{Asked};
+ghost use Rattle.script_answers.specs.Answers.{query_lines};
+ghost use Rattle.script_answers.specs.inner.Asks.{IsAskOf, expr_lines};
+ghost use Rattle.script_answers.specs.inner.Tasks.{IsNamedTask, IsTaskOf};
+
+use crate::action::Action;
+use gcl_model::{Bytes, Expr};
+use gcl_parser::{ParseFault, QueryFault, parse};
+use query_lanes::{Ask, Asked};
+use script_lang::{Command, Refusal, command};
+use std::alloc::{AllocError, Global};
+use std::sync::Arc;
+
+/// What a line asks for.
+#[derive(Drop)]
+pub(crate) enum Task {
+    /// Nothing: the line is empty.
+    Nothing,
+    /// A query, which its batch answers.
+    Ask(Ask),
+    /// Anything else.
+    Act(Action),
+}
+
+fn shared(alloc: Global, expr: Expr) -> Result<Arc<Expr>, AllocError>
+    ensures { IfOk result (λ shared. shared.value ≡ expr) }
+{
+    match Arc::new(alloc, expr) {
+        Ok(shared) => Ok(shared),
+        Err(_) => Err(AllocError),
+    }
+}
+
+/// The expression of a query, or why it has none.
+fn expr_of(alloc: Global, query: &[u8]) -> Result<Result<Arc<Expr>, QueryFault>, AllocError>
+    ensures well_formed { IfOk result (λ read. IfOk read (λ expr. IsWellFormed (form_of expr.value))) }
+    ensures lines { IfOk result (λ read. (asked : Asked) (text : Text) → expr_lines asked text read ≡ query_lines asked text query.now) }
+{
+    match parse(alloc, query) {
+        Ok(expr) => {
+            let expr = shared(alloc, expr)?;
+            Ok(Ok(expr))
+        }
+        Err(ParseFault::Query(fault)) => Ok(Err(fault)),
+        Err(ParseFault::NoMemory) => Err(AllocError),
+    }
+}
+
+/// The query that these bytes are, as one of a batch; one that is refused keeps its fault. `number` says which query of the run it is.
+fn ask_of(alloc: Global, number: u64, asked: Asked, query: &Bytes) -> Result<Ask, AllocError>
+    ensures { IfOk result (IsAskOf asked query.now) }
+{
+    let query = expr_of(alloc, query.as_slice())?;
+    Ok(Ask {
+        number,
+        asked,
+        query,
+    })
+}
+
+/// What a line with this command asks for.
+fn task_of(alloc: Global, command: Command, number: u64) -> Result<Task, AllocError>
+    requires named { IsNamed command }
+    ensures task { IfOk result (λ task. (line : Line) → line.long ≡ false → command_of line.bytes ≡ command → IsTaskOf task line) }
+    ensures named { IfOk result IsNamedTask }
+{
+    match command {
+        Command::Blank => Ok(Task::Nothing),
+        Command::Find(query) => Ok(Task::Ask(ask_of(alloc, number, Asked::All, &query)?)),
+        Command::Count(query) => Ok(Task::Ask(ask_of(alloc, number, Asked::Number, &query)?)),
+        Command::Top(most, query) => {
+            Ok(Task::Ask(ask_of(alloc, number, Asked::First(most), &query)?))
+        }
+        Command::Add(name) => Ok(Task::Act(Action::Add(name))),
+        Command::Del(id) => Ok(Task::Act(Action::Delete(id))),
+        Command::Files => Ok(Task::Act(Action::ListFiles)),
+        Command::Merge => Ok(Task::Act(Action::Merge)),
+        Command::Shards => Ok(Task::Act(Action::CountSlots)),
+        Command::Save(name) => Ok(Task::Act(Action::Save(name))),
+        Command::Load(name) => Ok(Task::Act(Action::Open(name))),
+        Command::Wrong => Ok(Task::Act(Action::Refuse(Refusal::Command))),
+    }
+}
+
+/// What a line asks for. Of a long one only that is read. `number` says which query of the run it is, if it asks one.
+pub(crate) fn read_task(
+    alloc: Global,
+    long: bool,
+    bytes: &[u8],
+    number: u64,
+) -> Result<Task, AllocError>
+    ensures task { IfOk result (λ task. IsTaskOf task record { long = long; bytes = bytes.now }) }
+    ensures named { IfOk result IsNamedTask }
+{
+    if long {
+        return Ok(Task::Act(Action::Refuse(Refusal::LongLine)));
+    }
+    let command = command(alloc, bytes)?;
+    let task = task_of(alloc, command, number)?;
+    Ok(task)
+}
