@@ -76,3 +76,17 @@ sure_status WriteFault n p is = tt
 sure_status FileFault n p is = absurd (is.0 p)
 sure_status NoMemory n p is = absurd (is.1 p)
 sure_status ScriptTooLong n p is = tt
+
+-- how a run with this status ended is told by its number
+ending_named : (s : Status) → E.ending_of (number_of s) ≡ S.ending_of s
+ending_named Done = refl
+ending_named DoneWithRefusals = refl
+ending_named Usage = refl
+ending_named ReadFault = refl
+ending_named WriteFault = refl
+ending_named FileFault = refl
+ending_named NoMemory = refl
+ending_named ScriptTooLong = refl
+
+pub ending_number : (s : Status) (n : ℕ) → n ≡ number_of s → E.ending_of n ≡ S.ending_of s
+ending_number s n p = ap E.ending_of p ∙ ending_named s

@@ -9,12 +9,13 @@ ghost use Rattle.script_answers.specs.States.{greatest_limits};
 ghost use Rattle.script_answers.specs.Answers.{names_of, names_kept_of, output};
 ghost use Rattle.query_run.specs.Runs.{WhereTold, WhereMadeBy, HasStopped, IsAnswered, IsSummed, HandsOverMore, TakesWithin, made_summary, within};
 ghost use Rattle.script_answers.specs.Stopped.{GetsPart};
-ghost use Rattle.gclq.specs.Exits.{IsEnd, IsAllAnswered, IsSureOfFiles};
+ghost use Rattle.gclq.specs.Exits.{IsEnd, IsAllAnswered, IsSureOfFiles, ending_of};
 
 use crate::fault_name::FaultName;
+use crate::reader_gone::ReaderGone;
 use crate::tell::{exit, tell};
 use gcl_model::Bytes;
-use outside::{FreeGate, Sink, Source};
+use outside::{FreeGate, Source};
 use query_run::run;
 use std::alloc::Global;
 use std::process::ExitCode;
@@ -22,7 +23,7 @@ use std::sync::Wait;
 use std::thread::Threads;
 
 /// Runs the script of the source, tells on standard error what was wrong, and gives the exit status.
-pub fn answer<R: Threads + Wait + Sync + Eprint, F: FaultName, S: Source, K: Sink>(
+pub fn answer<R: Threads + Wait + Sync + Eprint, F: FaultName, S: Source, K: ReaderGone>(
     rt: &R,
     alloc: Global,
     words: &[Bytes],
@@ -43,9 +44,10 @@ pub fn answer<R: Threads + Wait + Sync + Eprint, F: FaultName, S: Source, K: Sin
 
     // Whatever the status, some lines are completed, the sink gets the beginning of the output, and the files hold exactly what these lines
     // leave; but where a keep answered an error that is so of every name but the one that the next line saves. None did, unless the status
-    // names a fault of a file or want of memory.
+    // names a fault of a file or is out of memory. Where the status names a fault of the source or the files, or too long a script, all
+    // answers to these lines are written and nothing else; and at a fault of the files the next line is the one that names the file.
     ensures stopped { WhereTold greatest_limits (first_of words.now) (S.left source.old) (F.held files.old) (λ start script.
-        HasStopped greatest_limits start (lines most_line script) (F.unkept files.new ≡ F.unkept files.old)
+        HasStopped greatest_limits start (lines most_line script) (ending_of (exit_status result)) (F.unkept files.new ≡ F.unkept files.old)
         (F.held files.new) (K.written sink.old) (K.written sink.new)) }
     ensures sure { IsSureOfFiles (exit_status result) → F.unkept files.new ≡ F.unkept files.old }
     ensures part { WhereTold greatest_limits (first_of words.now) (S.left source.old) (F.held files.old) (λ start script.
@@ -92,6 +94,6 @@ pub fn answer<R: Threads + Wait + Sync + Eprint, F: FaultName, S: Source, K: Sin
     ensures untouched_by_made { IfSome (options_of words.now) (λ options. IsSome options.made → (source.new ≡ source.old) × (files.new ≡ files.old)) }
 {
     let status = run(rt, alloc, words, files, source, sink, &FreeGate);
-    tell(rt, status, words, files);
+    tell(rt, status, words, files, sink);
     exit(status)
 }

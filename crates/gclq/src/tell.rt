@@ -3,9 +3,11 @@ ghost use Rattle.std.specs.Process.{exit_status};
 ghost use Rattle.gclq.specs.Exits.{word_status};
 ghost use Rattle.query_run.specs.Statuses.{number_of};
 
+use crate::advice::{advice_on_keep, advice_on_load, advice_on_name};
 use crate::fault_name::FaultName;
+use crate::reader_gone::ReaderGone;
 use crate::words::WordFault;
-use command_words::wrong_word;
+use command_words::{options_of, wrong_word};
 use gcl_model::Bytes;
 use outside_std::FileCall;
 use query_run::{SCRIPT_MOST, Status};
@@ -20,17 +22,25 @@ const OUT_OF_MEMORY: &str =
     "gclq: out of memory: add fewer or smaller files, or save an image and open it in another run";
 
 /// One line on standard error for each status from 2 on: what was wrong, with which word or name, and what to see to.
-pub fn tell<R: Eprint, F: FaultName>(rt: &R, status: Status, words: &[Bytes], files: &F) {
+/// Where nobody reads the answers any more that is said by the status alone.
+pub fn tell<R: Eprint, F: FaultName, K: ReaderGone>(
+    rt: &R,
+    status: Status,
+    words: &[Bytes],
+    files: &F,
+    sink: &K,
+) {
     let _ = match status {
         Status::Done | Status::DoneWithRefusals => Ok(()),
         Status::Usage => tell_usage(rt, words),
         Status::ReadFault => eprintln!(rt;
             "gclq: cannot read the script from standard input: give it as a file or through a pipe"
         ),
+        Status::WriteFault if sink.reader_gone() => Ok(()),
         Status::WriteFault => eprintln!(rt;
             "gclq: cannot write the answers to standard output: see that its disk has room and its reader goes on"
         ),
-        Status::FileFault => tell_file(rt, files.fault_call(), files.fault_name()),
+        Status::FileFault => tell_file(rt, files),
         Status::NoMemory => eprintln!(rt; "{OUT_OF_MEMORY}"),
         Status::ScriptTooLong => eprintln!(rt;
             "gclq: the script has more than {SCRIPT_MOST} bytes: cut it, and save an image between its parts"
@@ -46,16 +56,30 @@ fn tell_usage<R: Eprint>(rt: &R, words: &[Bytes]) -> io::Result<()> {
     }
 }
 
-/// A name is text without control bytes.
-fn tell_file<R: Eprint>(rt: &R, call: Option<FileCall>, name: &[u8]) -> io::Result<()> {
-    match (call, str::from_utf8(name)) {
-        (Some(FileCall::Load), Ok(name)) if !name.is_empty() => eprintln!(rt;
-            "gclq: cannot read `{name}`: see that it is a file that is there and may be read"
-        ),
-        (Some(FileCall::Keep), Ok(name)) if !name.is_empty() => eprintln!(rt;
-            "gclq: cannot save `{name}`: see that its folder may be written, its disk has room, and it is no folder itself"
-        ),
-        _ => eprintln!(rt; "gclq: a file cannot be read or saved"),
+/// A name is told within quotes and with escapes, so that it moves nothing on a terminal.
+fn tell_file<R: Eprint, F: FaultName>(rt: &R, files: &F) -> io::Result<()> {
+    let (done, advice) = match files.fault_call() {
+        Some(FileCall::Keep) => ("save", advice_on_keep(files.fault_cause())),
+        _ => ("read", advice_on_load(files.fault_cause())),
+    };
+    match str::from_utf8(files.fault_name()) {
+        Ok(name) if !name.is_empty() => {
+            let as_it_is = advice_on_name(name);
+            eprintln!(rt; "gclq: cannot {done} {name:?}: {advice}{as_it_is}")
+        }
+        _ => eprintln!(rt; "gclq: cannot {done} a file: {advice}"),
+    }
+}
+
+/// One line where a terminal is to give the script: that it is awaited, and how it ends.
+pub fn invite<R: Eprint + AllocGlobal>(rt: &R, words: &[Bytes]) {
+    let Ok(Some(options)) = options_of(rt.alloc(), words) else {
+        return;
+    };
+    if options.made.is_none() {
+        let _ = eprintln!(rt;
+            "gclq: waits for a script: type its lines, as `add FILE` and `find \"to\"`, and end it by Ctrl-D"
+        );
     }
 }
 

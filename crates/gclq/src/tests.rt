@@ -1,10 +1,11 @@
 use crate::fault_name::FaultName;
+use crate::reader_gone::ReaderGone;
 use crate::session::answer;
 use crate::tell::refuse;
 use crate::words::{WordFault, copied};
 use gcl_model::Bytes;
 use outside::{MemFiles, MemSink, MemSource};
-use outside_std::FileCall;
+use outside_std::{FileCall, FileCause};
 use std::alloc::{AllocError, Global};
 use std::process::ExitCode;
 use std::test::Fail;
@@ -16,6 +17,16 @@ impl FaultName for MemFiles {
 
     fn fault_call(&self) -> Option<FileCall> {
         Some(FileCall::Load)
+    }
+
+    fn fault_cause(&self) -> Option<FileCause> {
+        Some(FileCause::NotThere)
+    }
+}
+
+impl ReaderGone for MemSink {
+    fn reader_gone(&self) -> bool {
+        true
     }
 }
 

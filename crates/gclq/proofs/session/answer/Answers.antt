@@ -1,6 +1,6 @@
 use Rattle.command_words.specs.Grammar.{options_of}
 use Rattle.query_run.specs.declared.status.Status.TheVariants.{Done, DoneWithRefusals, Usage, ReadFault, WriteFault, FileFault, ScriptTooLong}
-use Rattle.gclq.proofs.Numbers.{same_status, finished_number, cut_off_number, made_finished, answered_status, sure_status, usage_number}
+use Rattle.gclq.proofs.Numbers.{same_status, finished_number, cut_off_number, made_finished, answered_status, sure_status, usage_number, ending_number}
 use Rattle.gclq.proofs.session.answer.Goals as goal
 
 pub returns-clause-usage_only : goal.returns-clause-usage_only
@@ -59,3 +59,6 @@ returns-clause-complete_made g c = made_finished (options_of c.args.words.now) c
 
 pub returns-clause-sure : goal.returns-clause-sure
 returns-clause-sure g c is = c.run-status.ensures.sure (sure_status c.run-status.result _ c.exit.ensures is)
+
+pub returns-clause-stopped : goal.returns-clause-stopped
+returns-clause-stopped g c = rw (ending_number c.run-status.result _ c.exit.ensures) c.run-status.ensures.stopped
