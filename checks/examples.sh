@@ -9,7 +9,10 @@
 . "$(dirname "$0")/common.sh"
 cp -r "$here/demo" demo
 ln -s "$gclq" gclq
-[ $# -gt 0 ] || set -- README.md docs/SCRIPT.md docs/QUERY.md docs/GALLERY.md
+gclgrep=${GCLGREP:-$here/crates/gclgrep/out/gclgrep}
+[ -n "${GCLGREP:-}" ] || "$here/gclgrep" --version > /dev/null
+ln -s "$gclgrep" gclgrep
+[ $# -gt 0 ] || set -- README.md docs/SCRIPT.md docs/QUERY.md docs/GALLERY.md docs/GREP.md
 python3 - "$here" "$@" <<'P'
 import difflib, re, subprocess, sys
 

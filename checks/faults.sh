@@ -38,11 +38,21 @@ says() { printf '%s\n' "$@" > script; }
 
 skips() { echo "skipped: $1" >&2; }
 
-cannot_read() { echo "gclq: cannot read \`$1\`: see that it is a file that is there and may be read"; }
+# what is said of a file that was to be read, or saved: its name, and why
+cannot_read() { echo "gclq: cannot read \"$1\": $2"; }
 
-cannot_save() {
-  echo "gclq: cannot save \`$1\`: see that its folder may be written, its disk has room, and it is no folder itself"
-}
+cannot_save() { echo "gclq: cannot save \"$1\": $2"; }
+
+no_file='there is no such file: give its path from the folder where gclq runs'
+no_folder='there is no such folder: make it first'
+a_folder='it is a folder: name a file'
+a_device='it is a device or a pipe: name a file'
+a_circle='its symbolic links lead in a circle: name the file itself'
+too_long='its name is too long for the system: give a shorter one'
+no_room='its disk has no room left: make some, or save elsewhere'
+not_read='you may not read it: change its permissions'
+not_written='you may not write in its folder: change that, or save elsewhere'
+no_read='the system cannot read it: see that it is a file, and that its disk works'
 
 input='gclq: cannot read the script from standard input: give it as a file or through a pipe'
 output='gclq: cannot write the answers to standard output: see that its disk has room and its reader goes on'
@@ -97,13 +107,13 @@ rm -f gone ended
   : > gone
   until [ -e ended ]; do sleep 0.05; done
 }
-compares 'a closed pipe' 4 "$(cat ended)" '' "$output"
+compares 'a closed pipe' 4 "$(cat ended)" '' "$none"
 # the reader is gone after the first line of many
 yes to | head -c 300000 > long
 says 'add long' 'find "to"'
 "$gclq" < script > whole
 { got=0; "$gclq" < script 2> told || got=$?; echo "$got" > ended; } | head -1 > written
-compares 'a reader that ends' 4 "$(cat ended)" 'file 0 0 100001' "$output"
+compares 'a reader that ends' 4 "$(cat ended)" 'file 0 0 100001' "$none"
 got=0; (trap '' XFSZ; ulimit -f 8; exec "$gclq") < script > written 2> told || got=$?
 head -c 8192 whole | cmp - written
 : > written
@@ -111,30 +121,30 @@ compares 'answers that fill a disk' 4 "$got" '' "$output"
 
 # names
 says 'add a' 'add missing' 'add a'
-expects 'a name that is not there' 5 "$added" "$(cannot_read missing)" "$gclq"
+expects 'a name that is not there' 5 "$added" "$(cannot_read missing "$no_file")" "$gclq"
 mkdir folder
 says 'add a' 'add folder'
-expects 'a folder' 5 "$added" "$(cannot_read folder)" "$gclq"
+expects 'a folder' 5 "$added" "$(cannot_read folder "$a_folder")" "$gclq"
 says 'open folder'
-expects 'a folder as an image' 5 '' "$(cannot_read folder)" "$gclq"
+expects 'a folder as an image' 5 '' "$(cannot_read folder "$a_folder")" "$gclq"
 says 'open missing'
-expects 'an image that is not there' 5 '' "$(cannot_read missing)" "$gclq"
+expects 'an image that is not there' 5 '' "$(cannot_read missing "$no_file")" "$gclq"
 says 'add a' 'add /proc/self/mem'
-expects 'a file of which a read fails' 5 "$added" "$(cannot_read /proc/self/mem)" "$gclq"
+expects 'a file of which a read fails' 5 "$added" "$(cannot_read /proc/self/mem "$no_read")" "$gclq"
 ln -s loop loop
 says 'add a' 'add loop'
-expects 'a link to itself' 5 "$added" "$(cannot_read loop)" "$gclq"
+expects 'a link to itself' 5 "$added" "$(cannot_read loop "$a_circle")" "$gclq"
 : > told
 got=0; "$gclq" < script > written 2>&- || got=$?
 compares 'no standard error' 5 "$got" "$added" "$none"
 says 'add  to_caf'$'\xc3\xa9'' and "more" '
-expects 'a name with blanks and quotes' 5 '' "$(cannot_read 'to_caf'$'\xc3\xa9'' and "more"')" "$gclq"
+expects 'a name with blanks and quotes' 5 '' "$(cannot_read 'to_caf'$'\xc3\xa9'' and \"more\"' "$no_file")" "$gclq"
 # the longest name that has a line, and a longer one
 long=$(head -c 65532 /dev/zero | tr '\0' n)
 says "add $long"
-expects 'a name as long as a line' 5 '' "$(cannot_read "$long")" "$gclq"
+expects 'a name as long as a line' 5 '' "$(cannot_read "$long" "$too_long")" "$gclq"
 says "save ${long%n}"
-expects 'a name as long as a line to save as' 5 '' "$(cannot_save "${long%n}")" "$gclq"
+expects 'a name as long as a line to save as' 5 '' "$(cannot_save "${long%n}" "$too_long")" "$gclq"
 says "add ${long}nnnn"
 expects 'a name of 65,536 bytes' 1 '! long line' "$none" "$gclq"
 says 'add /dev/zero'
@@ -151,11 +161,11 @@ if as_nobody "$gclq" < /dev/null > /dev/null 2>&1; then
   printf 'old' > shut/i
   chmod 555 shut
   says 'add a' 'add hidden'
-  expects 'a file that may not be read' 5 "$added" "$(cannot_read hidden)" as_nobody "$gclq"
+  expects 'a file that may not be read' 5 "$added" "$(cannot_read hidden "$not_read")" as_nobody "$gclq"
   says 'open hidden'
-  expects 'an image that may not be read' 5 '' "$(cannot_read hidden)" as_nobody "$gclq"
+  expects 'an image that may not be read' 5 '' "$(cannot_read hidden "$not_read")" as_nobody "$gclq"
   says 'add a' 'save shut/i'
-  expects 'a folder that may not be written' 5 "$added" "$(cannot_save shut/i)" as_nobody "$gclq"
+  expects 'a folder that may not be written' 5 "$added" "$(cannot_save shut/i "$not_written")" as_nobody "$gclq"
   [ "$(cat shut/i)" = old ]
   chmod 755 shut
 else
@@ -175,16 +185,16 @@ wait
 
 # saving: the old image stands until the new one takes its name
 says 'add a' 'save i' 'save /dev/null'
-expects 'a device' 5 $'file 0 0 7\nsaved 97' "$(cannot_save /dev/null)" "$gclq"
+expects 'a device' 5 $'file 0 0 7\nsaved 97' "$(cannot_save /dev/null "$a_device")" "$gclq"
 cp i old
 says 'save folder'
-expects 'a folder to save as' 5 '' "$(cannot_save folder)" "$gclq"
+expects 'a folder to save as' 5 '' "$(cannot_save folder "$a_folder")" "$gclq"
 says 'save nowhere/i'
-expects 'a folder that is not there' 5 '' "$(cannot_save nowhere/i)" "$gclq"
+expects 'a folder that is not there' 5 '' "$(cannot_save nowhere/i "$no_folder")" "$gclq"
 for ((n = 0; n < 20000; n++)); do echo "w$n"; done > big
 says 'add big' 'save i' 'add a'
 fills() { (trap '' XFSZ; ulimit -f 8; "$gclq"); }
-expects 'a disk that fills up' 5 'file 0 0 20001' "$(cannot_save i)" fills
+expects 'a disk that fills up' 5 'file 0 0 20001' "$(cannot_save i "$no_room")" fills
 cmp i old
 [ "$(find . -name '.gclq-*' | wc -l)" = 0 ]
 killed() { (ulimit -c 0; ulimit -f 8; exec "$gclq"); }
@@ -202,7 +212,7 @@ mkdir full
 on_full() { unshare -m sh -c "mount -t tmpfs -o size=64k none $full && cp $work/old $full/i && { $gclq; got=\$?; cmp $full/i $work/old && exit \$got; }"; }
 if unshare -m sh -c "mount -t tmpfs -o size=64k none $full" 2> /dev/null; then
   says 'add big' 'save full/i'
-  expects 'a full disk' 5 'file 0 0 20001' "$(cannot_save full/i)" on_full
+  expects 'a full disk' 5 'file 0 0 20001' "$(cannot_save full/i "$no_room")" on_full
 else
   skips 'a full disk of its own: nothing may be mounted'
 fi

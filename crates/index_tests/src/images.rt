@@ -151,6 +151,23 @@ const OUTSIDE: &[u8] = b"\x02\0\0\0\0\0\0\0\
 const OTHER_ROLE: &[u8] = b"\x02\0\0\0\0\0\0\0\
     \x08</file!>\0\x09\x02be\0\x08";
 
+// A file `a` with 149 words `a` and as many `b` by turns: lists of more than two blocks each, whose differences are all 2 but the first.
+const HEAD_LONG: &[u8] = b"GCLIMG02\
+    \0\0\0\0\0\0\0\0\x2c\x01\0\0\0\0\0\0\
+    \x01\0\0\0\0\0\0\0\x01\0\0\0\0\0\0\0";
+
+const FILE_LONG: &[u8] = b"\0\0\xaa\x02\x01a";
+
+const ENDS_LONG: &[u8] = b"\x04\0\0\0\0\0\0\0\
+    \x08</file!>\0\xab\x02\x07<file!>\0\0";
+
+const A_LONG: &[u8] = b"\x01a\x94\x01\x01";
+
+const B_LONG: &[u8] = b"\x01b\x94\x01\x02";
+
+/// How many differences each of the two words has behind its first.
+const TWOS: usize = 148;
+
 fn joined(alloc: Global, parts: Parts) -> Result<Vec<u8>, AllocError> {
     let mut out = Vec::new(alloc);
     for part in parts {
@@ -330,5 +347,54 @@ fn a_changed_byte_is_refused_or_written_back(rt: HostRuntime) -> Result<(), Fail
         kept = kept.wrapping_add(kept_changes(&rt, rt.alloc(), &mut bytes)?);
     }
     assert!(rt; 0 < kept, "no changed byte is taken");
+    Ok(())
+}
+
+/// The image of long lists, with these bytes in place of those at a place of the differences behind the first address of `a`, and others
+/// in place of those of `b`.
+fn long_image(alloc: Global, a: (usize, &[u8]), b: (usize, &[u8])) -> Result<Vec<u8>, AllocError> {
+    let mut out = joined(alloc, [HEAD_LONG, FILE_LONG, ENDS_LONG])?;
+    out.extend_from_slice(A_LONG)?;
+    put_twos(&mut out, a)?;
+    out.extend_from_slice(B_LONG)?;
+    put_twos(&mut out, b)?;
+    Ok(out)
+}
+
+/// Puts the differences of a word, with these bytes in place of those at a place.
+fn put_twos(out: &mut Vec<u8>, change: (usize, &[u8])) -> Result<(), AllocError> {
+    let (place, bytes) = change;
+    for i in 0..TWOS {
+        let put = match i.checked_sub(place) {
+            Some(behind) => bytes.get(behind).copied().unwrap_or(2),
+            None => 2,
+        };
+        out.push(put)?;
+    }
+    Ok(())
+}
+
+#[test]
+fn long_lists_are_taken_over_exactly(rt: HostRuntime) -> Result<(), Fail> {
+    let same: (usize, &[u8]) = (0, b"");
+    let cases: [(&str, (usize, &[u8]), (usize, &[u8])); 8] = [
+        ("a difference of nothing", (63, b"\0"), same),
+        ("the address before it again", same, (70, b"\0\x04")),
+        ("an address of another word", same, (64, b"\x01\x03")),
+        ("the end of the file", same, (147, b"\x03")),
+        ("beyond the file", same, (147, b"\x7f")),
+        ("an address without a word", same, (147, b"\x01")),
+        ("a padded difference", (64, b"\x82\0"), same),
+        ("a difference without an end", same, (147, b"\x82")),
+    ];
+    for (case, a, b) in cases {
+        assert!(rt;
+            !is_image(rt.alloc(), &long_image(rt.alloc(), a, b)?)?,
+            "{case}"
+        );
+    }
+    let mut whole = long_image(rt.alloc(), same, same)?;
+    is_written(&rt, &"whole", written_back(rt.alloc(), &whole)?, &whole);
+    kept_changes(&rt, rt.alloc(), &mut whole)?;
     Ok(())
 }

@@ -1,0 +1,20 @@
+#!/usr/bin/env bash
+# 2,000 made files by four editors beside a settling lane, to one editor beside it, as a ratio of one run (target 0.7 on four processors, once
+# indexes are made outside the lock). It uses `gclshare` as the gate or `rt run` built it.
+set -eu
+here=$(cd "$(dirname "${BASH_SOURCE[0]}")/.." && pwd)
+program=$here/crates/gclshare/out/gclshare
+[ -x "$program" ] || { echo "editors.sh: build it first: (cd crates/gclshare && rt run)" >&2; exit 1; }
+seconds() {
+  local best=999 start end i
+  for i in 1 2 3 4 5; do
+    start=$(date +%s.%N)
+    "$program" --made 11 --count 2000 --editors "$1" > /dev/null
+    end=$(date +%s.%N)
+    best=$(awk -v b="$best" -v s="$start" -v e="$end" 'BEGIN { t = e - s; print (t < b) ? t : b }')
+  done
+  echo "$best"
+}
+one=$(seconds 1)
+four=$(seconds 4)
+awk -v one="$one" -v four="$four" -v n="$(nproc)" 'BEGIN { printf "2,000 files on %s processors: one editor %.3f s, four %.3f s: ratio %.2f (target 0.7)\n", n, one, four, four / one }'
