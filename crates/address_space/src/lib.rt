@@ -33,6 +33,3 @@ pub use shared_record::SharedRecord;
 pub use slot_laws::{
     adding_keeps_tiers, merging_keeps_tiers, opening_makes_tiers, tails_are_joined, tiers_are_few,
 };
-
-#[cfg(test)]
-mod tests;

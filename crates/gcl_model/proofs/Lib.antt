@@ -12,5 +12,6 @@ pub mod Parts
 pub mod Grouping
 pub mod Other
 mod WorkedMeaning
+mod WorkedWide
 mod WorkedTokens
 mod WorkedCollections

@@ -9,11 +9,11 @@ use Rattle.gcl_model.specs.Forms.{Form, Forms, term, phrase, width, both, one, s
 use Rattle.gcl_model.specs.Meaning.{concordance}
 use Rattle.gcl_model.specs.Cost.{cost}
 
-abbrev word : ℕ → List ℕ → Word
+abbrev pub word : ℕ → List ℕ → Word
 word p token = record { address = p; token = token }
 
 -- `to be or not to be` between its boundary tokens
-abbrev hamlet : Text
+abbrev pub hamlet : Text
 hamlet = record {
   first = 0;
   next = 8;
@@ -21,7 +21,7 @@ hamlet = record {
       ∷ word 5 (codes "to") ∷ word 6 (codes "be") ∷ word 7 (codes "</file!>") ∷ [];
 }
 
-abbrev t : Form
+abbrev pub t : Form
 t = term (codes "to")
 
 abbrev b : Form
@@ -30,7 +30,7 @@ b = term (codes "be")
 abbrev n : Form
 n = term (codes "not")
 
-abbrev two : Form → Form → Forms
+abbrev pub two : Form → Form → Forms
 two a b = more_forms a (more_forms b no_forms)
 
 pub a_term : concordance hamlet t ≡ extent 1 1 ∷ extent 5 5 ∷ []

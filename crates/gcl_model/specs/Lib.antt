@@ -8,6 +8,7 @@ pub mod Forms
 pub mod FormOf
 pub mod WellFormed
 pub mod Meaning
+pub mod Wide
 pub mod Laws
 pub mod Rules
 pub mod Cost

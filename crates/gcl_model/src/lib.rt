@@ -44,6 +44,3 @@ pub use questions::{Question, counted, uncounted};
 pub use span::{ADDRESS_END, Span};
 pub use steps::{Ledger, NoLedger, Steps, Tally};
 pub use token_list::TokenList;
-
-#[cfg(test)]
-mod tests;

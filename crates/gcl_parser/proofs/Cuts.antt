@@ -8,7 +8,7 @@ use Rattle.gcl_parser.specs.declared.token.PlacedToken.{PlacedToken}
 use Rattle.gcl_parser.specs.declared.fault.QueryKind.TheVariants.{Character}
 use Rattle.gcl_parser.specs.declared.token.Joint.TheVariants.{FollowedBy, BothOf, OneOf}
 use Rattle.gcl_model.specs.declared.containment.Containment.TheVariants.{Containing, ContainedIn, NotContaining, NotContainedIn}
-use Rattle.gcl_parser.specs.QueryTokens.{QueryToken, joint, containment, open_bracket, close_bracket, broken, Piece, placed, first_piece, quoted_piece, width_piece, sign_piece, is_no_quote, one_token, tokens_of_pieces, tokens_behind}
+use Rattle.gcl_parser.specs.QueryTokens.{QueryToken, joint, containment, open_bracket, close_bracket, broken, Piece, placed, first_piece, closed_piece, quoted_piece, width_piece, sign_piece, is_no_quote, one_token, tokens_of_pieces, tokens_behind}
 use Rattle.gcl_parser.specs.Scanned.{shown, IsPiece, IsNext, tokens_from}
 
 record IsSized (piece : Piece) : Type 0 where
@@ -36,8 +36,11 @@ sign_size b bytes =
     either ((b == 47) && starts_with_byte 60 bytes) (one_token (containment NotContainedIn) 2) _ (one_size (containment NotContainedIn) 2 two) (
     one_size (broken Character) 1 one)))))))))
 
+closed_size : (content : List ℕ) (starred : Bool) → IsSized (closed_piece content starred)
+closed_size content starred = either _ _ _ (one_size _ (length content + 3) (omega arith)) (one_size _ (length content + 2) (omega arith))
+
 quoted_size : (bytes : List ℕ) → IsSized (quoted_piece bytes)
-quoted_size bytes = either _ _ _ (one_size _ (length (take_while is_no_quote bytes) + 2) (omega arith)) (one_size _ 1 (omega arith))
+quoted_size bytes = either _ _ _ (closed_size (take_while is_no_quote bytes) _) (one_size _ 1 (omega arith))
 
 width_size : (bytes : List ℕ) → IsSized (width_piece bytes)
 width_size bytes = either _ _ _ (one_size _ (length (take_while is_ascii_digit bytes) + 2) (omega arith)) (one_size _ 1 (omega arith))

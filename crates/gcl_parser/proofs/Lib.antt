@@ -6,5 +6,6 @@ pub mod QueryForms
 pub mod Cuts
 pub mod Runs
 pub mod Growing
+pub mod OneWord
 pub mod WellFormedQueries
 mod WorkedQueries

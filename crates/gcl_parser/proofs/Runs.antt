@@ -14,7 +14,7 @@ use Rattle.gcl_parser.specs.declared.fault.QueryKind.TheVariants.{OpenQuote, Bad
 use Rattle.gcl_parser.specs.declared.fault.QueryKind.{QueryKind}
 use Rattle.gcl_parser.specs.declared.token.Token.{Token}
 use Rattle.gcl_parser.specs.declared.token.PlacedToken.{PlacedToken}
-use Rattle.gcl_parser.specs.QueryTokens.{QueryToken, Piece, width_piece, width_token, quoted_piece, quoted_token, terms_of, is_no_quote, one_token, broken_piece}
+use Rattle.gcl_parser.specs.QueryTokens.{QueryToken, Piece, width_piece, width_token, closed_piece, quoted_piece, is_no_quote, one_token, broken_piece}
 use Rattle.gcl_parser.specs.Scanned.{shown, HasRange, IsPiece}
 
 pub piece_of : (text : List ℕ) (at : ℕ) (piece : Piece) (l : PlacedToken) (size : ℕ) (token : Token) → l ≡ record { at = at; end = at + size; token = token } →
@@ -40,7 +40,7 @@ starts_at : (bytes : List ℕ) (k : ℕ) → k < length bytes → is_byte 34 (ge
 starts_at bytes k lt is = ap (λ xs. starts_with_byte 34 xs) (drop_more bytes k 0 lt) ∙ is
 
 pub quote_found : (bytes : List ℕ) (k : ℕ) → NoneBefore (Passes (is_byte 34) bytes) 0 (length bytes) k → Passes (is_byte 34) bytes k →
-    quoted_piece bytes ≡ one_token (quoted_token (terms_of (take k bytes))) (k + 2)
+    quoted_piece bytes ≡ closed_piece (take k bytes) (starts_with_byte 42 (drop (k + 1) bytes))
 quote_found bytes k before passes =
     let lt : k < length bytes = before.high in
     let len : prefix_len is_no_quote bytes ≡ k =
@@ -48,8 +48,12 @@ quote_found bytes k before passes =
     (λ j h. not_from_false (is_byte 34 (get_or bytes j 0)) (false_from_ne_true (is_byte 34 (get_or bytes j 0)) (before.before j (omega arith) h)))
     (λ h. not_from_true (is_byte 34 (get_or bytes k 0)) passes) in
     let size : length (take_while is_no_quote bytes) ≡ k = length-prefix_len is_no_quote bytes ∙ len in
-    closed 34 (quoted_token (terms_of (take_while is_no_quote bytes))) OpenQuote (take_while is_no_quote bytes) bytes k size (starts_at bytes k lt passes)
-    ∙ ap (λ n. one_token (quoted_token (terms_of (take n bytes))) (k + 2)) len
+    let content = take_while is_no_quote bytes in
+    cond-true (starts_with_byte 34 (drop (length content) bytes)) (closed_piece content (starts_with_byte 42 (drop 1 (drop (length content) bytes)))) (broken_piece OpenQuote)
+    (ap (λ n. starts_with_byte 34 (drop n bytes)) size ∙ starts_at bytes k lt passes)
+    ∙ ap (λ xs. closed_piece content (starts_with_byte 42 xs)) (drop-drop 1 (length content) bytes)
+    ∙ ap (λ n. closed_piece content (starts_with_byte 42 (drop (n + 1) bytes))) size
+    ∙ ap (λ n. closed_piece (take n bytes) (starts_with_byte 42 (drop (k + 1) bytes))) len
 
 pub no_quote : (bytes : List ℕ) → Nowhere (Passes (is_byte 34) bytes) 0 (length bytes) → quoted_piece bytes ≡ broken_piece OpenQuote
 no_quote bytes nowhere =
@@ -59,7 +63,7 @@ no_quote bytes nowhere =
     (λ h. absurd (omega arith)) in
     let content = take_while is_no_quote bytes in
     let size : length content ≡ length bytes = length-prefix_len is_no_quote bytes ∙ len in
-    cond-false (starts_with_byte 34 (drop (length content) bytes)) (one_token (quoted_token (terms_of content)) (length content + 2)) (broken_piece OpenQuote)
+    cond-false (starts_with_byte 34 (drop (length content) bytes)) (closed_piece content (starts_with_byte 42 (drop 1 (drop (length content) bytes)))) (broken_piece OpenQuote)
     (ap (λ xs. starts_with_byte 34 xs) (drop_all (length content) bytes (omega arith)))
 
 pub no_quote_behind : (text : List ℕ) (n : ℕ) → Nowhere (Passes (is_byte 34) (take (length text - n) (drop n text))) 0 (length (take (length text - n) (drop n text))) →
@@ -68,7 +72,7 @@ no_quote_behind text n h = no_quote (drop n text) (subst (λ bytes. Nowhere (Pas
 
 pub record IsQuoted (text : List ℕ) (n k : ℕ) : Type 0 where
   pub short : n + k < length text
-  pub piece : quoted_piece (drop n text) ≡ one_token (quoted_token (terms_of (take k (drop n text)))) (k + 2)
+  pub piece : quoted_piece (drop n text) ≡ closed_piece (take k (drop n text)) (starts_with_byte 42 (drop (n + k + 1) text))
 
 pub quote_behind : (text : List ℕ) (n k : ℕ) → NoneBefore (Passes (is_byte 34) (take (length text - n) (drop n text))) 0 (length (take (length text - n) (drop n text))) k →
     Passes (is_byte 34) (take (length text - n) (drop n text)) k → IsQuoted text n k
@@ -77,7 +81,9 @@ quote_behind text n k before passes =
     let lt : k < length (drop n text) = first.high in
     record {
       short = omega (arith, length-drop n text);
-      piece = quote_found (drop n text) k first (subst (λ bytes. Passes (is_byte 34) bytes k) (take_rest text n) passes);
+      piece = quote_found (drop n text) k first (subst (λ bytes. Passes (is_byte 34) bytes k) (take_rest text n) passes)
+          ∙ ap (λ xs. closed_piece (take k (drop n text)) (starts_with_byte 42 xs)) (drop-drop (k + 1) n text)
+          ∙ ap (λ m. closed_piece (take k (drop n text)) (starts_with_byte 42 (drop m text))) (omega arith);
     }
 
 -- each byte of a run passes

@@ -7,13 +7,13 @@ use Rattle.std.specs.Str.Parse.{digits_value}
 use Rattle.gcl_model.specs.Limits.{address_end}
 use Rattle.gcl_model.specs.Forms.{Form, Forms, width, more_forms, forms_count}
 use Rattle.gcl_model.specs.WellFormed.{IsWellFormed, AreWellFormed}
-use Rattle.gcl_model.specs.Tokens.{is_blank, starts_with_byte}
-use Rattle.gcl_parser.specs.declared.fault.QueryKind.TheVariants.{BadWidth, OpenQuote, Character}
+use Rattle.gcl_model.specs.Tokens.{is_blank, starts_with_byte, tokens_of}
+use Rattle.gcl_parser.specs.declared.fault.QueryKind.TheVariants.{EmptyTerm, BadPrefix, BadWidth, OpenQuote, Character}
 use Rattle.gcl_parser.specs.declared.token.Joint.{Joint}
 use Rattle.gcl_parser.specs.declared.token.Joint.TheVariants.{FollowedBy, BothOf, OneOf}
 use Rattle.gcl_model.specs.declared.containment.Containment.{Containment}
 use Rattle.gcl_model.specs.declared.containment.Containment.TheVariants.{Containing, ContainedIn, NotContaining, NotContainedIn}
-use Rattle.gcl_parser.specs.QueryTokens.{QueryToken, operand, joint, containment, open_bracket, close_bracket, broken, Piece, Placed, placed, token_of, one_token, broken_piece, quoted_token, quoted_piece, terms_of, is_no_quote, width_token, width_piece, sign_piece, first_piece, tokens_of_pieces}
+use Rattle.gcl_parser.specs.QueryTokens.{QueryToken, operand, joint, containment, open_bracket, close_bracket, broken, Piece, Placed, placed, token_of, one_token, broken_piece, quoted_token, is_one_word, prefix_form, prefix_token, closed_piece, quoted_piece, terms_of, is_no_quote, width_token, width_piece, sign_piece, first_piece, tokens_of_pieces}
 use Rattle.gcl_model.specs.FormOf.{containment_form}
 use Rattle.gcl_parser.specs.Grammar.{Level, Part, simple, bracketed, only, join, Query, query, Containments, no_more, and_then, spelling, query_spelling, more_spelling, form_of_part, form_of_query, members, grouped, chain_form, IsQuery}
 
@@ -60,11 +60,24 @@ width_sound n = go (nat_le 1 n && nat_le n address_end) refl
         ((leb-true 1 n both.0, leb-true n address_end both.1), tt)
     go false is = tt
 
+prefix_sound : (tokens : List (List ℕ)) → AreSound (prefix_token tokens ∷ [])
+prefix_sound tokens = by_word (length tokens == 0) (is_one_word tokens)
+  where
+    by_word : (none word : Bool) → AreSound (cond none (broken EmptyTerm) (cond word (operand (prefix_form tokens)) (broken BadPrefix)) ∷ [])
+    by_word true word = tt
+    by_word false true = (tt, tt)
+    by_word false false = tt
+
+closed_sound : (content : List ℕ) (starred : Bool) → IsSound (closed_piece content starred)
+closed_sound content true = one_sound (prefix_token (tokens_of content)) (length content + 3) (prefix_sound (tokens_of content))
+closed_sound content false = one_sound (quoted_token (terms_of content)) (length content + 2) (quoted_sound (terms_of content))
+
 quoted_piece_sound : (bytes : List ℕ) → IsSound (quoted_piece bytes)
 quoted_piece_sound bytes =
     let content = take_while is_no_quote bytes in
-    either (starts_with_byte 34 (drop (length content) bytes)) (one_token (quoted_token (terms_of content)) (length content + 2)) (broken_piece OpenQuote)
-    (one_sound (quoted_token (terms_of content)) (length content + 2) (quoted_sound (terms_of content))) (one_sound (broken OpenQuote) 1 tt)
+    let starred = starts_with_byte 42 (drop 1 (drop (length content) bytes)) in
+    either (starts_with_byte 34 (drop (length content) bytes)) (closed_piece content starred) (broken_piece OpenQuote)
+    (closed_sound content starred) (one_sound (broken OpenQuote) 1 tt)
 
 width_piece_sound : (bytes : List ℕ) → IsSound (width_piece bytes)
 width_piece_sound bytes =

@@ -1,7 +1,7 @@
 -- Worked examples of query tokens, refusals and the grammar, computed.
 use Rattle.std.specs.Prelude.{◌≡◌, refl, [], ◌∷◌, codes, Some, None, replicate, true, false, ◌++◌}
 use Rattle.gcl_model.specs.Forms.{term, phrase, width, seq, both, one, containing, more_forms, no_forms}
-use Rattle.gcl_parser.specs.declared.fault.QueryKind.TheVariants.{OperandExpected, OperatorOrCloseExpected, EmptyTerm, BadWidth, OpenQuote, Character, TooDeep, TooLarge}
+use Rattle.gcl_parser.specs.declared.fault.QueryKind.TheVariants.{OperandExpected, OperatorOrCloseExpected, EmptyTerm, BadPrefix, BadWidth, OpenQuote, Character, TooDeep, TooLarge}
 use Rattle.gcl_parser.specs.declared.token.Joint.TheVariants.{FollowedBy, BothOf, OneOf}
 use Rattle.gcl_model.specs.declared.containment.Containment.TheVariants.{Containing, NotContainedIn}
 use Rattle.gcl_parser.specs.QueryTokens.{operand, joint, containment, query_tokens, open_bracket}
@@ -160,3 +160,34 @@ brackets_first = refl
 
 pub no_form_of_a_refused_text : query_form (codes "([1]") ≡ None
 no_form_of_a_refused_text = refl
+
+-- prefix terms
+pub a_word_with_a_star_is_a_prefix_term : query_tokens (codes "\"To\"*^[2]")
+    ≡ record { at = 0; token = operand (term (codes "to*")) } ∷ record { at = 5; token = joint BothOf } ∷ record { at = 6; token = operand (width 2) } ∷ []
+a_word_with_a_star_is_a_prefix_term = refl
+
+pub separators_are_no_part_of_a_prefix : query_form (codes "\"< to!\"*") ≡ Some (term (codes "to*"))
+separators_are_no_part_of_a_prefix = refl
+
+pub a_prefix_is_one_word : refused (codes "\"to be\"*") ≡ Some record { at = 0; kind = BadPrefix }
+a_prefix_is_one_word = refl
+
+pub a_prefix_is_no_tag : refused (codes "[1]..\"<t>\"*") ≡ Some record { at = 5; kind = BadPrefix }
+a_prefix_is_no_tag = refl
+
+-- with a `*` the text of a boundary token is cut as any other
+pub a_prefix_is_no_boundary : refused (codes "\"<file!>\"*") ≡ Some record { at = 0; kind = BadPrefix }
+a_prefix_is_no_boundary = refl
+
+pub an_empty_prefix_is_an_empty_term : refused (codes "\"\"*") ≡ Some record { at = 0; kind = EmptyTerm }
+an_empty_prefix_is_an_empty_term = refl
+
+-- a bad prefix comes before what the state wants
+pub a_bad_prefix_comes_first : refused (codes "\"a\" \"b c\"*") ≡ Some record { at = 4; kind = BadPrefix }
+a_bad_prefix_comes_first = refl
+
+pub the_star_follows_at_once : refused (codes "\"to\" *") ≡ Some record { at = 5; kind = Character }
+the_star_follows_at_once = refl
+
+pub one_star_is_enough : refused (codes "\"a\"**") ≡ Some record { at = 4; kind = Character }
+one_star_is_enough = refl

@@ -1,13 +1,14 @@
 -- The query tokens of a text, with their places.
-use Rattle.std.specs.Prelude.{ℕ, zero, suc, ◌+◌, Bool, not, ◌&&◌, ◌==◌, nat_le, List, [], ◌∷◌, ◌++◌, map, length, drop, if◌then◌else◌, take_while}
+use Rattle.std.specs.Prelude.{ℕ, zero, suc, ◌+◌, Bool, false, not, ◌&&◌, ◌==◌, nat_le, List, [], ◌∷◌, ◌++◌, map, length, drop, codes, if◌then◌else◌, take_while, slice_index_or}
 use Rattle.std.specs.Char.{is_ascii_digit}
+use Rattle.std.specs.List.{list_all}
 use Rattle.std.specs.Str.Parse.{digits_value}
 use Rattle.gcl_model.specs.Limits.{address_end}
 use Rattle.gcl_model.specs.Forms.{Form, term, phrase, width}
-use Rattle.gcl_model.specs.Tokens.{is_blank, starts_with_byte, tokens_of}
+use Rattle.gcl_model.specs.Tokens.{is_blank, is_word_byte, starts_with_byte, tokens_of}
 use Rattle.gcl_model.specs.Collections.{is_boundary}
 use Rattle.gcl_parser.specs.declared.fault.QueryKind.{QueryKind}
-use Rattle.gcl_parser.specs.declared.fault.QueryKind.TheVariants.{EmptyTerm, BadWidth, OpenQuote, Character}
+use Rattle.gcl_parser.specs.declared.fault.QueryKind.TheVariants.{EmptyTerm, BadPrefix, BadWidth, OpenQuote, Character}
 use Rattle.gcl_parser.specs.declared.token.Joint.{Joint}
 use Rattle.gcl_parser.specs.declared.token.Joint.TheVariants.{FollowedBy, BothOf, OneOf}
 use Rattle.gcl_model.specs.declared.containment.Containment.{Containment}
@@ -50,15 +51,42 @@ abbrev pub quoted_token : List (List ℕ) → QueryToken
 quoted_token [] = broken EmptyTerm
 quoted_token (token ∷ more) = operand (quoted_form (token ∷ more))
 
+-- letters, digits and bytes past ASCII, one or more: `to` is a word, and `<a>` is not
+abbrev pub is_word : List ℕ → Bool
+is_word token = nat_le 1 (length token) && list_all is_word_byte token
+
+-- these tokens are one, and that is a word
+abbrev pub is_one_word : List (List ℕ) → Bool
+is_one_word [] = false
+is_one_word (token ∷ []) = is_word token
+is_one_word (token ∷ next ∷ more) = false
+
+-- the prefix term of the first of these tokens: of `to` it is the term `to*`
+abbrev pub prefix_form : List (List ℕ) → Form
+prefix_form tokens = term (slice_index_or tokens 0 [] ++ codes "*")
+
+-- a quoted text with a `*` right behind it: one word, and neither several nor a tag
+abbrev pub prefix_token : List (List ℕ) → QueryToken
+prefix_token tokens =
+    if length tokens == 0 then broken EmptyTerm
+    else if is_one_word tokens then operand (prefix_form tokens)
+    else broken BadPrefix
+
 -- any byte but `"`
 abbrev pub is_no_quote : ℕ → Bool
 is_no_quote b = not (b == 34)
 
--- the quoted text whose first quote stands before these bytes: up to the next quote
+-- the piece of a quoted text that has its second quote, with the `*` right behind that where there is one
+abbrev pub closed_piece : List ℕ → Bool → Piece
+closed_piece content starred =
+    if starred then one_token (prefix_token (tokens_of content)) (length content + 3) else one_token (quoted_token (terms_of content)) (length content + 2)
+
+-- the quoted text whose first quote stands before these bytes: up to the next quote, and a `*` that follows at once
 abbrev pub quoted_piece : List ℕ → Piece
 quoted_piece bytes =
     let content = take_while is_no_quote bytes in
-    if starts_with_byte 34 (drop (length content) bytes) then one_token (quoted_token (terms_of content)) (length content + 2) else broken_piece OpenQuote
+    let behind = drop (length content) bytes in
+    if starts_with_byte 34 behind then closed_piece content (starts_with_byte 42 (drop 1 behind)) else broken_piece OpenQuote
 
 -- a width is 1 to the limit of addresses: 0 is none
 abbrev pub width_token : ℕ → QueryToken

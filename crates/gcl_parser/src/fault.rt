@@ -16,6 +16,9 @@ pub enum QueryKind {
     /// The quoted text has no token.
     #[error("empty term")]
     EmptyTerm,
+    /// The quoted text has a `*` right behind it, and is not one word: it has several tokens, or its token is a tag.
+    #[error("bad prefix")]
+    BadPrefix,
     /// A `[` is not followed by digits and `]`, or the number is 0 or above 2^56.
     #[error("bad width")]
     BadWidth,

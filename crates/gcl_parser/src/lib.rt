@@ -1,6 +1,6 @@
 //! The expression of a query, or the first place at which a text is no query.
 //!
-//! A query has quoted texts, widths, operators and brackets. `..` binds most, then `^`, then `+`; the containments
+//! A query has quoted texts, prefix terms (a quoted word with a `*` right behind it), widths, operators and brackets. `..` binds most, then `^`, then `+`; the containments
 //! `>`, `<`, `/>` and `/<` bind least and group from the left. Contracts see the grammar as the trees of
 //! `specs/Grammar.antt`: a tree spells query tokens and stands for one form (`IsQueryWithin`). A text that no tree
 //! within the limits spells has its first fault, a place and a kind, by `refused` of `specs/Refusal.antt`.
@@ -22,10 +22,8 @@ mod scan;
 mod state;
 mod token;
 mod width;
+mod word;
 
 pub use fault::{ParseFault, QueryFault, QueryKind};
 pub use laws::{queries_are_not_refused, query_forms_are_of_queries};
 pub use parser::parse;
-
-#[cfg(test)]
-mod tests;

@@ -1,8 +1,9 @@
-ghost use Rattle.std.specs.Prelude.{◌≡◌, map, IfOk};
+ghost use Rattle.std.specs.Prelude.{◌≡◌, ◌≤◌, length, map, IfOk};
+ghost use Rattle.gcl_model.specs.Tokens.{tokens_of};
 ghost use Rattle.gcl_model.specs.Forms.{width as width_form};
 ghost use Rattle.gcl_model.specs.FormOf.{form_of, forms_from, containment_form};
 ghost use Rattle.gcl_parser.specs.Grammar.{chain_form};
-ghost use Rattle.gcl_parser.specs.QueryTokens.{quoted_form, terms_of};
+ghost use Rattle.gcl_parser.specs.QueryTokens.{quoted_form, prefix_form, terms_of};
 
 use crate::scan::is_boundary;
 use crate::token::Joint;
@@ -45,6 +46,17 @@ pub fn width_node(width: u64) -> Expr
     ensures { form_of result ≡ width_form width }
 {
     Expr::Width(width)
+}
+
+/// The prefix term of the bytes between two quotes.
+pub fn prefix_node(alloc: Global, content: &[u8]) -> Result<Expr, AllocError>
+    requires { 1 ≤ length (tokens_of content.now) }
+    ensures { IfOk result (λ expr. form_of expr ≡ prefix_form (tokens_of content.now)) }
+{
+    let words = tokens(alloc, content)?;
+    let mut term = words.get(0).copy()?;
+    term.push(b'*')?;
+    Ok(Expr::Term(term))
 }
 
 /// The term or the phrase of the bytes between two quotes.

@@ -6,7 +6,7 @@ ghost use Rattle.gcl_parser.specs.Scanned.{bare_from};
 ghost use Rattle.gcl_parser.specs.Reading.{CanRead, CanReadInside, IsNotNext, IsNoContainment, rank};
 ghost use Rattle.gcl_parser.specs.Parsed.{IsParsed, IsQueryParsed, IsBracketParsed};
 
-use crate::node::{chain_node, containment_node, quoted_node, width_node};
+use crate::node::{chain_node, containment_node, prefix_node, quoted_node, width_node};
 use crate::parsed::Parsed;
 use crate::scan::next_placed;
 use crate::token::{Joint, Token};
@@ -95,7 +95,7 @@ fn tighter(joint: Joint) -> Option<Joint>
     }
 }
 
-/// A quoted text, a width or a query in brackets.
+/// A quoted text, with a `*` or without, a width or a query in brackets.
 #[cycle(read)]
 fn operand(alloc: Global, text: &[u8], at: usize) -> Result<Parsed, AllocError>
     requires within { at ≤ length text.now }
@@ -108,6 +108,10 @@ fn operand(alloc: Global, text: &[u8], at: usize) -> Result<Parsed, AllocError>
     match placed.token {
         Token::Quoted(from, to) => Ok(Parsed {
             expr: quoted_node(alloc, &text[from..to])?,
+            end: placed.end,
+        }),
+        Token::Prefix(from, to) => Ok(Parsed {
+            expr: prefix_node(alloc, &text[from..to])?,
             end: placed.end,
         }),
         Token::Width(width) => Ok(Parsed {

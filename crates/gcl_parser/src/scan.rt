@@ -1,12 +1,13 @@
 ghost use Rattle.std.specs.Prelude.{◌≡◌, ◌+◌, ◌<◌, ◌≤◌, ◌^◌, ℕ, [], false, length, drop, nat_le, slice_index, slice_range, IfNone, IfSome};
 ghost use Rattle.gcl_model.specs.Collections.{is_boundary as is_boundary_token};
-ghost use Rattle.gcl_model.specs.Tokens.{is_blank as is_blank_byte, starts_with_byte};
-ghost use Rattle.gcl_parser.specs.QueryTokens.{terms_of, quoted_token, quoted_piece, width_piece, sign_piece, first_piece, one_token};
+ghost use Rattle.gcl_model.specs.Tokens.{is_blank as is_blank_byte, starts_with_byte, tokens_of};
+ghost use Rattle.gcl_parser.specs.QueryTokens.{terms_of, quoted_token, prefix_token, closed_piece, quoted_piece, width_piece, sign_piece, first_piece, one_token};
 ghost use Rattle.gcl_parser.specs.Scanned.{shown, HasRange, IsPiece, IsNext, tokens_from};
 
 use crate::fault::QueryKind;
 use crate::token::{Joint, PlacedToken, Token};
 use crate::width::{digit_count, width_of};
+use crate::word::is_one_word;
 use gcl_model::{Containment, file_end, file_start, is_blank};
 use memchr::memchr;
 use word_tokens::token_count;
@@ -60,7 +61,37 @@ fn quoted(text: &[u8], at: usize) -> PlacedToken
     let from = at + 1;
     match memchr(b'"', &text[from..]) {
         None => placed(at, 1, Token::Broken(QueryKind::OpenQuote)),
-        Some(size) => placed(at, size + 2, content(text, from, from + size)),
+        Some(size) => closed(text, at, from + size),
+    }
+}
+
+/// The quoted text between the quotes at two places, with the `*` that follows at once.
+fn closed(text: &[u8], at: usize, end: usize) -> PlacedToken
+    requires order { at < end }
+    requires within { end < length text.now }
+    ensures { IsPiece text.now at (closed_piece (slice_range text.now (at + 1) end) (starts_with_byte 42 (drop (end + 1) text.now))) result }
+{
+    let size = end + 1 - at;
+    if !stands(text, end + 1, b'*') {
+        return placed(at, size, content(text, at + 1, end));
+    }
+    placed(at, size + 1, prefix(text, at + 1, end))
+}
+
+/// What stands between two quotes with a `*` behind them, from one place to another.
+fn prefix(text: &[u8], from: usize, to: usize) -> Token
+    requires order { from ≤ to }
+    requires within { to ≤ length text.now }
+    ensures token { shown text.now result ≡ prefix_token (tokens_of (slice_range text.now from to)) }
+    ensures range { HasRange text.now result }
+{
+    let content = &text[from..to];
+    if token_count(content) == 0 {
+        Token::Broken(QueryKind::EmptyTerm)
+    } else if is_one_word(content) {
+        Token::Prefix(from, to)
+    } else {
+        Token::Broken(QueryKind::BadPrefix)
     }
 }
 

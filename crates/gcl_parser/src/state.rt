@@ -47,6 +47,7 @@ impl State {
         match token {
             Token::Broken(kind) => Err(kind),
             Token::Quoted(_, _) => self.pass_operand(),
+            Token::Prefix(_, _) => self.pass_operand(),
             Token::Width(_) => self.pass_operand(),
             Token::Joint(_) => self.pass_operator(),
             Token::Containment(_) => self.pass_operator(),

@@ -17,6 +17,8 @@ pub enum Joint {
 pub enum Token {
     /// A quoted text: the bytes from the first place up to the second, without its quotes.
     Quoted(usize, usize),
+    /// A quoted text of one word, with a `*` right behind it: the bytes as for `Quoted`, without quotes and `*`.
+    Prefix(usize, usize),
     /// A width, 1 to 2^56.
     Width(u64),
     Joint(Joint),

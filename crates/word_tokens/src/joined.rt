@@ -64,9 +64,9 @@ impl TokenText {
 pub(crate) fn append_lower_case(bytes: &mut Vec<u8>, name: &[u8]) -> Result<(), AllocError>
     ensures { OnOk result (bytes.new.items ≡ bytes.old.items ++ map to_ascii_lowercase name.now) }
 {
-    for b in name {
-        bytes.push(b.to_ascii_lowercase())?;
-    }
+    let start = bytes.len();
+    bytes.extend_from_slice(name)?;
+    bytes[start..].make_ascii_lowercase();
     Ok(())
 }
 

@@ -22,6 +22,3 @@ pub use cut::{is_spelled, is_token, token_count, token_text, tokens};
 pub use joined::TokenText;
 pub use laws::tokens_are_tokens;
 pub use lexeme::{Lexeme, first_lexeme};
-
-#[cfg(test)]
-mod tests;

@@ -85,3 +85,10 @@ query-loop-containment-preserved t c =
     let part = c.in_ok-part.part in
     query_goes_on c.args.text.now c.args.at c.in-Some.next c.in-Some.containment c.loop-containment.whole part record { expr = c.in_ok-containment_node.field-0; end = part.end }
     c.loop-containment.invariant c.in-Some.ensures.next c.in-Some.ensures.later c.in_ok-part.ensures c.in_ok-containment_node.ensures refl
+
+pub operand-returns-in_ok-prefix_node-in-Prefix : goal.operand-returns-in_ok-prefix_node-in-Prefix
+operand-returns-in_ok-prefix_node-in-Prefix t c =
+    let text = c.args.text.now in
+    let placed = c.in-Some.placed in
+    single_read text c.args.at placed _ record { expr = c.in_ok-prefix_node-in-Prefix.field-0; end = placed.end } c.in-Some.ensures.some (ap (λ token. shown text token) c.in-Prefix.is)
+    c.in_ok-prefix_node-in-Prefix.ensures refl

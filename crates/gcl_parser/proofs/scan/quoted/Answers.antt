@@ -1,7 +1,9 @@
-use Rattle.std.proofs.Common.{◌≡◌, ◌+◌, ◌-◌, ◌<◌, length, drop, take, ap, sym, ◌∙◌, arith}
+use Rattle.std.proofs.Common.{◌≡◌, ◌+◌, ◌-◌, ◌<◌, length, drop, take, ap, sym, subst, ◌∙◌, arith}
+use Rattle.gcl_model.specs.Tokens.{starts_with_byte}
 use Rattle.gcl_parser.specs.declared.fault.QueryKind.TheVariants.{OpenQuote}
 use Rattle.gcl_parser.specs.declared.token.Token.TheVariants as T
-use Rattle.gcl_parser.specs.QueryTokens.{quoted_piece, quoted_token, terms_of, one_token}
+use Rattle.gcl_parser.specs.QueryTokens.{quoted_piece, closed_piece}
+use Rattle.gcl_parser.specs.Scanned.{IsPiece}
 use Rattle.gcl_parser.proofs.Runs.{piece_of, quote_behind, no_quote_behind}
 use Rattle.gcl_parser.proofs.scan.quoted.Goals as goal
 
@@ -12,6 +14,11 @@ returns-in-None c =
     piece_of text at (quoted_piece (drop (at + 1) text)) c.placed.result 1 (T.Broken OpenQuote) c.placed.ensures
     (no_quote_behind text (at + 1) c.in-None.ensures) (omega arith) tt
 
+pub closed-requires : goal.closed-requires
+closed-requires c =
+    let found = quote_behind c.args.text.now (c.args.at + 1) c.in-Some.size c.in-Some.ensures.0 c.in-Some.ensures.1 in
+    record { order = omega arith; within = found.short }
+
 pub returns-in-Some : goal.returns-in-Some
 returns-in-Some c =
     let text = c.args.text.now in
@@ -19,9 +26,6 @@ returns-in-Some c =
     let bytes = drop (at + 1) text in
     let k = c.in-Some.size in
     let found = quote_behind text (at + 1) k c.in-Some.ensures.0 c.in-Some.ensures.1 in
-    let short : at + 1 + k < length text = found.short in
-    let width : k ≡ at + 1 + k - (at + 1) = omega arith in
-    piece_of text at (quoted_piece bytes) c.placed-in-Some.result (k + 2) c.content.result c.placed-in-Some.ensures
-    (found.piece
-    ∙ ap (λ n. one_token (quoted_token (terms_of (take n bytes))) (k + 2)) width
-    ∙ ap (λ token. one_token token (k + 2)) (sym c.content.ensures.token)) (omega arith) c.content.ensures.range
+    let width : at + 1 + k - (at + 1) ≡ k = omega arith in
+    subst (λ piece. IsPiece text at piece c.closed.result)
+    (ap (λ n. closed_piece (take n bytes) (starts_with_byte 42 (drop (at + 1 + k + 1) text))) width ∙ sym found.piece) c.closed.ensures

@@ -3,7 +3,8 @@ use Rattle.std.specs.Prelude.{slice_range}
 use Rattle.gcl_model.specs.Forms.{width}
 use Rattle.gcl_parser.specs.declared.fault.QueryKind.{QueryKind}
 use Rattle.gcl_parser.specs.declared.state.State.{State}
-use Rattle.gcl_parser.specs.QueryTokens.{quoted_form, terms_of}
+use Rattle.gcl_model.specs.Tokens.{tokens_of}
+use Rattle.gcl_parser.specs.QueryTokens.{prefix_form, quoted_form, terms_of}
 use Rattle.gcl_parser.proofs.state.State.pass.Goals as goal
 
 ok_map : (P Q : State → Type 0) (r : Result State QueryKind) → IfOk r P → ((next : State) → P next → Q next) → IfOk r Q
@@ -49,3 +50,13 @@ pub returns-in-Containment-clause-err : goal.returns-in-Containment-clause-err
 returns-in-Containment-clause-err c =
     err_map _ _ c.pass_operator-in-Containment.result c.pass_operator-in-Containment.ensures.containment_err
     (λ kind h text. rw c.in-Containment.is (h c.in-Containment.field-0))
+
+pub returns-in-Prefix-clause-ok : goal.returns-in-Prefix-clause-ok
+returns-in-Prefix-clause-ok c =
+    ok_map _ _ c.pass_operand-in-Prefix.result c.pass_operand-in-Prefix.ensures.ok
+    (λ next h text. rw c.in-Prefix.is (h (prefix_form (tokens_of (slice_range text c.in-Prefix.field-0 c.in-Prefix.field-1)))))
+
+pub returns-in-Prefix-clause-err : goal.returns-in-Prefix-clause-err
+returns-in-Prefix-clause-err c =
+    err_map _ _ c.pass_operand-in-Prefix.result c.pass_operand-in-Prefix.ensures.err
+    (λ kind h text. rw c.in-Prefix.is (h (prefix_form (tokens_of (slice_range text c.in-Prefix.field-0 c.in-Prefix.field-1)))))

@@ -1,0 +1,4 @@
+pub mod Alike
+pub mod Bounds
+pub mod Locality
+mod Worked

@@ -1,0 +1,125 @@
+-- Worked examples of where two texts agree and of the addresses between which lists differ, computed.
+use Rattle.std.specs.Prelude.{◌≡◌, ℕ, List, true, false, [], ◌∷◌, ◌++◌, None, Some, refl, codes}
+use Rattle.gcl_model.specs.Extents.{extent}
+use Rattle.gcl_model.specs.Texts.{Text, Word}
+use Rattle.gcl_model.specs.Forms.{Form, term, width, seq, both, containing, contained_in, not_contained_in, no_forms, more_forms}
+use Rattle.gcl_model.specs.Wide.{wide}
+use Rattle.gcl_locality.specs.Agreement.{has_address}
+use Rattle.gcl_locality.specs.Changed.{earlier_start, later_end, changed_from, changed_upto, is_lost, differs, touches, looks_around}
+
+abbrev word : ℕ → List ℕ → Word
+word p token = record { address = p; token = token }
+
+abbrev hamlet : List Word
+hamlet = word 0 (codes "<file!>") ∷ word 1 (codes "to") ∷ word 2 (codes "be") ∷ word 3 (codes "or") ∷ word 4 (codes "not")
+    ∷ word 5 (codes "to") ∷ word 6 (codes "be") ∷ word 7 (codes "</file!>") ∷ []
+
+-- `to be or not to be`
+abbrev before : Text
+before = record { first = 0; next = 8; words = hamlet }
+
+-- and then a file with the word `x`, at 8 to 10
+abbrev after : Text
+after = record { first = 0; next = 11; words = hamlet ++ word 8 (codes "<file!>") ∷ word 9 (codes "x") ∷ word 10 (codes "</file!>") ∷ [] }
+
+abbrev to : Form
+to = term (codes "to")
+
+abbrev be : Form
+be = term (codes "be")
+
+abbrev x : Form
+x = term (codes "x")
+
+abbrev followed : Form → Form → Form
+followed a b = seq (more_forms a (more_forms b no_forms))
+
+an_old_address : has_address before 7 ≡ true
+an_old_address = refl
+
+a_new_address : has_address before 8 ≡ false
+a_new_address = refl
+
+-- a chain that ends in the new file: what comes touches it, though it starts before
+abbrev chain : Form
+chain = followed be x
+
+a_chain_before : wide before chain ≡ []
+a_chain_before = refl
+
+a_chain_after : wide after chain ≡ extent 6 9 ∷ []
+a_chain_after = refl
+
+a_chain_changes_from : changed_from before after 8 chain ≡ 8
+a_chain_changes_from = refl
+
+a_chain_changes_upto : changed_upto before after 10 chain ≡ 10
+a_chain_changes_upto = refl
+
+it_came : is_lost (wide after chain) (wide before chain) (extent 6 9) ≡ true
+it_came = refl
+
+it_touches_the_file : touches 8 10 (extent 6 9) ≡ true
+it_touches_the_file = refl
+
+-- "be" /< ("to".."x"): with the file there is (5, 9), in which the `be` at 6 lies
+abbrev watched : Form
+watched = not_contained_in be (followed to x)
+
+watched_before : wide before watched ≡ extent 2 2 ∷ extent 6 6 ∷ []
+watched_before = refl
+
+watched_after : wide after watched ≡ extent 2 2 ∷ []
+watched_after = refl
+
+its_second_operand : wide after (followed to x) ≡ extent 5 9 ∷ []
+its_second_operand = refl
+
+watched_changes_from : changed_from before after 8 watched ≡ 5
+watched_changes_from = refl
+
+watched_changes_upto : changed_upto before after 10 watched ≡ 10
+watched_changes_upto = refl
+
+-- were `<` and `/<` taken to change only where their operands do, from 8 to 10, this `be` would be lost unseen
+it_went : differs (wide before watched) (wide after watched) (extent 6 6) ≡ true
+it_went = refl
+
+it_does_not_touch_the_file : touches 8 10 (extent 6 6) ≡ false
+it_does_not_touch_the_file = refl
+
+it_touches_what_is_looked_at : touches 5 10 (extent 6 6) ≡ true
+it_touches_what_is_looked_at = refl
+
+-- the same with `<`, where it comes, and read from the other end: the file goes
+it_came_inside : is_lost (wide after (contained_in be (followed to x))) (wide before (contained_in be (followed to x))) (extent 6 6) ≡ true
+it_came_inside = refl
+
+gone_changes_from : changed_from after before 8 watched ≡ 5
+gone_changes_from = refl
+
+-- where the first file goes, what contains the word of the second one is looked at on its other side
+abbrev last : Text
+last = record { first = 0; next = 11; words = word 8 (codes "<file!>") ∷ word 9 (codes "x") ∷ word 10 (codes "</file!>") ∷ [] }
+
+gone_changes_upto : changed_upto after last 7 (contained_in x (followed be x)) ≡ 9
+gone_changes_upto = refl
+
+-- the wide list of `t*` and a containment of it
+a_prefix_term : wide after (containing (followed (term (codes "t*")) x) be) ≡ extent 5 9 ∷ []
+a_prefix_term = refl
+
+a_width_before : wide before (width 7) ≡ extent 0 6 ∷ extent 1 7 ∷ []
+a_width_before = refl
+
+no_earlier_start : earlier_start 8 None ≡ 8
+no_earlier_start = refl
+
+a_later_end : later_end 8 (Some (extent 5 9)) ≡ 9
+a_later_end = refl
+
+followed_looks_not_around : looks_around (followed to x) ≡ false
+followed_looks_not_around = refl
+
+watched_looks_around : looks_around (both (more_forms watched (more_forms to no_forms))) ≡ true
+watched_looks_around = refl

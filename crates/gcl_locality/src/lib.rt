@@ -1,0 +1,16 @@
+//! Locality: what an expression denotes changes only near the words that change.
+//!
+//! Contracts see two texts that are the same at all addresses but those of a range, as before and after a file is added
+//! or deleted, and of each expression two addresses: what is in one of its two lists and not in the other ends at the
+//! first of them or later, and starts at the second or before. They are those of the range, but for `<` and `/<`: there
+//! a member may change far from the words that do, since what contains it ends there. With `to be or not to be` at 0 to
+//! 7 and then `x` at 8 to 10, the `be` at 6 goes from `"be" /< ("to".."x")`, and the first address is 5.
+//!
+//! The layer above finds the two addresses by a few accesses of the second operands, with `earlier_start` and `later_end`.
+#![tactic(auto)]
+
+mod addresses;
+mod laws;
+
+pub use addresses::{earlier_start, later_end, touches};
+pub use laws::{changes_are_local, contained_are_local_around, members_are_local};

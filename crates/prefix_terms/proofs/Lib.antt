@@ -1,0 +1,5 @@
+mod InRows
+mod Matches
+mod Costs
+mod Merges
+mod Worked

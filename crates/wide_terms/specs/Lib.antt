@@ -1,0 +1,4 @@
+pub mod Vocabulary
+pub mod Expansion
+pub mod Trees
+pub mod Laws

@@ -1,0 +1,187 @@
+ghost use Rattle.std.specs.Prelude.{◌≡◌, ◌+◌, ◌≤◌, IsTrue, List, map, IfOk};
+ghost use Rattle.gcl_model.specs.FormOf.{form_of, forms_from, containment_form};
+ghost use Rattle.gcl_model.specs.Forms.{more_forms, no_forms, one, term};
+ghost use Rattle.gcl_model.specs.Meaning.{concordance};
+ghost use Rattle.gcl_model.specs.WellFormed.{IsWellFormed};
+ghost use Rattle.gcl_model.specs.Wide.{is_prefix_term, prefix_of, wide};
+ghost use Rattle.wide_terms.specs.Expansion.{expansion, expansions, one_of_words, sum_of_prefixes, sums_of_prefixes, tree_of_words};
+
+use crate::asking::is_prefix_term;
+use crate::table::WordTable;
+use gcl_model::{Bytes, Containment, Expr, TokenList};
+use std::alloc::{AllocError, Global};
+
+/// So many words stand in one node of a tree.
+const NODE_WORDS: usize = 8;
+
+/// The expression with each prefix term replaced: by one of the words that begin with its prefix, by the word where there is one, and by
+/// itself where there is none. All else is copied. What it makes is the same whatever the table is: it depends on the text and the expression.
+///
+/// Over `to be or not to be` it makes `to .. be` of `t* .. b*`, and one of `not` and `or` of a table of these two and the prefix term `*`.
+pub fn expand<T: WordTable>(
+    alloc: Global,
+    table: &T,
+    expr: &Expr,
+    counter: &mut T::Counter,
+) -> Result<Expr, AllocError>
+    requires { IsWellFormed (form_of expr.now) }
+    ensures value { IfOk result (λ expanded. form_of expanded ≡ expansion (T.text table.now) (form_of expr.now)) }
+    ensures wide { IfOk result (λ expanded. concordance (T.text table.now) (form_of expanded) ≡ wide (T.text table.now) (form_of expr.now)) }
+    ensures well_formed { IfOk result (λ expanded. IsWellFormed (form_of expanded)) }
+    ensures counted { T.count counter.old ≤ T.count counter.new }
+    ensures cost { T.count counter.new ≤ T.count counter.old + sum_of_prefixes (T.most table.now) (form_of expr.now) }
+{
+    let expanded = expanded(alloc, table, expr, counter)?;
+    Ok(expanded)
+}
+
+/// The same of any expression.
+#[cycle(expand)]
+fn expanded<T: WordTable>(
+    alloc: Global,
+    table: &T,
+    expr: &Expr,
+    counter: &mut T::Counter,
+) -> Result<Expr, AllocError>
+    ensures value { IfOk result (λ expanded. form_of expanded ≡ expansion (T.text table.now) (form_of expr.now)) }
+    ensures counted { T.count counter.old ≤ T.count counter.new }
+    ensures cost { T.count counter.new ≤ T.count counter.old + sum_of_prefixes (T.most table.now) (form_of expr.now) }
+{
+    match expr {
+        Expr::Term(token) => expanded_term(alloc, table, token.as_slice(), counter),
+        Expr::Phrase(tokens) => Ok(Expr::Phrase(tokens.copy()?)),
+        Expr::Width(width) => Ok(Expr::Width(*width)),
+        Expr::Both(operands) => Ok(Expr::Both(expanded_each(alloc, table, operands, counter)?)),
+        Expr::One(operands) => Ok(Expr::One(expanded_each(alloc, table, operands, counter)?)),
+        Expr::Seq(operands) => Ok(Expr::Seq(expanded_each(alloc, table, operands, counter)?)),
+        Expr::Containing(a, b) => {
+            let first = expanded(alloc, table, a, counter)?;
+            let second = expanded(alloc, table, b, counter)?;
+            contained(alloc, Containment::Containing, first, second)
+        }
+        Expr::ContainedIn(a, b) => {
+            let first = expanded(alloc, table, a, counter)?;
+            let second = expanded(alloc, table, b, counter)?;
+            contained(alloc, Containment::ContainedIn, first, second)
+        }
+        Expr::NotContaining(a, b) => {
+            let first = expanded(alloc, table, a, counter)?;
+            let second = expanded(alloc, table, b, counter)?;
+            contained(alloc, Containment::NotContaining, first, second)
+        }
+        Expr::NotContainedIn(a, b) => {
+            let first = expanded(alloc, table, a, counter)?;
+            let second = expanded(alloc, table, b, counter)?;
+            contained(alloc, Containment::NotContainedIn, first, second)
+        }
+    }
+}
+
+#[cycle(expand)]
+fn expanded_each<T: WordTable>(
+    alloc: Global,
+    table: &T,
+    operands: &[Expr],
+    counter: &mut T::Counter,
+) -> Result<Vec<Expr>, AllocError>
+    ensures value { IfOk result (λ exprs. forms_from (map form_of exprs.items) ≡ expansions (T.text table.now) (forms_from (map form_of operands.now))) }
+    ensures counted { T.count counter.old ≤ T.count counter.new }
+    ensures cost { T.count counter.new ≤ T.count counter.old + sums_of_prefixes (T.most table.now) (forms_from (map form_of operands.now)) }
+{
+    let mut exprs = Vec::with_capacity(alloc, operands.len())?;
+    for operand in operands {
+        exprs.push(expanded(alloc, table, operand, counter)?)?;
+    }
+    Ok(exprs)
+}
+
+/// The containment of two expressions.
+fn contained(
+    alloc: Global,
+    containment: Containment,
+    first: Expr,
+    second: Expr,
+) -> Result<Expr, AllocError>
+    ensures { IfOk result (λ expr. form_of expr ≡ containment_form containment (form_of first) (form_of second)) }
+{
+    let first = Box::new(alloc, first)?;
+    let second = Box::new(alloc, second)?;
+    Ok(match containment {
+        Containment::Containing => Expr::Containing(first, second),
+        Containment::ContainedIn => Expr::ContainedIn(first, second),
+        Containment::NotContaining => Expr::NotContaining(first, second),
+        Containment::NotContainedIn => Expr::NotContainedIn(first, second),
+    })
+}
+
+/// A term: itself, or the words that a prefix term stands for.
+fn expanded_term<T: WordTable>(
+    alloc: Global,
+    table: &T,
+    token: &[u8],
+    counter: &mut T::Counter,
+) -> Result<Expr, AllocError>
+    ensures value { IfOk result (λ expanded. form_of expanded ≡ expansion (T.text table.now) (term token.now)) }
+    ensures counted { T.count counter.old ≤ T.count counter.new }
+    ensures cost { T.count counter.new ≤ T.count counter.old + sum_of_prefixes (T.most table.now) (term token.now) }
+{
+    if !is_prefix_term(token) {
+        return term(alloc, token);
+    }
+    let prefix = &token[..token.len() - 1];
+    let words = table.matching(alloc, prefix, counter)?;
+    one_of_words(alloc, token, words.as_slice())
+}
+
+/// One of these words, or the word alone, or the term where there is none.
+fn one_of_words(alloc: Global, token: &[u8], words: &[Bytes]) -> Result<Expr, AllocError>
+    ensures { IfOk result (λ expr. form_of expr ≡ one_of_words token.now words.now) }
+{
+    match words {
+        [] => term(alloc, token),
+        [word] => term(alloc, word.as_slice()),
+        _ => tree_of_words(alloc, words, words.len() / NODE_WORDS),
+    }
+}
+
+/// One of these words. Of more than `NODE_WORDS` it is one of the two halves: a reader that asks for the next place of any of
+/// them then asks few nodes again. With each level the words are half as many, so as many levels as there are full nodes are
+/// always enough.
+fn tree_of_words(alloc: Global, words: &[Bytes], levels: usize) -> Result<Expr, AllocError>
+    ensures { IfOk result (λ expr. form_of expr ≡ tree_of_words levels words.now) }
+{
+    if levels == 0 || words.len() <= NODE_WORDS {
+        return Ok(Expr::One(terms(alloc, words)?));
+    }
+    let (front, behind) = words.split_at(words.len() / 2);
+    let first = tree_of_words(alloc, front, levels - 1)?;
+    let second = tree_of_words(alloc, behind, levels - 1)?;
+    one_of_two(alloc, first, second)
+}
+
+/// One of two expressions.
+fn one_of_two(alloc: Global, first: Expr, second: Expr) -> Result<Expr, AllocError>
+    ensures { IfOk result (λ expr. form_of expr ≡ one (more_forms (form_of first) (more_forms (form_of second) no_forms))) }
+{
+    let mut operands = Vec::with_capacity(alloc, 2)?;
+    operands.push(first)?;
+    operands.push(second)?;
+    Ok(Expr::One(operands))
+}
+
+/// Each word as a term.
+fn terms(alloc: Global, words: &[Bytes]) -> Result<Vec<Expr>, AllocError>
+    ensures { IfOk result (λ exprs. map form_of exprs.items ≡ map term words.now) }
+{
+    let mut exprs = Vec::with_capacity(alloc, words.len())?;
+    for word in words {
+        exprs.push(term(alloc, word.as_slice())?)?;
+    }
+    Ok(exprs)
+}
+
+fn term(alloc: Global, token: &[u8]) -> Result<Expr, AllocError>
+    ensures { IfOk result (λ expr. form_of expr ≡ term token.now) }
+{
+    Ok(Expr::Term(Bytes::copy_of(alloc, token)?))
+}
