@@ -14,7 +14,7 @@ use crate::faults::AddFault;
 use address_space::{AddressesSpent, FileId, FileRecord, Range, place};
 use gcl_model::{ADDRESS_END, Bytes};
 use live_version::Version;
-use shard_build::{Names, build_text};
+use shard_build::{TextIndex, index_text};
 use shard_merge::merge;
 use std::alloc::{AllocError, Global};
 use std::sync::Wait;
@@ -30,23 +30,84 @@ impl Engine {
             (address_end < next + need) }
         ensures err { OnErr result (self.new ≡ self.old) }
     {
-        let need = width(bytes);
+        find_room(self.version().next(), bytes)?;
+        let index = self.index(bytes)?;
+        let added = self.put_index(rt, name, index)?;
+        Ok(added)
+    }
+
+    /// Adds a file of the text whose index was made ahead, and publishes once. At `Err` nothing was published. What it does is what `add`
+    /// does with that text: the index is placed, which needs no look at the text.
+    pub fn add_indexed<R: Wait>(
+        &mut self,
+        rt: &R,
+        name: &[u8],
+        index: TextIndex,
+    ) -> Result<Added, AddFault>
+        requires { is_name name.now ≡ true }
+        ensures ok { IfOk result (IsAdd self.old self.new name.now index) }
+        ensures fits { OnOk result (self.old.version.next + width_of index ≤ address_end) }
+        ensures spent { (next : ℕ) → (need : ℕ) → IsErrOf result (Spent next need) → (next ≡ self.old.version.next) × (need ≡ width_of index) ×
+            (address_end < next + need) }
+        ensures err { OnErr result (self.new ≡ self.old) }
+    {
+        place_file(self.version().next(), index.width())?;
+        let added = self.put_index(rt, name, index)?;
+        Ok(added)
+    }
+
+    /// The index of a text, made with the names that are kept from add to add.
+    fn index(&mut self, bytes: &[u8]) -> Result<TextIndex, AllocError>
+        requires { width_of (tokens_of bytes.now) ≤ address_end }
+        ensures index { IfOk result (λ index. index ≡ tokens_of bytes.now) }
+        ensures same { self.new ≡ self.old }
+    {
+        let mut names = self.lend_names();
+        let made = index_text(self.allocator(), &mut names, bytes);
+        self.keep_names(names);
+        made
+    }
+
+    /// Adds a file of the text with this index, for which there is room, and publishes once.
+    fn put_index<R: Wait>(
+        &mut self,
+        rt: &R,
+        name: &[u8],
+        index: TextIndex,
+    ) -> Result<Added, AllocError>
+        requires named { is_name name.now ≡ true }
+        requires fits { self.old.version.next + width_of index ≤ address_end }
+        ensures ok { IfOk result (IsAdd self.old self.new name.now index) }
+        ensures err { OnErr result (self.new ≡ self.old) }
+    {
+        let width = index.width();
         let last = self.version();
         let id = FileId(last.next_id());
-        let range = place_file(last.next(), need)?;
-        let mut names = self.lend_names();
-        let last = self.version();
-        let made = with_file(self.allocator(), &mut names, last, name, bytes, need);
-        self.keep_names(names);
-        let version = made?;
+        let first = last.next();
+        let version = with_file(self.allocator(), last, name, index)?;
         let receipt = self.publish(rt, version)?;
         Ok(Added {
             id,
-            first: range.first,
-            last: range.last,
+            first,
+            last: first + width - 1,
             receipt,
         })
     }
+}
+
+/// Whether there is room from `next` on for a file of these bytes.
+// Where more addresses are left than any text of so many bytes needs, its tokens are not counted.
+fn find_room(next: u64, bytes: &[u8]) -> Result<(), AddressesSpent>
+    requires { next ≤ address_end }
+    ensures ok { OnOk result (next + width_of (tokens_of bytes.now) ≤ address_end) }
+    ensures spent { IfErr result (λ spent. (spent.next ≡ next) × (spent.need ≡ width_of (tokens_of bytes.now)) × (address_end < next + width_of (tokens_of bytes.now))) }
+{
+    let left = ADDRESS_END - next;
+    if left >= 2 && bytes.len() as u64 <= left - 2 {
+        return Ok(());
+    }
+    place_file(next, width(bytes))?;
+    Ok(())
 }
 
 /// How many addresses a file of these bytes needs.
@@ -78,30 +139,27 @@ fn place_file(next: u64, need: u64) -> Result<Range, AddressesSpent>
     place(next, need)
 }
 
-/// The version with a file of these bytes more, which needs so many addresses, and whose last slots are made one as far as the rule of adding goes.
+/// The version with a file more, of the text with this index, and whose last slots are made one as far as the rule of adding goes.
 fn with_file(
     alloc: Global,
-    names: &mut Names,
     last: &Version,
     name: &[u8],
-    bytes: &[u8],
-    need: u64,
+    index: TextIndex,
 ) -> Result<Version, AllocError>
     requires few { length last.now.slots < most_slots }
     requires ids { last.now.next_id < version_end }
     requires number { last.now.number + 1 < version_end }
-    requires need { need ≡ width_of (tokens_of bytes.now) }
-    requires fits { last.now.next + width_of (tokens_of bytes.now) ≤ address_end }
+    requires fits { last.now.next + width_of index ≤ address_end }
     requires named { is_name name.now ≡ true }
-    ensures { IfOk result (λ version. AddsFileTo last.now version name.now (tokens_of bytes.now)) }
+    ensures { IfOk result (λ version. AddsFileTo last.now version name.now index) }
 {
     let file = FileRecord {
         id: FileId(last.next_id()),
         base: last.next(),
-        len: need,
+        len: index.width(),
         name: Bytes::copy_of(alloc, name)?,
     };
-    let shard = build_text(alloc, names, last.next(), bytes)?;
+    let shard = index.placed(last.next());
     let grown = last.with_file(file, shard)?;
     let version = settled(alloc, last, grown)?;
     Ok(version)

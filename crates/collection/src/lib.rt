@@ -21,3 +21,4 @@ mod laws;
 pub use engine::{Added, Engine, Opened};
 pub use faults::{AddFault, AdoptFault, DeleteFault, OpenFault};
 pub use laws::calls_reach;
+pub use shard_build::{Names, TextIndex, can_index, index_text};

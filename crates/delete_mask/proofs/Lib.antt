@@ -2,3 +2,4 @@ pub mod MaskLemmas
 pub mod Joining
 pub mod Halving
 mod Worked
+pub mod PartLemmas

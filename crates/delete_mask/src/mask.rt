@@ -36,6 +36,13 @@ impl Mask {
         }
     }
 
+    pub(crate) fn of(ranges: Vec<Range>) -> Self
+        requires { AreRangesWithin 0 address_end ranges.items }
+        ensures { result ≡ ranges.items }
+    {
+        Mask { ranges }
+    }
+
     /// The number of dead ranges.
     pub fn range_count(&self) -> usize
         ensures { result ≡ length self.now }

@@ -21,6 +21,3 @@ pub use laws::{
     collections_have_spellings,
 };
 pub use whole::{MARK_ONE, MARK_TWO, image};
-
-#[cfg(test)]
-mod tests;

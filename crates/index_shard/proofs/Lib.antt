@@ -4,4 +4,5 @@ pub mod Walks
 pub mod Heads
 pub mod KeptTables
 pub mod PartEnds
+pub mod MovedUp
 mod Worked

@@ -5,6 +5,7 @@ use Rattle.std.specs.List.{AllByRecursion}
 use Rattle.std.specs.Ordering.{nat_cmp, ordering_then}
 use Rattle.std.specs.declared.cmp.Ordering.{Ordering}
 use Rattle.std.specs.Cmp.Lexicographic.{slice_cmp}
+use Rattle.posting_code.specs.Moved.{moved_address}
 use Rattle.posting_code.specs.Packed.{IsKeptTo, kept, last_of}
 use Rattle.index_shard.specs.Tables.{TermEntry}
 use Rattle.index_shard.specs.declared.entry.Entry.{Entry}
@@ -73,3 +74,11 @@ pub record IsPutShort (packed : List ℕ) (addresses : List ℕ) (list : Kept) :
 -- the entry of a term that is put after the bytes
 abbrev pub kept_entry : List ℕ → List ℕ → Kept → Entry
 kept_entry bytes term list = record { head = leading 8 0 term; start = length bytes; size = length term; list = list }
+
+-- where postings are kept once they are moved up: long lists keep their places
+abbrev pub moved_kept : ℕ → Kept → Kept
+moved_kept by (Short first last at size count) = Short (moved_address by first) (moved_address by last) at size count
+moved_kept by (Long place) = Long place
+
+abbrev pub moved_entry : ℕ → Entry → Entry
+moved_entry by entry = record entry { list = moved_kept by entry.list }

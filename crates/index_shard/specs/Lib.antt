@@ -2,3 +2,4 @@ pub mod Tables
 pub mod Searched
 pub mod Laws
 pub mod Kept
+pub mod Moved

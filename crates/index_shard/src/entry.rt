@@ -1,5 +1,5 @@
-ghost use Rattle.std.specs.Prelude.{◌≡◌, get_or};
-ghost use Rattle.index_shard.specs.Kept.{AreBytes, IsListIn, leading, list_in, part_of, order_in};
+ghost use Rattle.std.specs.Prelude.{◌≡◌, get_or, map};
+ghost use Rattle.index_shard.specs.Kept.{AreBytes, IsListIn, leading, list_in, moved_entry, moved_kept, part_of, order_in};
 
 use posting_code::{PostingRows, Postings};
 use std::cmp::Ordering;
@@ -58,6 +58,39 @@ impl Entry {
             Ordering::Equal => self.term(bytes).cmp(term),
             Ordering::Greater => Ordering::Greater,
         }
+    }
+}
+
+impl Kept {
+    /// Where the same postings are kept once they are moved up. A long list is moved where it stands.
+    fn moved(self, by: u64) -> Kept
+        ensures { result ≡ moved_kept by self }
+    {
+        match self {
+            Kept::Short {
+                first,
+                last,
+                at,
+                size,
+                count,
+            } => Kept::Short {
+                first: first.saturating_add(by),
+                last: last.saturating_add(by),
+                at,
+                size,
+                count,
+            },
+            Kept::Long(place) => Kept::Long(place),
+        }
+    }
+}
+
+/// Moves the postings of some entries up, but for those in long lists.
+pub(crate) fn move_entries(entries: &mut [Entry], by: u64)
+    ensures { entries.new ≡ map (moved_entry by) entries.old }
+{
+    for entry in entries.iter_mut() {
+        entry.list = entry.list.moved(by);
     }
 }
 

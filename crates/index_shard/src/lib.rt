@@ -25,6 +25,3 @@ pub use maker::ShardMaker;
 pub use room::Room;
 pub use shard::Shard;
 pub use walk::Walk;
-
-#[cfg(test)]
-mod tests;

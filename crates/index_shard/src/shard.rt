@@ -1,6 +1,8 @@
 ghost use Rattle.std.specs.Prelude.{◌≡◌, ◌+◌, ◌<◌, length, map, option_map, MatchOption, None, Some, IfSome, slice_get};
+ghost use Rattle.gcl_model.specs.Limits.{address_end};
 ghost use Rattle.index_shard.specs.Kept.{AreBytes, leading};
-ghost use Rattle.index_shard.specs.Tables.{IsShard, TermEntry, postings_of, addresses_at, place_of, least_term};
+ghost use Rattle.index_shard.specs.Tables.{IsShard, TermEntry, postings_of, addresses_at, place_of, least_term, words_of};
+ghost use Rattle.index_shard.specs.Moved.{moved_range, moved_shard, moved_words};
 ghost use Rattle.index_shard.specs.Searched.{look_up};
 ghost use Rattle.posting_access.specs.Search.{RisesByDigits};
 
@@ -39,6 +41,26 @@ impl Shard {
         ensures table { result.table ≡ table }
     {
         Shard { range, table }
+    }
+
+    /// The addresses that it is about.
+    pub fn range(&self) -> Range
+        ensures value { result ≡ self.now.range }
+        ensures shard { IsShard self.now }
+    {
+        self.range
+    }
+
+    /// The same shard at addresses that are greater by a number. It takes a step for each term and each block, and no memory.
+    pub fn moved(self, by: u64) -> Shard
+        requires { self.range.last + by < address_end }
+        ensures value { result ≡ moved_shard by self }
+        ensures words { words_of result ≡ moved_words by (words_of self) }
+    {
+        let range = moved_range(self.range, by);
+        let mut table = self.table;
+        table.move_up(by);
+        Shard::of(range, table)
     }
 
     /// The posting of the term that is nearest to `k` on one side. It is one step.
@@ -151,6 +173,17 @@ impl Shard {
         ensures shard { IsShard self.now }
     {
         Walk::new(self.table.postings_at(i))
+    }
+}
+
+/// The range at addresses that are greater by a number.
+fn moved_range(range: Range, by: u64) -> Range
+    requires { range.last + by < address_end }
+    ensures { result ≡ moved_range by range }
+{
+    Range {
+        first: range.first + by,
+        last: range.last + by,
     }
 }
 

@@ -1,11 +1,12 @@
 ghost use Rattle.std.specs.Prelude.{◌≡◌, ◌<◌, ◌++◌, ◌∷◌, [], length, map, option_map, slice_get, MatchOption, None, Some, IfSome, OnOk, OnErr};
-ghost use Rattle.std.specs.List.{concat};
+ghost use Rattle.std.specs.List.{AllByRecursion, concat};
 ghost use Rattle.gcl_model.specs.Slots.{SlotRange};
 ghost use Rattle.posting_code.specs.Postings.{ArePostings};
 ghost use Rattle.index_shard.specs.Kept.{AreBytes, AreEndsOf, leading};
+ghost use Rattle.index_shard.specs.Moved.{CanMove, moved_term};
 ghost use Rattle.index_shard.specs.Tables.{IsTable, TermEntry, postings_of, addresses_at, place_of, least_term};
 
-use crate::entry::{Entry, Kept, head_of, lent};
+use crate::entry::{Entry, Kept, head_of, lent, move_entries};
 use crate::find::{find_place, place_from};
 use crate::parts::{Ends, ends_of, put_entry, put_short};
 use crate::room::{Room, long_room};
@@ -127,6 +128,15 @@ impl TermTable {
         let kept = Kept::Long(place);
         put_entry(&mut self.bytes, &mut self.entries, head, term, kept)?;
         Ok(())
+    }
+
+    /// Moves all postings up. No list is unpacked.
+    pub(crate) fn move_up(&mut self, by: u64)
+        requires { AllByRecursion (CanMove by) self.old }
+        ensures { self.new ≡ map (moved_term by) self.old }
+    {
+        move_entries(&mut self.entries, by);
+        self.long.move_up(by);
     }
 
     /// What it takes.

@@ -17,7 +17,8 @@ use Rattle.live_version.specs.Changes.{opened, slot_of_file, version_with_file}
 use Rattle.live_version.specs.StandsFor.{StandsFor, entry_of}
 use Rattle.gcl_model.proofs.Lists.{all_append, all_weaker, all_both, all_filter, filter_all}
 use Rattle.live_version.proofs.ChangeRanges.{ranges_push}
-use Rattle.live_version.proofs.ChangeFiles.{is_of_file-inside, last_of_all, run_length}
+use Rattle.live_version.proofs.ChangeFiles.{is_of_file-inside, run_length}
+use Rattle.file_runs.proofs.RunLemmas.{last_of_all}
 
 opened_none : (first next next_id : ℕ) → first ≤ next → next ≤ address_end → IsVersion (opened first next next_id None)
 opened_none first next next_id le in_range = record {

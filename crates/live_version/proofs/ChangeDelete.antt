@@ -13,12 +13,13 @@ use Rattle.delete_mask.proofs.Joining.{is_dead-with_range, length-with_range, Ar
 use Rattle.live_version.specs.Contents.{SlotContent, VersionContent, IsSlot, IsVersion, LiesIn, is_of_file, is_of_files, ranges_of, files_of, dead_of, live_of, live_words}
 use Rattle.std.proofs.Math.Bool.{or_assoc}
 use Rattle.std.proofs.lemmas.List.Folds.{list_any-append}
-use Rattle.live_version.proofs.FileLemmas.{find_in_first, find_in_rest}
+use Rattle.file_runs.proofs.FileLemmas.{find_in_first, find_in_rest}
 use Rattle.live_version.specs.Changes.{file_with_id, slot_without, version_without_file, KillsFile}
 use Rattle.live_version.specs.StandsFor.{StandsFor, entry_of}
 use Rattle.gcl_model.proofs.Lists.{all_left, all_right, all_weaker, all_filter, filter_kept, filter_gone, filter_twice, filter-map, length-filter_found, found_passes}
 use Rattle.gcl_model.proofs.Cases.{or_swap}
-use Rattle.live_version.proofs.ChangeFiles.{has_id, survives, is_of_file-inside, is_within-range_of, IsSorted, all_found, none_passes, run_sorted, survivors_apart, survivors_have, survivors_were, run_survives, run_left, run_right, none_behind}
+use Rattle.live_version.proofs.ChangeFiles.{has_id, is_of_file-inside, is_within-range_of, IsSorted, all_found, none_passes, run_sorted, survivors_apart, survivors_have, survivors_were, none_behind}
+use Rattle.file_runs.proofs.RunLemmas.{survives, run_survives, run_left, run_right}
 use Rattle.std.proofs.lemmas.List.Elements.{filter-append}
 
 -- what is left of a slot where a file with the id goes

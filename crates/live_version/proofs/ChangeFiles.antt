@@ -6,14 +6,11 @@ use Rattle.address_space.specs.Runs.{FileEntry, Precedes, IsFileRun, last_file, 
 use Rattle.delete_mask.specs.Masks.{is_within}
 use Rattle.live_version.specs.Contents.{is_of_file, is_of_files}
 use Rattle.live_version.specs.Changes.{file_with_id}
-use Rattle.gcl_model.proofs.Lists.{all_kept}
+use Rattle.file_runs.proofs.RunLemmas.{survives}
 
 -- the test by which a file is deleted
 abbrev pub has_id : ℕ → FileEntry → Bool
 has_id id file = eqb file.id id
-
-abbrev pub survives : ℕ → FileEntry → Bool
-survives id file = not (eqb file.id id)
 
 -- an address is one of a file's exactly within its bounds
 pub is_of_file-bounds : (p : ℕ) (file : FileEntry) → is_of_file p file ≡ true → (file.base ≤ p) × (p < file.base + file.len)
@@ -139,27 +136,6 @@ survivors_were id (file ∷ files) p e = here (survives id file) e (survivors_we
     ]
     here false of rest = or_right (is_of_file p file) (is_of_files files p) (rest of)
 
--- the files that survive are a run
-pub run_survives : (id : ℕ) (files : List FileEntry) → IsFileRun files → IsFileRun (filter (survives id) files)
-run_survives id [] run = tt
-run_survives id (file ∷ files) run = here (survives id file) (run_survives id files run.2)
-  where
-    here : (b : Bool) → IsFileRun (filter (survives id) files) → IsFileRun (cond b (file ∷ filter (survives id) files) (filter (survives id) files))
-    here true rest = (run.0, all_kept (Precedes file) (survives id) files run.1, rest)
-    here false rest = rest
-
-pub run_left : (files more : List FileEntry) → IsFileRun (files ++ more) → IsFileRun files
-run_left [] more run = tt
-run_left (file ∷ files) more run = (run.0, first files run.1, run_left files more run.2)
-  where
-    first : (others : List FileEntry) → AllByRecursion (Precedes file) (others ++ more) → AllByRecursion (Precedes file) others
-    first [] h = tt
-    first (other ∷ others) h = (h.0, first others h.1)
-
-pub run_right : (files more : List FileEntry) → IsFileRun (files ++ more) → IsFileRun more
-run_right [] more run = run
-run_right (file ∷ files) more run = run_right files more run.2
-
 -- a file with the id is the only one
 pub none_behind : (id : ℕ) (gone : FileEntry) (files more : List FileEntry) → IsFileRun (files ++ more) → file_with_id id files ≡ Some gone → AllByRecursion (λ file. has_id id file ≡ false) more
 none_behind id gone [] more run e = absurd cc
@@ -178,12 +154,6 @@ none_behind id gone (file ∷ files) more run e = here (has_id id file) refl e (
     here true is found rest = all_other more is (rest_of files run.1)
     here false is found rest = rest found
 
--- what holds of all files holds of the last one
-pub last_of_all : (P : FileEntry → Type 0) (files : List FileEntry) → AllByRecursion P files → IfSome (last_file files) P
-last_of_all P [] h = tt
-last_of_all P (file ∷ []) h = h.0
-last_of_all P (file ∷ next ∷ files) h = last_of_all P (next ∷ files) h.1
-
 -- there are no more files of a run than ids up to the next one
 pub run_length : (low next : ℕ) (files : List FileEntry) → AllByRecursion (λ file. low ≤ file.id) files → AllByRecursion (λ file. file.id < next) files → IsFileRun files → low ≤ next → low + length files ≤ next
 run_length low next [] above below run le = omega arith
@@ -196,20 +166,3 @@ run_length low next (file ∷ files) above below run le =
     later : (others : List FileEntry) → AllByRecursion (Precedes file) others → AllByRecursion (λ other. file.id + 1 ≤ other.id) others
     later [] h = tt
     later (other ∷ others) h = (let rise : file.id < other.id = h.0.ids in omega arith, later others h.1)
-
--- of the members before a place each precedes the one at it
-before_at : (files : List FileEntry) (i : ℕ) (d : FileEntry) → IsFileRun files → i < length files → AllByRecursion (λ file. Precedes file (get_or files i d)) (take i files)
-before_at [] i d run lt = absurd (omega arith)
-before_at (file ∷ files) zero d run lt = tt
-before_at (file ∷ files) (suc i) d run lt = (at files i run.1 (omega arith), before_at files i d run.2 (omega arith))
-  where
-    at : (others : List FileEntry) (k : ℕ) → AllByRecursion (Precedes file) others → k < length others → Precedes file (get_or others k d)
-    at [] k h lt = absurd (omega arith)
-    at (other ∷ others) zero h lt = h.0
-    at (other ∷ others) (suc k) h lt = at others k h.1 (omega arith)
-
--- the next file goes after those that survive of the ones before it
-pub next_survivor : (id : ℕ) (files : List FileEntry) (i : ℕ) (file : FileEntry) (d : FileEntry) → IsFileRun files → i < length files → file ≡ get_or files i d → IfSome (last_file (filter (survives id) (take i files))) (λ last. Precedes last file)
-next_survivor id files i file d run lt e =
-    subst (λ f. IfSome (last_file (filter (survives id) (take i files))) (λ last. Precedes last f)) (sym e)
-    (last_of_all (λ last. Precedes last (get_or files i d)) (filter (survives id) (take i files)) (all_kept (λ last. Precedes last (get_or files i d)) (survives id) (take i files) (before_at files i d run lt)))

@@ -1,12 +1,17 @@
 -- How many postings are alive, and how many words have a token.
-use Rattle.std.proofs.Common.{◌≡◌, ℕ, zero, suc, ◌+◌, ◌<◌, ◌≤◌, Bool, true, false, not, cond, ◌||◌, ltb, List, [], ◌∷◌, length, length-append, filter, take, get_or, refl, ap, ◌∙◌, arith, inl, inr}
+use Rattle.std.proofs.Common.{◌≡◌, ℕ, zero, suc, ◌+◌, ◌<◌, ◌≤◌, Bool, true, false, not, cond, ◌||◌, ltb, List, [], ◌∷◌, ◌++◌, length, length-append, filter, take, drop, flat_map, get_or, refl, sym, ap, ◌∙◌, subst, arith, inl, inr}
+use Rattle.std.proofs.lemmas.List.{take-append-drop, take_more, append-nil}
+use Rattle.std.proofs.lemmas.List.Folds.{list_any-append}
+use Rattle.std.proofs.lemmas.Grind.{flat_map-append}
 use Rattle.std.proofs.lemmas.Bool.{true≢false, cases_lt, lt-ltb, le-ltb}
 use Rattle.gcl_model.specs.Limits.{address_end}
 use Rattle.gcl_model.specs.Slots.{SlotRange, AreRangesWithin}
 use Rattle.gcl_model.specs.Texts.{places}
 use Rattle.gcl_model.proofs.WordLists.{places-append}
 use Rattle.delete_mask.specs.Masks.{is_within, is_dead}
-use Rattle.delete_mask.proofs.MaskLemmas.{is_within-inside, is_within-before, is_within-behind, is_within-bounds}
+use Rattle.delete_mask.proofs.MaskLemmas.{is_within-inside, is_within-before, is_within-behind, is_within-bounds, is_dead-before}
+use Rattle.delete_mask.specs.Parts.{ranges_in}
+use Rattle.delete_mask.proofs.PartLemmas.{ranges_left, ranges_right}
 use Rattle.posting_code.proofs.Rising.{rise_length}
 use Rattle.posting_access.specs.Search.{count_below}
 use Rattle.live_version.specs.Contents.{SlotContent, VersionContent, IsVersion, live_of, live_words}
@@ -114,3 +119,44 @@ few_places v token is =
     let few = rise_length v.first v.next (places (live_of v.slots) token) rise in
     let within = is.in_range in
     omega (arith, few, within)
+
+-- what is alive and what is dead are all
+pub alive_and_dead : (mask : List SlotRange) (xs : List ℕ) → length (filter (is_alive mask) xs) + length (filter (is_dead mask) xs) ≡ length xs
+alive_and_dead mask [] = refl
+alive_and_dead mask (x ∷ xs) = here (is_dead mask x) (filter (is_alive mask) xs) (filter (is_dead mask) xs) (alive_and_dead mask xs)
+  where
+    here : (d : Bool) (alive dead : List ℕ) → length alive + length dead ≡ length xs → length (cond (not d) (x ∷ alive) alive) + length (cond d (x ∷ dead) dead) ≡ length (x ∷ xs)
+    here true alive dead rest = omega (arith, rest)
+    here false alive dead rest = omega (arith, rest)
+
+-- an address is dead by one of two parts at most
+dead_once : (low end : ℕ) (before after : List SlotRange) (p : ℕ) → AreRangesWithin low end (before ++ after) → is_dead after p ≡ true → is_dead before p ≡ false
+dead_once low end [] after p r is = refl
+dead_once low end (range ∷ before) after p r is =
+    let rest = dead_once (range.last + 1) end before after p r.3 is in
+    let from : range.last + 1 ≤ p = dead_from (range.last + 1) end after p (ranges_right (range.last + 1) end before after r.3) is in
+    let outside : is_within range p ≡ false = is_within-behind range p (omega (arith, from)) in
+    ap (λ t. t || is_dead before p) outside ∙ rest
+  where
+    dead_from : (low end : ℕ) (ranges : List SlotRange) (p : ℕ) → AreRangesWithin low end ranges → is_dead ranges p ≡ true → low ≤ p
+    dead_from low end ranges p r is =
+        elim (cases_lt p low) [
+          | inl before ↦ absurd (true≢false (sym is ∙ is_dead-before low end ranges p r before))
+          | inr from ↦ from
+        ]
+
+-- the dead ranges of one part more take what they have
+pub part_less : (parts : List (List SlotRange)) (i : ℕ) (part : List SlotRange) (xs : List ℕ) → AreRangesWithin 0 address_end (ranges_in parts) → i < length parts → part ≡ get_or parts i part →
+    length (filter (is_alive (ranges_in (take (i + 1) parts))) xs) + length (filter (is_dead part) xs) ≡ length (filter (is_alive (ranges_in (take i parts))) xs)
+part_less parts i part xs r lt at =
+    let more : ranges_in (take (i + 1) parts) ≡ ranges_in (take i parts) ++ part = flat_map_item (λ (ranges : List SlotRange). ranges) parts i part lt at in
+    let whole : ranges_in parts ≡ (ranges_in (take i parts) ++ part) ++ ranges_in (drop (i + 1) parts) =
+    ap ranges_in (sym (take-append-drop (i + 1) parts)) ∙ flat_map-append (λ (ranges : List SlotRange). ranges) (take (i + 1) parts) (drop (i + 1) parts) ∙ ap (λ l. l ++ ranges_in (drop (i + 1) parts)) more in
+    let apart = ranges_left 0 address_end (ranges_in (take i parts) ++ part) (ranges_in (drop (i + 1) parts)) (subst (AreRangesWithin 0 address_end) whole r) in
+    parted (is_dead (ranges_in (take i parts))) (is_dead part) (is_dead (ranges_in (take (i + 1) parts)))
+    (λ p. ap (λ m. is_dead m p) more ∙ list_any-append (λ range. is_within range p) (ranges_in (take i parts)) part)
+    (λ p is. dead_once 0 address_end (ranges_in (take i parts)) part p apart is)
+    xs
+  where
+    flat_map_item : {X Y : Type 0} (f : X → List Y) (xs : List X) (i : ℕ) (x : X) → i < length xs → x ≡ get_or xs i x → flat_map f (take (i + 1) xs) ≡ flat_map f (take i xs) ++ f x
+    flat_map_item f xs i x lt at = ap (flat_map f) (take_more xs i x lt ∙ ap (λ y. take i xs ++ y ∷ []) (sym at)) ∙ flat_map-append f (take i xs) (x ∷ []) ∙ ap (λ l. flat_map f (take i xs) ++ l) (append-nil (f x))

@@ -14,7 +14,7 @@ use Rattle.live_version.specs.Changes.{file_with_id}
 use Rattle.live_version.specs.StandsFor.{entry_of}
 use Rattle.live_version.specs.Laws.{HasTextOf, HasFilesOf, WordsAreOfFiles, SlotsArePartsOf}
 use Rattle.live_version.proofs.ChangeDelete.{placed_all}
-use Rattle.live_version.proofs.ChangeFiles.{run_left, run_right}
+use Rattle.file_runs.proofs.RunLemmas.{run_left, run_right}
 use Rattle.live_version.proofs.WordLemmas.{no_live_words, live_words_rise, live_of_rise}
 
 pub has_text : HasTextOf

@@ -3,7 +3,7 @@ ghost use Rattle.gcl_model.specs.Forms.{term};
 ghost use Rattle.gcl_model.specs.Meaning.{concordance};
 ghost use Rattle.gcl_model.specs.Texts.{places};
 ghost use Rattle.index_shard.specs.Tables.{addresses_at};
-ghost use Rattle.delete_mask.specs.Masks.{is_within};
+ghost use Rattle.delete_mask.specs.Masks.{is_dead, is_within};
 ghost use Rattle.live_version.specs.Contents.{IsVersion, live_of, live_words, version_text};
 ghost use Rattle.live_version.specs.LookUps.{is_alive};
 ghost use Rattle.posting_access.specs.Search.{count_below};
@@ -11,7 +11,7 @@ ghost use Rattle.posting_access.specs.Search.{count_below};
 use crate::slot::Slot;
 use crate::version::Version;
 use address_space::Range;
-use delete_mask::Mask;
+use delete_mask::{Mask, SharedMask};
 use gcl_model::{Ledger, Question, Steps, uncounted};
 use posting_access::rank;
 use posting_code::Postings;
@@ -48,8 +48,27 @@ impl Slot {
         requires { place < length self.now.shard.table }
         ensures { result ≡ length (filter (is_alive self.now.mask) (addresses_at self.now.shard.table place)) }
     {
-        count_alive(&self.shard().postings(place), self.mask()) as u64
+        count_left(&self.shard().postings(place), self.mask()) as u64
     }
+}
+
+/// How many postings are not dead, part by part of the dead ranges.
+fn count_left(list: &Postings<'_>, mask: &SharedMask) -> usize
+    ensures { result ≡ length (filter (is_alive mask.now) list.now) }
+{
+    let parts = mask.parts();
+    let mut count = list.len();
+    for part in parts {
+        count -= count_dead(list, part.mask());
+    }
+    count
+}
+
+/// How many postings are dead.
+fn count_dead(list: &Postings<'_>, mask: &Mask) -> usize
+    ensures { result ≡ length (filter (is_dead mask.now) list.now) }
+{
+    list.len() - count_alive(list, mask)
 }
 
 /// How many postings are not dead.

@@ -1,10 +1,9 @@
 ghost use Rattle.std.specs.Prelude.{◌≡◌, ◌<◌, length, MatchOption, None, Some, slice_get};
-ghost use Rattle.address_space.specs.Runs.{IsFileRun};
 ghost use Rattle.live_version.specs.Contents.{IsVersion, files_of};
 ghost use Rattle.live_version.specs.Changes.{file_with_id};
 
 use crate::version::Version;
-use address_space::{FileId, FileRecord, SharedRecord};
+use address_space::{FileId, FileRecord};
 
 impl Version {
     /// The number of surviving files.
@@ -49,27 +48,10 @@ impl Version {
     {
         let slots = self.slots();
         for slot in slots {
-            if let Some(file) = find_in(slot.records().as_slice(), id) {
+            if let Some(file) = slot.records().find(id) {
                 return Some(file);
             }
         }
         None
-    }
-}
-
-/// The file with this id, found by halving.
-pub(crate) fn find_in(files: &[SharedRecord], id: FileId) -> Option<&FileRecord>
-    requires { IsFileRun files.now }
-    ensures { MatchOption result (file_with_id id.0 files.now ≡ None) (λ file. file_with_id id.0 files.now ≡ Some file.now) }
-{
-    let place = files.binary_search_by_key(
-        &id.0,
-        |file: &SharedRecord| -> u64
-            ensures { result ≡ file.now.id }
-        { file.record().id.0 },
-    );
-    match place {
-        Ok(i) => Some(files[i].record()),
-        Err(_) => None,
     }
 }

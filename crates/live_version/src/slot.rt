@@ -4,7 +4,8 @@ ghost use Rattle.index_shard.specs.Tables.{IsShard, words_of};
 ghost use Rattle.live_version.specs.Contents.{IsSlot, LiesIn, is_of_files, slot_content};
 
 use address_space::{FileRun, Range};
-use delete_mask::Mask;
+use delete_mask::SharedMask;
+use file_runs::Records;
 use index_shard::Shard;
 use std::alloc::{AllocError, Global};
 use std::marker::Model;
@@ -21,8 +22,8 @@ pub struct Slot {
 #[derive(Drop)]
 pub(crate) struct SlotParts {
     shard: Arc<Shard>,
-    mask: Mask,
-    files: FileRun,
+    mask: SharedMask,
+    files: Records,
 }
 
 impl Model for Slot {
@@ -49,9 +50,27 @@ impl Slot {
         ensures value { IfOk result (λ slot. slot ≡ slot_content range shard [] files) }
         ensures slot { IfOk result (λ slot. IsSlot slot) }
     {
+        let files = Records::of(alloc, files)?;
+        let slot = Slot::of_records(alloc, range, shard, files)?;
+        Ok(slot)
+    }
+
+    /// A slot of which nothing is dead, of records that are shared.
+    pub fn of_records(
+        alloc: Global,
+        range: Range,
+        shard: Shard,
+        files: Records,
+    ) -> Result<Slot, AllocError>
+        requires indexed { shard.range ≡ range }
+        requires files { AllByRecursion (LiesIn range) files }
+        requires owned { AllByRecursion (λ w. is_of_files files w.address ≡ true) (words_of shard) }
+        ensures value { IfOk result (λ slot. slot ≡ slot_content range shard [] files) }
+        ensures slot { IfOk result (λ slot. IsSlot slot) }
+    {
         known(&shard);
         let shard = Arc::new(alloc, shard)?;
-        let mask = Mask::new(alloc);
+        let mask = SharedMask::new(alloc);
         let parts = Arc::new(alloc, SlotParts { shard, mask, files })?;
         Ok(Slot { range, parts })
     }
@@ -73,7 +92,7 @@ impl Slot {
     }
 
     /// The dead ranges.
-    pub fn mask(&self) -> &Mask
+    pub fn mask(&self) -> &SharedMask
         ensures value { result.now ≡ self.now.mask }
         ensures slot { IsSlot self.now }
     {
@@ -81,7 +100,7 @@ impl Slot {
     }
 
     /// The records of the surviving files.
-    pub fn records(&self) -> &FileRun
+    pub fn records(&self) -> &Records
         ensures value { result.now ≡ self.now.files }
         ensures slot { IsSlot self.now }
     {
@@ -110,8 +129,8 @@ impl Slot {
     pub(crate) fn changed(
         &self,
         alloc: Global,
-        mask: Mask,
-        files: FileRun,
+        mask: SharedMask,
+        files: Records,
     ) -> Result<Slot, AllocError>
         requires { IsSlot (record self.now { mask = mask; files = files }) }
         ensures { IfOk result (λ slot. slot ≡ record self.now { mask = mask; files = files }) }

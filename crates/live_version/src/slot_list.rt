@@ -28,7 +28,7 @@ pub(crate) fn push_option(into: &mut Vec<Slot>, slot: Option<Slot>) -> Result<()
 {
     if let Some(slot) = slot {
         // any call of the records tells that they are a run
-        let _files = slot.records().as_slice();
+        let _count = slot.records().len();
         into.push(slot)?;
     }
     Ok(())

@@ -26,6 +26,3 @@ pub use ghost_count::GhostCount;
 pub use sink::{MemSink, Sink, SureSink};
 pub use source::{MemSource, Source, SureSource};
 pub use turn_gate::TurnGate;
-
-#[cfg(test)]
-mod tests;

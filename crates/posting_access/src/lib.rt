@@ -14,6 +14,3 @@ mod search;
 
 pub use halving::{Test, border};
 pub use search::{BlocksUpTo, at_or_after, at_or_before, rank};
-
-#[cfg(test)]
-mod tests;

@@ -8,6 +8,7 @@ pub mod Steps
 mod Taking
 pub mod InRows
 pub mod Around
+pub mod MovedUp
 pub mod Unpacking
 pub mod Runs
 pub mod Cuts

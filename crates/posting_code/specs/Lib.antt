@@ -3,6 +3,7 @@ pub mod Cuts
 pub mod Ends
 pub mod Joined
 pub mod Laws
+pub mod Moved
 pub mod Numbers
 pub mod Packed
 pub mod Postings

@@ -1,8 +1,10 @@
 ghost use Rattle.std.specs.Prelude.{◌≡◌, ◌+◌, ◌-◌, ◌/◌, ◌^◌, ◌<◌, ◌≤◌, ◌∷◌, [], length, IfOk, OnOk, OnErr};
+ghost use Rattle.posting_code.specs.Moved.{moved_address, moved_heads};
 ghost use Rattle.posting_code.specs.Packed.{heads_behind};
 ghost use Rattle.posting_code.specs.Blocks.{count_in, first_in, heads_in, AreBlocks};
 
-use crate::head::{Head, push_head};
+use crate::head::{Head, move_heads, push_head};
+use crate::moving::move_address;
 use crate::posting_list::BLOCK;
 use std::alloc::{AllocError, Global};
 
@@ -120,6 +122,19 @@ impl Blocks {
     {
         let heads = Vec::from_slice(alloc, self.heads())?;
         Blocks::of(alloc, self.count(), self.first(), heads)
+    }
+
+    /// Moves the first members of all blocks up.
+    pub(crate) fn move_up(&mut self, by: u64)
+        ensures { AreBlocks self.new (count_in self.old) (moved_address by (first_in self.old)) (moved_heads by (heads_in self.old)) }
+    {
+        match self {
+            Blocks::One { first, .. } => *first = move_address(*first, by),
+            Blocks::Many(many) => {
+                many.first = move_address(many.first, by);
+                move_heads(&mut many.heads, by);
+            }
+        }
     }
 
     /// Takes all members away, and keeps the memory of the heads.

@@ -1,6 +1,8 @@
 ghost use Rattle.std.specs.Prelude.{◌≡◌, ◌≤◌, length, OnOk, OnErr};
+ghost use Rattle.posting_code.specs.Moved.{moved_heads};
 ghost use Rattle.posting_code.specs.Packed.{head_at, heads_behind};
 
+use crate::moving::move_address;
 use std::alloc::AllocError;
 
 /// Where a block stands: its first member, and the place of the packed differences after it.
@@ -31,4 +33,13 @@ pub(crate) fn push_head(heads: &mut Vec<Head>, count: usize, head: Head) -> Resu
         heads.push(head)?;
     }
     Ok(())
+}
+
+/// Moves the first members of some blocks up. A place that no list has may be anything, so none is tested.
+pub(crate) fn move_heads(heads: &mut [Head], by: u64)
+    ensures { heads.new ≡ moved_heads by heads.old }
+{
+    for head in heads.iter_mut() {
+        head.first = move_address(head.first, by);
+    }
 }

@@ -18,6 +18,7 @@ mod blocks;
 mod head;
 mod laws;
 mod maker;
+mod moving;
 mod number;
 mod packed_maker;
 mod posting_list;
@@ -34,6 +35,3 @@ pub use posting_list::{ADDRESS_END, BLOCK, PostingList, Postings};
 pub use room::RowsRoom;
 pub use row::put_joined;
 pub use rows::PostingRows;
-
-#[cfg(test)]
-mod tests;

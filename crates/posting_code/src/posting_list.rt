@@ -3,9 +3,11 @@ ghost use Rattle.posting_code.specs.Postings.{ArePostings, RiseWithin, blocks_of
 ghost use Rattle.posting_code.specs.Packed.{IsHead, IsKeptTo, kept, last_of, packed_of};
 ghost use Rattle.posting_code.specs.Cuts.{IsCut};
 ghost use Rattle.posting_code.specs.Blocks.{count_in, first_in, heads_in};
+ghost use Rattle.posting_code.specs.Moved.{moved_below_end};
 
 use crate::blocks::Blocks;
 use crate::head::{Head, head_of};
+use crate::moving::{can_move, move_address};
 use crate::number::{NUMBER_END, put_number};
 use crate::unpack::{Cut, around_in, cut_before, member_before, unpack, walk};
 use std::alloc::{AllocError, Global};
@@ -120,6 +122,18 @@ impl PostingList {
         self.packed.clear();
         self.last = 0;
         self.blocks.clear();
+    }
+
+    /// Moves all members up, which stay as they are packed. Where the last one would pass the end, none is left.
+    pub(crate) fn move_up(&mut self, by: u64)
+        ensures { self.new ≡ moved_below_end by self.old }
+    {
+        if !can_move(self.blocks.count(), self.last, by) {
+            self.clear();
+            return;
+        }
+        self.last = move_address(self.last, by);
+        self.blocks.move_up(by);
     }
 
     /// The number of addresses.

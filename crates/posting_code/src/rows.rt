@@ -1,10 +1,12 @@
-ghost use Rattle.std.specs.Prelude.{◌≡◌, ◌+◌, ◌-◌, ◌*◌, ◌/◌, ◌<◌, ◌≤◌, ◌++◌, ◌∷◌, [], List, ℕ, length, take, drop, get_or, OnErr, OnOk};
+ghost use Rattle.std.specs.Prelude.{◌≡◌, ◌+◌, ◌-◌, ◌*◌, ◌/◌, ◌<◌, ◌≤◌, ◌++◌, ◌∷◌, [], List, ℕ, length, map, take, drop, get_or, OnErr, OnOk};
 ghost use Rattle.std.specs.List.{concat};
+ghost use Rattle.posting_code.specs.Moved.{moved_below_end, moved_part, moved_row};
 ghost use Rattle.posting_code.specs.Packed.{kept, last_of, packed_of};
 ghost use Rattle.posting_code.specs.Postings.{ArePostings};
 ghost use Rattle.posting_code.specs.Rows.{ComesBehind, HasHeads, IsPartIn, between};
 
-use crate::head::Head;
+use crate::head::{Head, move_heads};
+use crate::moving::{can_move, move_address};
 use crate::posting_list::{BLOCK, PostingList, Postings};
 use crate::room::{RowsRoom, is_roomy};
 use crate::row::put_next;
@@ -123,6 +125,14 @@ impl PostingRows {
         Ok(())
     }
 
+    /// Moves the members of all lists up, which stay as they are packed. Of a list whose last member would pass the end none is left.
+    pub fn move_up(&mut self, by: u64)
+        ensures { self.new ≡ map (moved_below_end by) self.old }
+    {
+        move_heads(&mut self.heads, by);
+        move_lists(&mut self.lists, by);
+    }
+
     /// What they take, or would take if all of them were put together of others.
     pub fn room(&self) -> RowsRoom {
         let shared = RowsRoom {
@@ -171,7 +181,48 @@ fn own_room(lists: &[RowList]) -> RowsRoom {
     room
 }
 
+/// Moves the members of some lists up, of which those in the rows have their heads moved already.
+fn move_lists(lists: &mut [RowList], by: u64)
+    ensures { lists.new ≡ map (moved_row by) lists.old }
+{
+    for list in lists.iter_mut() {
+        list.move_up(by);
+    }
+}
+
+impl RowList {
+    /// Moves its members up.
+    fn move_up(&mut self, by: u64)
+        ensures { self.new ≡ moved_row by self.old }
+    {
+        match self {
+            RowList::Shared(part) => *part = part.moved(by),
+            RowList::Own(list) => list.move_up(by),
+        }
+    }
+}
+
 impl RowPart {
+    /// The same part with its ends moved up, or without members where the last one would pass the end.
+    fn moved(self, by: u64) -> RowPart
+        ensures { result ≡ moved_part by self }
+    {
+        if can_move(self.count, self.last, by) {
+            return RowPart {
+                first: move_address(self.first, by),
+                last: move_address(self.last, by),
+                ..self
+            };
+        }
+        RowPart {
+            last: 0,
+            count: 0,
+            end: self.start,
+            heads_end: self.heads_start,
+            ..self
+        }
+    }
+
     /// The list, lent to be read.
     #[inline]
     fn lent<'a>(&self, packed: &'a [u8], heads: &'a [Head]) -> Postings<'a>

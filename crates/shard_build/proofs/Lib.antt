@@ -7,5 +7,6 @@ pub mod SeenNames
 pub mod Noting
 pub mod SeenRows
 pub mod Handing
+pub mod AheadLemmas
 pub mod MapTables
 mod Worked

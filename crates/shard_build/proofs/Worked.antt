@@ -2,6 +2,7 @@
 use Rattle.std.proofs.Common.{◌≡◌, ℕ, List, [], ◌∷◌, codes, Some, None, refl}
 use Rattle.gcl_model.specs.Texts.{Word}
 use Rattle.gcl_model.specs.Collections.{words_from, with_boundaries, width_of}
+use Rattle.shard_build.specs.Ahead.{tokens_between}
 use Rattle.shard_build.specs.Groups.{group_of}
 
 abbrev to_be_to : List (List ℕ)
@@ -29,3 +30,7 @@ group_of-end = refl
 
 width_of-three : width_of to_be_to ≡ 5
 width_of-three = refl
+
+-- between the boundaries stand the tokens
+tokens_between-three : tokens_between words ≡ to_be_to
+tokens_between-three = refl

@@ -1,3 +1,4 @@
+pub mod Ahead
 pub mod Groups
 pub mod Met
 pub mod Handed

@@ -16,29 +16,12 @@ use Rattle.live_version.specs.Contents.{SlotContent, VersionContent, IsSlot, IsV
 use Rattle.live_version.proofs.WordLemmas.{live_places, live_of_rise}
 use Rattle.gcl_model.proofs.WordLists.{places-append}
 use Rattle.gcl_model.proofs.Lists.{all_append, all_left, all_right, all_weaker}
-use Rattle.live_version.proofs.ChangeFiles.{run_left, run_right}
+use Rattle.file_runs.proofs.RunLemmas.{run_left, run_right}
 use Rattle.live_version.specs.Changes.{IsSameLive, LiesInside, slots_at, whole_range}
 use Rattle.slot_terms.proofs.Loops.{flat_map_item}
 use Rattle.shard_merge.proofs.SameWords.{shard_has_words}
 use Rattle.slot_terms.specs.Parts.{PartContent, IsPart, part_of, postings_left}
 use Rattle.shard_merge.specs.Merged.{AreWordsOf}
-
--- the next file of a run goes after those before it
-pub run_next : (xs ys : List FileEntry) (y : FileEntry) → IsFileRun (xs ++ y ∷ ys) → IfSome (last_file xs) (λ last. Precedes last y)
-run_next [] ys y run = tt
-run_next (x ∷ []) ys y run = run.1.0
-run_next (x ∷ z ∷ zs) ys y run = run_next (z ∷ zs) ys y run.2
-
--- the next record to be put after the files that are copied already
-pub put_next : (files records now : List FileEntry) (i : ℕ) (item : FileEntry) → IsFileRun (files ++ records) → i < length records → item ≡ get_or records i item →
-    now ≡ files ++ take i records → IfSome (last_file now) (λ last. Precedes last item)
-put_next files records now i item run lt at is =
-    let rest : drop i records ≡ item ∷ drop (i + 1) records = drop_more records i item lt ∙ ap (λ f. f ∷ drop (i + 1) records) (sym at) in
-    let whole : files ++ records ≡ now ++ item ∷ drop (i + 1) records =
-    ap (λ l. files ++ l) (sym (take-append-drop i records) ∙ ap (λ l. take i records ++ l) rest)
-    ∙ sym (append_assoc files (take i records) (item ∷ drop (i + 1) records))
-    ∙ ap (λ l. l ++ item ∷ drop (i + 1) records) (sym is) in
-    run_next now (drop (i + 1) records) item (subst IsFileRun whole run)
 
 files_append : (xs ys : List SlotContent) → files_of (xs ++ ys) ≡ files_of xs ++ files_of ys
 files_append xs ys = flat_map-append (λ (slot : SlotContent). slot.files) xs ys

@@ -13,6 +13,3 @@ mod merging;
 mod records;
 
 pub use merging::merge;
-
-#[cfg(test)]
-mod tests;

@@ -27,7 +27,7 @@ pub fn merge(alloc: Global, version: &Version, at: usize, count: usize) -> Resul
     let files = records_of(alloc, slots)?;
     let mut terms = SlotTerms::new(alloc, slots)?;
     let shard = merge_terms(alloc, range, &mut terms)?;
-    Slot::new(alloc, range, shard, files)
+    Slot::of_records(alloc, range, shard, files)
 }
 
 /// From the first address of the first slot to the last address of the last one.

@@ -21,7 +21,7 @@ use std::marker::Model;
 #[derive(Drop)]
 pub(crate) struct Part<'a> {
     shard: &'a Shard,
-    mask: &'a Mask,
+    mask: Mask,
     next: usize,
     first: Option<First<'a>>,
 }
@@ -34,15 +34,15 @@ impl<'a> Model for Part<'a> {
 
     ghost Value = { PartContent };
 
-    ghost view = { λ p. record { mask = p.mask.now; left = drop p.next p.shard.now.table } };
+    ghost view = { λ p. record { mask = p.mask; left = drop p.next p.shard.now.table } };
 
     ghost invariant = { λ p. (p.next ≤ length p.shard.now.table) × IsFirstOf (drop p.next p.shard.now.table) p.first × IsShard p.shard.now };
 }
 
 impl<'a> Part<'a> {
     /// All terms of the shard are still to come.
-    pub(crate) fn new(shard: &'a Shard, mask: &'a Mask) -> Self
-        ensures { result ≡ record { mask = mask.now; left = shard.now.table } }
+    pub(crate) fn new(shard: &'a Shard, mask: Mask) -> Self
+        ensures { result ≡ record { mask = mask; left = shard.now.table } }
     {
         Part {
             shard,
@@ -88,7 +88,7 @@ impl<'a> Part<'a> {
         ensures lists { OnOk result (concat lists.new.items ≡ concat lists.old.items ++ alive self.old.mask (addresses_at self.old.left 0)) }
         ensures past { OnOk result (self.new ≡ record self.old { left = drop 1 self.old.left }) }
     {
-        lend_live(self.shard.postings(self.next), self.mask, lists)?;
+        lend_live(self.shard.postings(self.next), &self.mask, lists)?;
         self.step();
         Ok(())
     }
@@ -127,7 +127,7 @@ impl<'a> Part<'a> {
         ensures past { OnOk result (self.new ≡ past first.now.term.now self.old) }
     {
         if self.has_first(first) {
-            put_live(&self.shard.postings(self.next), self.mask, addresses)?;
+            put_live(&self.shard.postings(self.next), &self.mask, addresses)?;
             self.step();
         }
         Ok(())

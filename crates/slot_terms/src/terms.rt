@@ -37,7 +37,9 @@ impl<'a> SlotTerms<'a> {
     {
         let mut parts = Vec::with_capacity(alloc, slots.len())?;
         for slot in slots {
-            parts.push(Part::new(slot.shard(), slot.mask()))?;
+            // the ranges of a slot that is read as a whole, by themselves
+            let mask = slot.mask().flat(alloc)?;
+            parts.push(Part::new(slot.shard(), mask))?;
         }
         Ok(SlotTerms { parts })
     }

@@ -34,15 +34,15 @@ merge_terms-requires-clause-words c =
           (words_of_run range slots run (range_of_run slots range run c.range_of_slots-range.ensures)),
     )
 
-pub new-requires-2-clause-files : goal.new-requires-2-clause-files
-new-requires-2-clause-files c =
+pub of_records-requires-clause-files : goal.of_records-requires-clause-files
+of_records-requires-clause-files c =
     let slots = take (c.args.at + c.args.count - c.args.at) (drop c.args.at c.slots.result.now) in
     let run = run_lent c.args.version.now c.slots.result.now c.args.at c.args.count (c.args.at + c.args.count - c.args.at) c.slots.ensures.version c.slots.ensures.value (omega arith) in
     let range = c.range_of_slots-range.result in
     subst (AllByRecursion (LiesIn range)) (sym c.in_ok-files.ensures) (files_lie range slots run (range_of_run slots range run c.range_of_slots-range.ensures))
 
-pub new-requires-2-clause-owned : goal.new-requires-2-clause-owned
-new-requires-2-clause-owned c =
+pub of_records-requires-clause-owned : goal.of_records-requires-clause-owned
+of_records-requires-clause-owned c =
     let slots = take (c.args.at + c.args.count - c.args.at) (drop c.args.at c.slots.result.now) in
     let run = run_lent c.args.version.now c.slots.result.now c.args.at c.args.count (c.args.at + c.args.count - c.args.at) c.slots.ensures.version c.slots.ensures.value (omega arith) in
     let range = c.range_of_slots-range.result in
@@ -58,16 +58,16 @@ returns-clause-range c =
     let all = c.args.version.now.slots in
     let same = slots_lent c.slots.result.now all c.args.at c.args.count (c.args.at + c.args.count - c.args.at) c.slots.ensures.value (omega arith) in
     let whole : whole_range (ranges_of (slots_at c.args.at c.args.count all)) ≡ Some c.range_of_slots-range.result = ap (λ slots. whole_range (ranges_of slots)) (sym same) ∙ c.range_of_slots-range.ensures in
-    IfOk-weaker c.new-2.result _ (λ slot. whole_range (ranges_of (slots_at c.args.at c.args.count all)) ≡ Some slot.range)
-    (λ slot is. whole ∙ ap (λ (s : SlotContent). Some s.range) (sym is)) c.new-2.ensures.value
+    IfOk-weaker c.of_records.result _ (λ slot. whole_range (ranges_of (slots_at c.args.at c.args.count all)) ≡ Some slot.range)
+    (λ slot is. whole ∙ ap (λ (s : SlotContent). Some s.range) (sym is)) c.of_records.ensures.value
 
 pub returns-clause-inside : goal.returns-clause-inside
 returns-clause-inside c =
     let all = c.args.version.now.slots in
     let same = slots_lent c.slots.result.now all c.args.at c.args.count (c.args.at + c.args.count - c.args.at) c.slots.ensures.value (omega arith) in
     let whole : whole_range (ranges_of (slots_at c.args.at c.args.count all)) ≡ Some c.range_of_slots-range.result = ap (λ slots. whole_range (ranges_of slots)) (sym same) ∙ c.range_of_slots-range.ensures in
-    IfOk-weaker c.new-2.result _ (λ slot. LiesInside slot.range (whole_range (ranges_of (slots_at c.args.at c.args.count all))))
-    (λ slot is. lies_inside slot.range (whole_range (ranges_of (slots_at c.args.at c.args.count all))) (whole ∙ ap (λ (s : SlotContent). Some s.range) (sym is))) c.new-2.ensures.value
+    IfOk-weaker c.of_records.result _ (λ slot. LiesInside slot.range (whole_range (ranges_of (slots_at c.args.at c.args.count all))))
+    (λ slot is. lies_inside slot.range (whole_range (ranges_of (slots_at c.args.at c.args.count all))) (whole ∙ ap (λ (s : SlotContent). Some s.range) (sym is))) c.of_records.ensures.value
 
 pub returns-clause-words : goal.returns-clause-words
 returns-clause-words c =
@@ -79,8 +79,8 @@ returns-clause-words c =
     merged_words c.range_of_slots-range.result slots c.in_ok-terms.terms shard run c.range_of_slots-range.ensures c.in_ok-terms.ensures.value c.in_ok-shard.ensures.shard
     c.in_ok-shard.ensures.range c.in_ok-shard.ensures.postings in
     let same = slots_lent c.slots.result.now c.args.version.now.slots c.args.at c.args.count n c.slots.ensures.value (omega arith) in
-    IfOk-weaker c.new-2.result _ (λ slot. words_of slot.shard ≡ live_of (slots_at c.args.at c.args.count c.args.version.now.slots))
-    (λ slot is. ap (λ (s : SlotContent). words_of s.shard) is ∙ words ∙ ap live_of same) c.new-2.ensures.value
+    IfOk-weaker c.of_records.result _ (λ slot. words_of slot.shard ≡ live_of (slots_at c.args.at c.args.count c.args.version.now.slots))
+    (λ slot is. ap (λ (s : SlotContent). words_of s.shard) is ∙ words ∙ ap live_of same) c.of_records.ensures.value
 
 pub returns-clause-same : goal.returns-clause-same
 returns-clause-same c =
@@ -92,8 +92,8 @@ returns-clause-same c =
     merged_words c.range_of_slots-range.result slots c.in_ok-terms.terms shard run c.range_of_slots-range.ensures c.in_ok-terms.ensures.value c.in_ok-shard.ensures.shard
     c.in_ok-shard.ensures.range c.in_ok-shard.ensures.postings in
     let same = slots_lent c.slots.result.now c.args.version.now.slots c.args.at c.args.count n c.slots.ensures.value (omega arith) in
-    IfOk-weaker c.new-2.result _ (λ slot. IsSameLive (slots_at c.args.at c.args.count c.args.version.now.slots) (slot ∷ []))
+    IfOk-weaker c.of_records.result _ (λ slot. IsSameLive (slots_at c.args.at c.args.count c.args.version.now.slots) (slot ∷ []))
     (λ slot is.
     same_live (slots_at c.args.at c.args.count c.args.version.now.slots) slot (ap (λ (s : SlotContent). s.mask) is) (ap (λ (s : SlotContent). words_of s.shard) is ∙ words ∙ ap live_of same)
     (ap (λ (s : SlotContent). s.files) is ∙ c.in_ok-files.ensures ∙ ap files_of same))
-    c.new-2.ensures.value
+    c.of_records.ensures.value

@@ -1,6 +1,7 @@
 use Rattle.std.proofs.Common.{◌+◌, ◌-◌, length, length-append, ◌++◌, drop, slice_get, sym, ap, ◌∙◌, arith}
 use Rattle.live_version.specs.Contents.{files_of}
-use Rattle.live_version.proofs.FileLemmas.{files_from, at_in_first, at_in_rest}
+use Rattle.live_version.proofs.FileLemmas.{files_from}
+use Rattle.file_runs.proofs.FileLemmas.{at_in_first, at_in_rest}
 use Rattle.live_version.proofs.version.Version.file_at.Goals as goal
 
 pub returns-then-left-count-clause-value : goal.returns-then-left-count-clause-value

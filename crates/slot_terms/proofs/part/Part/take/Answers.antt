@@ -11,5 +11,5 @@ returns-in_ok-put_live-clause-addresses c =
     let out = c.args.addresses.now.items in
     let headed : is_headed (drop next table) term ≡ true = subst (λ (p : PartContent). is_headed p.left term ≡ true) (sym c.self.view_is) (sym c.has_first.ensures ∙ c.if-has_first.true) in
     c.in_ok-put_live.ensures
-    ∙ ap (λ l. out ++ alive c.self.inside.mask.now l) (c.postings.ensures.value ∙ sym (headed_postings table next term headed))
+    ∙ ap (λ l. out ++ alive c.self.inside.mask l) (c.postings.ensures.value ∙ sym (headed_postings table next term headed))
     ∙ ap (λ (p : PartContent). out ++ alive p.mask (head_postings p.left term)) c.self.view_is

@@ -8,7 +8,7 @@ use Rattle.slot_terms.proofs.terms.SlotTerms.new.Goals as goal
 pub loop-slot-preserved : goal.loop-slot-preserved
 loop-slot-preserved c =
     let slot = c.slot-item.result in
-    let mask = c.mask.ensures.value in
+    let mask = c.in_ok-mask.ensures ∙ c.mask.ensures.value in
     let shard = c.shard.ensures.value in
     let part : c.new.result ≡ part_of slot =
     c.new.ensures ∙ ap (λ m. record { mask = m; left = c.shard.result.now.table }) mask ∙ ap (λ s. record { mask = slot.mask; left = s.table }) shard in

@@ -1,0 +1,5 @@
+pub mod RunLemmas
+pub mod FileLemmas
+pub mod Parts
+pub mod Places
+mod Worked

@@ -1,0 +1,16 @@
+use Rattle.std.proofs.Common.{◌≡◌, ◌+◌, ◌≤◌, length, List, get_or, ap, ◌∙◌, arith}
+use Rattle.std.proofs.lemmas.List.Folds.{length-flat_map-take}
+use Rattle.address_space.specs.Runs.{FileEntry}
+use Rattle.file_runs.specs.Records.{files_in}
+use Rattle.file_runs.proofs.Parts.{few_files}
+use Rattle.file_runs.proofs.runs.ends_of.Goals as goal
+
+pub overflow_add-count : goal.overflow_add-count
+overflow_add-count c =
+    let runs = c.args.runs.now in
+    let run = c.run-item.result in
+    let upto = length-flat_map-take (λ (files : List FileEntry). files) runs c.loop-run.run-index run c.loop-run-test.true in
+    let few = few_files (files_in runs) c.requires in
+    let long : length c.as_slice.result.now ≡ length (get_or runs c.loop-run.run-index run) = ap length (c.as_slice.ensures.value ∙ c.run-item.is) in
+    let count = c.loop-run.invariant.count in
+    omega (arith, upto, few, long, count)

@@ -1,7 +1,0 @@
-use Rattle.std.proofs.Common.{◌^◌, ◌<◌, List, ℕ, length, drop}
-use Rattle.std.specs.List.{AllByRecursion}
-use Rattle.image_file.proofs.tests.are_short.Given as goal
-
--- where those that are left are short, all are
-abbrev pub invariant-loop-token : goal.invariant-loop-token
-invariant-loop-token l = AllByRecursion (λ (t : List ℕ). length t < 2 ^ 56) (drop l.token-index l.fn.tokens) → AllByRecursion (λ (t : List ℕ). length t < 2 ^ 56) l.fn.tokens

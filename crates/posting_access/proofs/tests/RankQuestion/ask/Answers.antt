@@ -1,5 +1,0 @@
-use Rattle.posting_access.proofs.Digits.{few_digits}
-use Rattle.posting_access.proofs.tests.RankQuestion.ask.Goals as goal
-
-pub returns : goal.returns
-returns g c = record { answer = tt; cost = few_digits _ _ _ c.rank.ensures.probes }
