@@ -10,6 +10,3 @@ mod accesses;
 pub use accesses::{
     width_count, width_first_end, width_first_start, width_last_end, width_last_start,
 };
-
-#[cfg(test)]
-mod tests;

@@ -13,6 +13,3 @@ mod laws;
 pub use backward::{both_backward_end, both_backward_start, one_backward};
 pub use forward::{both_forward_end, both_forward_start, one_forward};
 pub use laws::{both_of_accesses, one_of_accesses};
-
-#[cfg(test)]
-mod tests;

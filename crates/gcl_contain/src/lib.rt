@@ -20,6 +20,3 @@ pub use backward::{has_turn_back, in_turn_back, not_has_turn_back, not_in_turn_b
 pub use forward::{has_turn, in_turn, not_has_turn, not_in_turn};
 pub use laws::{moves_are_right, rejecting_turns_advance};
 pub use turn::Turn;
-
-#[cfg(test)]
-mod tests;

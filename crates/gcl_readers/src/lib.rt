@@ -18,6 +18,3 @@ mod reading;
 
 pub use listing::{read_count, read_list_from};
 pub use readers::Readers;
-
-#[cfg(test)]
-mod tests;

@@ -12,6 +12,3 @@ mod walks;
 
 pub use accesses::{phrase_first_end, phrase_first_start, phrase_last_end, phrase_last_start};
 pub use counted::{counted_first_end, counted_first_start, counted_last_end, counted_last_start};
-
-#[cfg(test)]
-mod tests;

@@ -1,4 +1,0 @@
-use Rattle.gcl_readers.proofs.tests.+put_query.Given as goal
-
-abbrev pub decreases-put_query : goal.decreases-put_query
-decreases-put_query l = l.depth
