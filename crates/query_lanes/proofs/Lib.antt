@@ -3,6 +3,5 @@ pub mod ReaderLemmas
 pub mod MergeLemmas
 pub mod LaneLemmas
 pub mod EachLane
-pub mod PageLemmas
-pub mod SearchLemmas
+pub mod Crossings
 mod Worked

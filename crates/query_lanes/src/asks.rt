@@ -3,9 +3,9 @@ ghost use Rattle.gcl_model.specs.FormOf.{form_of};
 ghost use Rattle.gcl_model.specs.WellFormed.{IsWellFormed};
 ghost use Rattle.query_lanes.specs.WellFormedOnce.{query-prop};
 
-use crate::listing::Listing;
 use gcl_model::Expr;
 use gcl_parser::QueryFault;
+use query_search::Listing;
 use std::sync::Arc;
 
 /// What a query asks of the concordance list of its expression.

@@ -92,7 +92,8 @@ fn answer_in_turn<R: Wait, G: Gate>(
     engine: &mut Engine,
 ) -> Result<Vec<Found>, AllocError>
     requires number { engine.old.version.number < merge_end }
-    ensures answers { (c : Collection) → StandsFor engine.old.version c → IfOk result (λ answers. answers.items ≡ map (answer_in (text_of c)) asks.now) }
+    ensures answers { (c : Collection) → StandsFor engine.old.version c →
+        IfOk result (λ answers. answers.items ≡ map (answer_in (text_of c)) asks.now) }
     ensures here { IfOk result (λ answers. answers.items ≡ map (answer_in (version_text engine.new.version)) asks.now) }
     ensures merged { OnOk result (IsMergedWhere pending engine.old engine.new) }
     ensures err { OnErr result ((engine.new ≡ engine.old) ⊎ IsMergedWhere pending engine.old engine.new) }
@@ -117,7 +118,8 @@ fn answer_in_lanes<R: Threads + Wait + Sync, G: Gate + Sync>(
     requires few { length readers.old ≤ most_readers }
     requires of { AreOf engine.old.publisher readers.old }
     requires number { engine.old.version.number < merge_end }
-    ensures answers { (c : Collection) → StandsFor engine.old.version c → IfOk result (λ answers. answers.items ≡ map (answer_in (text_of c)) asks.now) }
+    ensures answers { (c : Collection) → StandsFor engine.old.version c →
+        IfOk result (λ answers. answers.items ≡ map (answer_in (text_of c)) asks.now) }
     ensures here { IfOk result (λ answers. answers.items ≡ map (answer_in (version_text engine.new.version)) asks.now) }
     ensures merged { OnOk result (IsMergedWhere pending engine.old engine.new) }
     ensures err { OnErr result ((engine.new ≡ engine.old) ⊎ IsMergedWhere pending engine.old engine.new) }
@@ -157,7 +159,8 @@ pub fn answer_batch<R: Threads + Wait + Sync, G: Gate + Sync>(
     requires few { length readers.old ≤ most_readers }
     requires of { AreOf engine.old.publisher readers.old }
     requires number { engine.old.version.number < merge_end }
-    ensures answers { (c : Collection) → StandsFor engine.old.version c → IfOk result (λ answers. answers.items ≡ map (answer_in (text_of c)) asks.now) }
+    ensures answers { (c : Collection) → StandsFor engine.old.version c →
+        IfOk result (λ answers. answers.items ≡ map (answer_in (text_of c)) asks.now) }
     ensures here { IfOk result (λ answers. answers.items ≡ map (answer_in (version_text engine.new.version)) asks.now) }
     ensures merged { OnOk result (IsMergedWhere pending engine.old engine.new) }
     ensures err { OnErr result ((engine.new ≡ engine.old) ⊎ IsMergedWhere pending engine.old engine.new) }

@@ -1,18 +1,17 @@
 ghost use Rattle.std.specs.Prelude.{◌≡◌, map, IfOk};
 ghost use Rattle.gcl_model.specs.FormOf.{form_of};
-ghost use Rattle.gcl_model.specs.Meaning.{concordance};
 ghost use Rattle.gcl_model.specs.WellFormed.{IsWellFormed};
+ghost use Rattle.gcl_model.specs.Wide.{wide};
 ghost use Rattle.live_version.specs.Contents.{VersionContent, version_text};
 ghost use Rattle.manifest_publish.specs.Histories.{IsLatest};
 ghost use Rattle.query_lanes.specs.Answers.{answer_in, found_in};
 
 use crate::asks::{Ask, Asked, Found};
-use crate::listing::Listing;
-use crate::search::Search;
 use collection::Engine;
 use gcl_model::Expr;
 use manifest_publish::Pass;
 use outside::Gate;
+use query_search::{Listing, Search};
 use std::alloc::{AllocError, Global};
 use std::sync::Arc;
 
@@ -20,9 +19,9 @@ use std::sync::Arc;
 pub fn find(alloc: Global, pass: Pass, asked: Asked, expr: &Arc<Expr>) -> Result<Found, AllocError>
     requires { IsWellFormed (form_of expr.now.value) }
     ensures { (v : VersionContent) → IsLatest pass.history v →
-        IfOk result (λ found. found ≡ found_in asked (concordance (version_text v) (form_of expr.now.value))) }
+        IfOk result (λ found. found ≡ found_in asked (wide (version_text v) (form_of expr.now.value))) }
 {
-    let search = Search::of(pass, Arc::try_clone(expr)?);
+    let mut search = Search::of(alloc, pass, Arc::try_clone(expr)?)?;
     match asked {
         Asked::All => {
             let listing = Listing::of(alloc, search, u64::MAX)?;

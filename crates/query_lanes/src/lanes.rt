@@ -75,14 +75,15 @@ fn run_parts<R: Threads + Sync, G: Gate + Sync>(
 {
     let up = from + 1;
     let mut low = ||
-        requires { IsSync G.row × (length readers_low.now < 2) × (length works_low.now ≡ length readers_low.now) × (dealt.now.lanes ≤ most_readers) ×
-            (from + length readers_low.now ≤ dealt.now.lanes) }
+        requires { IsSync G.row × (length readers_low.now < 2) × (length works_low.now ≡ length readers_low.now) ×
+            (dealt.now.lanes ≤ most_readers) × (from + length readers_low.now ≤ dealt.now.lanes) }
         ensures { AreRun dealt.entry.now.asks.now dealt.entry.now.lanes from readers_low.entry.now readers_low.exit.now works_low.exit.now }
     { run_one(dealt, from, works_low, readers_low) };
     let mut high = ||
         requires { IsSync R.row × IsSync G.row × (length works_high.now ≡ length readers_high.now) × (dealt.now.lanes ≤ most_readers) ×
             (up + length readers_high.now ≤ dealt.now.lanes) }
-        ensures { AreRun dealt.entry.now.asks.now dealt.entry.now.lanes up readers_high.entry.now readers_high.exit.now works_high.exit.now }
+        ensures { AreRun dealt.entry.now.asks.now dealt.entry.now.lanes up
+            readers_high.entry.now readers_high.exit.now works_high.exit.now }
     { run_lanes(rt, dealt, up, works_high, readers_high) };
     join_mut(rt, &mut low, &mut high);
 }

@@ -4,11 +4,8 @@
 //! Contracts see the collection that the engine's version stands for before the batch. Each answer is what its query
 //! asks of the concordance list of its expression over the words of that collection, whichever version a lane entered,
 //! and in whatever order the threads ran. So the layer above writes the answers of `answer_batch` in the order of the
-//! queries, and may let a merge run beside each batch.
-//!
-//! A `Search` is one query on one version, and contracts see the members that are still to come. A `Listing` hands these
-//! out page by page, no more than `PAGE` at a time: so no whole list is kept, however long it is. Of an answer's listing the
-//! first page was found by the lane.
+//! queries, and may let a merge run beside each batch. A list is answered by a `Listing`, of which the lane found the
+//! first page.
 //!
 //! Over the file `to be or not to be` from address 0 on, with two readers, the batch `find "to"`, `count "be"`,
 //! `top 1 "to"` is answered by the listing 1 to 1, 5 to 5, the total 2 and the listing 1 to 1. The first and the third query are
@@ -29,14 +26,9 @@ mod find;
 mod gather;
 mod lane;
 mod lanes;
-mod listing;
 mod merging;
-mod questions;
-mod search;
 mod settle;
 
 pub use asks::{Ask, Asked, Found};
 pub use batch::answer_batch;
 pub use context::Context;
-pub use listing::{Listing, PAGE};
-pub use search::Search;

@@ -244,7 +244,7 @@ pub among_terms : (tokens : List (List ℕ)) (token : List ℕ) → list_any (is
 among_terms [] token = refl
 among_terms (other ∷ tokens) token = ap (λ b. bytes_eq other token || b) (among_terms tokens token)
 
-form_of-Term : (token : List ℕ) → form_of (Term token) ≡ term token
+pub form_of-Term : (token : List ℕ) → form_of (Term token) ≡ term token
 form_of-Term token = ap form_of (sym (rolls-Term token)) ∙ fold-roll-Expr Form form_step (F.Term token)
 
 -- the first operands and one more are terms

@@ -1,4 +1,4 @@
-ghost use Rattle.std.specs.Prelude.{◌≡◌, ◌+◌, ◌<◌, ◌≤◌, length, IfOk};
+ghost use Rattle.std.specs.Prelude.{◌≡◌, ◌+◌, ◌<◌, ◌≤◌, length, IfOk, IfSome};
 ghost use Rattle.gcl_model.specs.Collections.{Collection, text_of};
 ghost use Rattle.gcl_model.specs.FormOf.{form_of};
 ghost use Rattle.gcl_model.specs.Limits.{far};
@@ -9,7 +9,7 @@ ghost use Rattle.live_version.specs.StandsFor.{StandsFor};
 ghost use Rattle.manifest_publish.specs.Histories.{IsLatest};
 ghost use Rattle.reader_pass.specs.Members.{first_members, first_members_from, look_ups, access_most};
 
-use crate::counted::count;
+use crate::counted::{count, listed_count};
 use crate::fingered::list_from;
 use gcl_model::{Expr, IntervalList, Ledger, Steps};
 use manifest_publish::Pass;
@@ -68,4 +68,15 @@ pub fn pass_count<S: Ledger>(pass: &Pass, expr: &Expr, steps: &mut Steps<S>) -> 
         steps.new ≤ steps.old + look_ups (version_text v) (access_most v) (form_of expr.now) result }
 {
     count(expr, pass.version(), steps)
+}
+
+/// How many members there are, where the lengths of lists tell it without a look-up: of a term, of one of a few terms, and of what a prefix
+/// term stands for. It takes no memory, and looks at each term once. None says nothing.
+pub fn pass_listed_count(pass: &Pass, expr: &Expr) -> Option<u64>
+    ensures version { (v : VersionContent) → IsLatest pass.now.history v →
+        IfSome result (λ count. count ≡ length (concordance (version_text v) (form_of expr.now))) }
+    ensures collection { (v : VersionContent) (c : Collection) → IsLatest pass.now.history v → StandsFor v c →
+        IfSome result (λ count. count ≡ length (concordance (text_of c) (form_of expr.now))) }
+{
+    listed_count(pass.version(), expr)
 }

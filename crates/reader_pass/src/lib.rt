@@ -6,13 +6,15 @@
 //!
 //! The layer above asks for the first members, from the first one or from an address on, or for their number. Each makes at most as
 //! many look-ups as the expression's cost for each member, and once more: it leaps, and never lists an operand. Each word is found in
-//! the version once, and has a finger. The number of a term's members, and of one of several terms, takes no look-up. Over one file
-//! `to be or not to be` from address 0 on, `"to be"` has the members (1, 2) and (5, 6), and two of them are found by at most three
-//! times its cost.
+//! the version once, and has a finger. The number of a term's members, of one of a few terms, and of the words that a prefix stands for,
+//! takes no look-up: `pass_listed_count` tells it without an evaluation. Over one file `to be or not to be` from address 0 on, `"to be"`
+//! has the members (1, 2) and (5, 6), and two of them are found by at most three times its cost.
 #![tactic(auto)]
 
 mod answers;
 mod counted;
 mod fingered;
+mod reading;
 
-pub use answers::{pass_count, pass_list, pass_list_from};
+pub use answers::{pass_count, pass_list, pass_list_from, pass_listed_count};
+pub use reading::{pass_read_count, pass_read_from};

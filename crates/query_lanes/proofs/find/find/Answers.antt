@@ -3,7 +3,7 @@ use Rattle.std.proofs.lemmas.List.{take_all}
 use Rattle.gcl_model.specs.Extents.{Extent}
 use Rattle.gcl_model.specs.FormOf.{form_of}
 use Rattle.gcl_model.specs.Limits.{address_end}
-use Rattle.gcl_model.specs.Meaning.{concordance}
+use Rattle.gcl_model.specs.Wide.{wide}
 use Rattle.gcl_model.specs.declared.expr.Expr.{Expr}
 use Rattle.live_version.specs.Contents.{VersionContent, version_text}
 use Rattle.manifest_publish.specs.Histories.{IsLatest}
@@ -15,31 +15,31 @@ use Rattle.query_lanes.proofs.find.find.Goals as goal
 
 -- the members of a search over a copy of the expression are those over the latest version
 over_latest : (history : List VersionContent) (v : VersionContent) (expr copy : Expr) (members : List Extent) → IsLatest history v → copy ≡ expr
-    → members ≡ concordance (version_text (last_of history)) (form_of copy) → members ≡ concordance (version_text v) (form_of expr)
+    → members ≡ wide (version_text (last_of history)) (form_of copy) → members ≡ wide (version_text v) (form_of expr)
 over_latest history v expr copy members latest same is =
-    is ∙ ap (λ (e : Expr). concordance (version_text (last_of history)) (form_of e)) same ∙ ap (λ (w : VersionContent). concordance (version_text w) (form_of expr)) (last_is history v latest)
+    is ∙ ap (λ (e : Expr). wide (version_text (last_of history)) (form_of e)) same ∙ ap (λ (w : VersionContent). wide (version_text w) (form_of expr)) (last_is history v latest)
 
 pub returns-in_ok-listing-in-All : goal.returns-in_ok-listing-in-All
 returns-in_ok-listing-in-All c = λ v latest.
-    let list : List Extent = concordance (version_text v) (form_of c.args.expr.now.value) in
-    let few : length c.of-search.result ≤ address_end = c.of-search.ensures.few in
-    let all : take 18446744073709551615 c.of-search.result ≡ c.of-search.result = take_all 18446744073709551615 c.of-search.result (omega arith) in
-    ap Members (c.in_ok-listing-in-All.ensures ∙ all ∙ over_latest c.args.pass.history v c.args.expr.now.value c.in_ok-try_clone.field-0.value c.of-search.result latest c.in_ok-try_clone.ensures c.of-search.ensures.members)
+    let list : List Extent = wide (version_text v) (form_of c.args.expr.now.value) in
+    let few : length c.in_ok-search.search ≤ address_end = c.in_ok-search.ensures.few in
+    let all : take 18446744073709551615 c.in_ok-search.search ≡ c.in_ok-search.search = take_all 18446744073709551615 c.in_ok-search.search (omega arith) in
+    ap Members (c.in_ok-listing-in-All.ensures ∙ all ∙ over_latest c.args.pass.history v c.args.expr.now.value c.in_ok-try_clone.field-0.value c.in_ok-search.search latest c.in_ok-try_clone.ensures c.in_ok-search.ensures.members)
     ∙ ap (λ asked. found_in asked list) (sym c.in-All.is)
 
 pub returns-in_ok-listing-in-First : goal.returns-in_ok-listing-in-First
 returns-in_ok-listing-in-First c = λ v latest.
-    let list : List Extent = concordance (version_text v) (form_of c.args.expr.now.value) in
+    let list : List Extent = wide (version_text v) (form_of c.args.expr.now.value) in
     ap Members (c.in_ok-listing-in-First.ensures
     ∙ ap (λ (l : List Extent). take c.in-First.most l)
-    (over_latest c.args.pass.history v c.args.expr.now.value c.in_ok-try_clone.field-0.value c.of-search.result latest c.in_ok-try_clone.ensures c.of-search.ensures.members))
+    (over_latest c.args.pass.history v c.args.expr.now.value c.in_ok-try_clone.field-0.value c.in_ok-search.search latest c.in_ok-try_clone.ensures c.in_ok-search.ensures.members))
     ∙ ap (λ asked. found_in asked list) (sym c.in-First.is)
 
 pub returns-in-Number : goal.returns-in-Number
 returns-in-Number c = λ v latest.
-    let list : List Extent = concordance (version_text v) (form_of c.args.expr.now.value) in
-    let total : c.count.result ≡ length c.of-search.result = c.count.ensures in
+    let list : List Extent = wide (version_text v) (form_of c.args.expr.now.value) in
+    let total : c.count.result ≡ length c.in_ok-search.search = c.count.ensures.value in
     ap Total (total
     ∙ ap (λ (l : List Extent). length l)
-    (over_latest c.args.pass.history v c.args.expr.now.value c.in_ok-try_clone.field-0.value c.of-search.result latest c.in_ok-try_clone.ensures c.of-search.ensures.members))
+    (over_latest c.args.pass.history v c.args.expr.now.value c.in_ok-try_clone.field-0.value c.in_ok-search.search latest c.in_ok-try_clone.ensures c.in_ok-search.ensures.members))
     ∙ ap (λ asked. found_in asked list) (sym c.in-Number.is)

@@ -1,0 +1,4 @@
+pub mod PageLemmas
+pub mod SearchLemmas
+pub mod ReadingLemmas
+pub mod Crossings

@@ -1,0 +1,130 @@
+//! Members by readers.
+ghost use Rattle.std.specs.Prelude.{◌≡◌, ◌<◌, ◌≤◌, List, length, IfOk, OnErr};
+ghost use Rattle.gcl_model.specs.FormOf.{form_of};
+ghost use Rattle.gcl_model.specs.Limits.{far};
+ghost use Rattle.gcl_model.specs.WellFormed.{IsWellFormed};
+ghost use Rattle.gcl_eval.specs.Members.{members_from};
+ghost use Rattle.gcl_readers.specs.Reading.{behind_page};
+ghost use Rattle.live_version.specs.Contents.{VersionContent, version_text};
+ghost use Rattle.manifest_publish.specs.Accounts.{EndsWith};
+ghost use Rattle.reader_pass.specs.Members.{first_members_from};
+ghost use Rattle.collection.specs.Engines.{last_of};
+ghost use Rattle.query_search.specs.inner.Searches.{ReadFrom, StandFrom, members_over};
+
+use crate::questions::MembersFrom;
+use crate::shapes::may_search_again;
+use gcl_model::{Expr, IntervalList, NoLedger, Steps, uncounted};
+use gcl_readers::Readers;
+use live_version::Version;
+use manifest_publish::Pass;
+use reader_pass::{pass_read_count, pass_read_from};
+use std::alloc::{AllocError, Global};
+use std::marker::Brand;
+use std::sync::ledger;
+use std::sync::ledger::Blank;
+
+/// Readers, where leaping may be slow and there is memory for them.
+pub fn readers_of(alloc: Global, version: &Version, expr: &Expr) -> Option<Readers>
+    ensures { (history : List VersionContent) → ReadFrom history (form_of expr.now) 0 result }
+{
+    if !may_search_again(version, expr) {
+        return None;
+    }
+    match Readers::new(alloc, expr) {
+        Ok(readers) => Some(readers),
+        Err(_) => None,
+    }
+}
+
+/// The first members from an address on: by readers, where there are some, and else by leaping. Readers that may have passed members which
+/// are still to come are given up: after a page that was refused, and after the last one.
+pub fn page_from(
+    alloc: Global,
+    pass: &Pass,
+    expr: &Expr,
+    readers: &mut Option<Readers>,
+    from: u64,
+    most: u64,
+) -> Result<IntervalList, AllocError>
+    requires last { EndsWith pass.now.history (last_of pass.now.history) }
+    requires well_formed { IsWellFormed (form_of expr.now) }
+    requires below { from < far }
+    requires readers { ReadFrom pass.now.history (form_of expr.now) from readers.old }
+    ensures ok { IfOk result (λ page.
+        page ≡ first_members_from (version_text (last_of pass.now.history)) (form_of expr.now) from most) }
+    ensures full { IfOk result (λ page.
+        length page ≡ most → ReadFrom pass.now.history (form_of expr.now) (behind_page from page) readers.new) }
+    ensures short { IfOk result (λ page. length page < most → readers.new ≡ None) }
+    ensures err { OnErr result (readers.new ≡ None) }
+{
+    let Some(mut reading) = readers.take() else {
+        return uncounted(&MembersFrom {
+            alloc,
+            pass,
+            expr,
+            from,
+            limit: most,
+        });
+    };
+    let page = read_page::<Brand>(alloc, pass, &mut reading, expr, from, most, Blank::new(1))?;
+    if page.len() as u64 == most {
+        *readers = Some(reading);
+    }
+    Ok(page)
+}
+
+fn read_page<B: ledger::Ledger>(
+    alloc: Global,
+    pass: &Pass,
+    readers: &mut Readers,
+    expr: &Expr,
+    from: u64,
+    most: u64,
+    blank: Blank,
+) -> Result<IntervalList, AllocError>
+    requires last { EndsWith pass.now.history (last_of pass.now.history) }
+    requires well_formed { IsWellFormed (form_of expr.now) }
+    requires below { from < far }
+    requires readers { StandFrom pass.now.history (form_of expr.now) from readers.old }
+    requires name { blank.name ≡ B.name }
+    requires parts { blank.parts ≡ B.parts }
+    requires some { 0 < blank.parts }
+    ensures ok { IfOk result (λ page.
+        page ≡ first_members_from (version_text (last_of pass.now.history)) (form_of expr.now) from most) }
+    ensures full { IfOk result (λ page.
+        length page ≡ most → StandFrom pass.now.history (form_of expr.now) (behind_page from page) readers.new) }
+{
+    let mut steps = Steps::<NoLedger<B>>::open(blank);
+    pass_read_from(alloc, pass, readers, expr, from, most, &mut steps)
+}
+
+/// How many members there are from an address on.
+pub fn count_from(pass: &Pass, expr: &Expr, readers: &mut Readers, from: u64) -> u64
+    requires last { EndsWith pass.now.history (last_of pass.now.history) }
+    requires well_formed { IsWellFormed (form_of expr.now) }
+    requires below { from < far }
+    requires readers { StandFrom pass.now.history (form_of expr.now) from readers.old }
+    ensures { result ≡ length (members_from (members_over pass.now.history (form_of expr.now)) from) }
+{
+    read_number::<Brand>(pass, expr, readers, from, Blank::new(1))
+}
+
+fn read_number<B: ledger::Ledger>(
+    pass: &Pass,
+    expr: &Expr,
+    readers: &mut Readers,
+    from: u64,
+    blank: Blank,
+) -> u64
+    requires last { EndsWith pass.now.history (last_of pass.now.history) }
+    requires well_formed { IsWellFormed (form_of expr.now) }
+    requires below { from < far }
+    requires readers { StandFrom pass.now.history (form_of expr.now) from readers.old }
+    requires name { blank.name ≡ B.name }
+    requires parts { blank.parts ≡ B.parts }
+    requires some { 0 < blank.parts }
+    ensures { result ≡ length (members_from (members_over pass.now.history (form_of expr.now)) from) }
+{
+    let mut steps = Steps::<NoLedger<B>>::open(blank);
+    pass_read_count(pass, readers, expr, from, &mut steps)
+}

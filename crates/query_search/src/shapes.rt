@@ -1,0 +1,110 @@
+//! Which searches readers answer.
+use crate::rarest::leaps_well;
+use gcl_model::Expr;
+use live_version::Version;
+
+// Leaping through this many containments in each other is left to readers.
+const DEEP: u64 = 4;
+
+// So is "one of" more operands than these.
+const WIDE: u64 = 16;
+
+/// Whether leaping may ask again and again what it has asked before.
+///
+/// A containment goes on from turn to turn, and each turn asks its operands. Where one of them is a chain that holds a containment, each
+/// such question may be a whole search: over a text of `a` alone, that of `("a" + ("a" /< [1])) /< [1]` goes through all words for each
+/// word. Containments in each other alone do so only where they are many, and else leaping is quicker than reading.
+///
+/// For each member "one of" asks all its operands anew. Readers keep the answers, and ask those operands alone that were passed. That pays
+/// where there are many, as in the expansion of a prefix that many words have. It does not where each member has a rare term: leaping then
+/// asks the operands only close to the places of that term, and readers would go through all that they have between these places.
+pub fn may_search_again(version: &Version, expr: &Expr) -> bool {
+    let shape = shape_of(expr);
+    if shape.asks_a_chain || shape.nesting >= DEEP {
+        return true;
+    }
+    shape.is_wide && !leaps_well(version, expr, shape.leaves)
+}
+
+#[derive(Clone, Copy)]
+struct Shape {
+    // How many containments stand in each other at the most.
+    nesting: u64,
+    // Whether some chain holds a containment, and whether some containment has an operand in which one does.
+    has_a_chain: bool,
+    asks_a_chain: bool,
+    // Of how many operands it is "one of": those of "one of" among them count in its place, and anything else is one.
+    choices: u64,
+    // Whether some "one of" in it has many operands.
+    is_wide: bool,
+    // How many terms, phrases and widths it has.
+    leaves: u64,
+}
+
+/// That of several expressions together.
+fn together(a: Shape, b: Shape) -> Shape {
+    Shape {
+        nesting: a.nesting.max(b.nesting),
+        has_a_chain: a.has_a_chain || b.has_a_chain,
+        asks_a_chain: a.asks_a_chain || b.asks_a_chain,
+        choices: a.choices.saturating_add(b.choices),
+        is_wide: a.is_wide || b.is_wide,
+        leaves: a.leaves.saturating_add(b.leaves),
+    }
+}
+
+/// That of this many terms, phrases and widths.
+fn plain(leaves: u64) -> Shape {
+    Shape {
+        nesting: 0,
+        has_a_chain: false,
+        asks_a_chain: false,
+        choices: leaves,
+        is_wide: false,
+        leaves,
+    }
+}
+
+#[cycle(shape)]
+fn shape_of(expr: &Expr) -> Shape {
+    match expr {
+        Expr::Term(_) | Expr::Phrase(_) | Expr::Width(_) => plain(1),
+        Expr::One(operands) => {
+            let all = shape_of_all(operands);
+            Shape {
+                has_a_chain: all.nesting > 0,
+                is_wide: all.is_wide || all.choices > WIDE,
+                ..all
+            }
+        }
+        Expr::Both(operands) | Expr::Seq(operands) => {
+            let all = shape_of_all(operands);
+            Shape {
+                has_a_chain: all.nesting > 0,
+                choices: 1,
+                ..all
+            }
+        }
+        Expr::Containing(a, b)
+        | Expr::ContainedIn(a, b)
+        | Expr::NotContaining(a, b)
+        | Expr::NotContainedIn(a, b) => {
+            let all = together(shape_of(a), shape_of(b));
+            Shape {
+                nesting: all.nesting.saturating_add(1),
+                asks_a_chain: all.has_a_chain,
+                choices: 1,
+                ..all
+            }
+        }
+    }
+}
+
+#[cycle(shape)]
+fn shape_of_all(operands: &[Expr]) -> Shape {
+    let mut all = plain(0);
+    for operand in operands {
+        all = together(all, shape_of(operand));
+    }
+    all
+}
