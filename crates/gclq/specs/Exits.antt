@@ -1,6 +1,8 @@
 -- What the exit statuses say.
-use Rattle.std.specs.Prelude.{◌≡◌, ℕ, ◌⊎◌, ◌==◌, if◌then◌else◌}
-use Rattle.script_answers.specs.Stopped.{Ending, finished, read_failed, too_long, write_failed, files_failed, out_of_memory}
+use Rattle.std.specs.Prelude.{◌≡◌, ℕ, List}
+use Rattle.query_run.specs.Promises.{IsRun, Objects}
+use Rattle.query_run.specs.Statuses.{number_of}
+use Rattle.query_run.specs.declared.status.Status.{Status}
 use Rattle.gclq.specs.declared.words.WordFault.{WordFault}
 use Rattle.gclq.specs.declared.words.WordFault.TheVariants.{NotText, NoMemory}
 
@@ -9,19 +11,10 @@ abbrev pub word_status : WordFault → ℕ
 word_status NotText = 2
 word_status NoMemory = 6
 
--- all was answered
-abbrev pub IsAllAnswered : ℕ → Type 0
-IsAllAnswered status = (status ≡ 0) ⊎ (status ≡ 1)
-
--- all was answered, or memory was wanted
-abbrev pub IsEnd : ℕ → Type 0
-IsEnd status = (status ≡ 0) ⊎ ((status ≡ 1) ⊎ (status ≡ 6))
-
--- no file failed, and no memory was wanted
-abbrev pub IsSureOfFiles : ℕ → Type 0
-IsSureOfFiles status = (¬ (status ≡ 5)) × (¬ (status ≡ 6))
-
--- how a run with this exit status ended
-abbrev pub ending_of : ℕ → Ending
-ending_of status = if status == 3 then read_failed else if status == 4 then write_failed else if status == 5 then files_failed
-    else if status == 6 then out_of_memory else if status == 7 then too_long else finished
+-- The exit status is the number of a status, and all that `run` promises of a run by these words that ended with it is so. No two statuses have
+-- one number: so 0 says that every line was answered and no answer is a refusal, and the others what `Status` says of them
+pub record Exits (words : List (List ℕ)) (old new : Objects) (code : ℕ) (same_source same_files same_sink : Type 0) : Type 0 where
+  pub status : Status
+  pub number : code ≡ number_of status
+  pub completed : ℕ
+  pub run : IsRun words old new completed status same_source same_files same_sink

@@ -1,9 +1,9 @@
 //! Answers a script of queries over files: the real objects, lent to `run`, and the status that it gives.
 //!
 //! The script stands on standard input, and the answers go to standard output. One line on standard error says what
-//! was wrong where the status is 2 or more, but not where the reader of the answers has gone. What the program promises
-//! of the objects that it is lent is the contract of `answer`: that of `query_run::run`, with the exit status in place
-//! of the run's.
+//! was wrong where the status is 2 or more, but not where the reader of the answers has gone. `main` only makes the real
+//! objects. What the program promises of them and of its arguments is the contract of `begin`: that of `query_run::run`
+//! by the words after the program's name, with the exit status in place of the run's.
 #![tactic(auto)]
 
 mod advice;
@@ -14,27 +14,26 @@ mod tell;
 mod words;
 
 use outside_std::{StdFiles, StdSink, StdSource};
-use session::answer;
+use session::begin;
 use std::io::IsTerminal;
 use std::process::ExitCode;
-use tell::{invite, refuse};
-use words::words;
+use tell::refuse;
+use words::arguments;
 
 fn main(rt: HostRuntime) -> ExitCode {
-    let words = match words(&rt) {
-        Ok(words) => words,
+    let args = match arguments(&rt) {
+        Ok(args) => args,
         Err(fault) => return refuse(&rt, fault),
     };
+    let awaited = rt.stdin().is_terminal();
     let mut files = StdFiles::new(&rt);
-    if rt.stdin().is_terminal() {
-        invite(&rt, words.as_slice());
-    }
     let mut source = StdSource::new(&rt, rt.stdin());
     let mut sink = StdSink::new(&rt, rt.stdout());
-    answer(
+    begin(
         &rt,
         rt.alloc(),
-        words.as_slice(),
+        args.as_slice(),
+        awaited,
         &mut files,
         &mut source,
         &mut sink,

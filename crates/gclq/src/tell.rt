@@ -11,6 +11,7 @@ use command_words::{options_of, wrong_word};
 use gcl_model::Bytes;
 use outside_std::FileCall;
 use query_run::{SCRIPT_MOST, Status};
+use std::alloc::Global;
 use std::io;
 use std::process::ExitCode;
 
@@ -21,18 +22,20 @@ pub const USAGE: &str =
 const OUT_OF_MEMORY: &str =
     "gclq: out of memory: add fewer or smaller files, or save an image and open it in another run";
 
+/// How a run with these words ended, and how many lines of its script were completed.
+#[derive(Drop)]
+pub struct Told<'a> {
+    pub status: Status,
+    pub completed: u64,
+    pub words: &'a [Bytes],
+}
+
 /// One line on standard error for each status from 2 on: what was wrong, with which word or name, and what to see to.
 /// Where nobody reads the answers any more that is said by the status alone.
-pub fn tell<R: Eprint, F: FaultName, K: ReaderGone>(
-    rt: &R,
-    status: Status,
-    words: &[Bytes],
-    files: &F,
-    sink: &K,
-) {
-    let _ = match status {
+pub fn tell<R: Eprint, F: FaultName, K: ReaderGone>(rt: &R, ended: &Told<'_>, files: &F, sink: &K) {
+    let _ = match ended.status {
         Status::Done | Status::DoneWithRefusals => Ok(()),
-        Status::Usage => tell_usage(rt, words),
+        Status::Usage => tell_usage(rt, ended.words),
         Status::ReadFault => eprintln!(rt;
             "gclq: cannot read the script from standard input: give it as a file or through a pipe"
         ),
@@ -40,7 +43,7 @@ pub fn tell<R: Eprint, F: FaultName, K: ReaderGone>(
         Status::WriteFault => eprintln!(rt;
             "gclq: cannot write the answers to standard output: see that its disk has room and its reader goes on"
         ),
-        Status::FileFault => tell_file(rt, files),
+        Status::FileFault => tell_file(rt, files, ended.completed),
         Status::NoMemory => eprintln!(rt; "{OUT_OF_MEMORY}"),
         Status::ScriptTooLong => eprintln!(rt;
             "gclq: the script has more than {SCRIPT_MOST} bytes: cut it, and save an image between its parts"
@@ -56,8 +59,10 @@ fn tell_usage<R: Eprint>(rt: &R, words: &[Bytes]) -> io::Result<()> {
     }
 }
 
-/// A name is told within quotes and with escapes, so that it moves nothing on a terminal.
-fn tell_file<R: Eprint, F: FaultName>(rt: &R, files: &F) -> io::Result<()> {
+/// A name is told within quotes and with escapes, so that it moves nothing on a terminal. The line that names the file is the one after
+/// those that are completed.
+fn tell_file<R: Eprint, F: FaultName>(rt: &R, files: &F, completed: u64) -> io::Result<()> {
+    let line = completed.saturating_add(1);
     let (done, advice) = match files.fault_call() {
         Some(FileCall::Keep) => ("save", advice_on_keep(files.fault_cause())),
         _ => ("read", advice_on_load(files.fault_cause())),
@@ -65,15 +70,15 @@ fn tell_file<R: Eprint, F: FaultName>(rt: &R, files: &F) -> io::Result<()> {
     match str::from_utf8(files.fault_name()) {
         Ok(name) if !name.is_empty() => {
             let as_it_is = advice_on_name(name);
-            eprintln!(rt; "gclq: cannot {done} {name:?}: {advice}{as_it_is}")
+            eprintln!(rt; "gclq: line {line}: cannot {done} {name:?}: {advice}{as_it_is}")
         }
-        _ => eprintln!(rt; "gclq: cannot {done} a file: {advice}"),
+        _ => eprintln!(rt; "gclq: line {line}: cannot {done} a file: {advice}"),
     }
 }
 
 /// One line where a terminal is to give the script: that it is awaited, and how it ends.
-pub fn invite<R: Eprint + AllocGlobal>(rt: &R, words: &[Bytes]) {
-    let Ok(Some(options)) = options_of(rt.alloc(), words) else {
+pub fn invite<R: Eprint>(rt: &R, alloc: Global, words: &[Bytes]) {
+    let Ok(Some(options)) = options_of(alloc, words) else {
         return;
     };
     if options.made.is_none() {

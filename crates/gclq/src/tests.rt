@@ -1,6 +1,6 @@
 use crate::fault_name::FaultName;
 use crate::reader_gone::ReaderGone;
-use crate::session::answer;
+use crate::session::begin;
 use crate::tell::refuse;
 use crate::words::{WordFault, copied};
 use gcl_model::Bytes;
@@ -30,18 +30,20 @@ impl ReaderGone for MemSink {
     }
 }
 
-fn list(alloc: Global, words: &[&[u8]]) -> Result<Vec<Bytes>, AllocError> {
-    let mut list = Vec::new(alloc);
+/// The arguments of a program: its name, and these words.
+fn arguments(alloc: Global, words: &[&str]) -> Result<Vec<String>, AllocError> {
+    let mut arguments = Vec::new(alloc);
+    arguments.push(String::from_str(alloc, "gclq")?)?;
     for word in words {
-        list.push(Bytes::copy_of(alloc, word)?)?;
+        arguments.push(String::from_str(alloc, word)?)?;
     }
-    Ok(list)
+    Ok(arguments)
 }
 
 /// One script over objects in memory, of which the source and the sink fail at these calls.
 struct Case<'a> {
     name: &'a str,
-    words: &'a [&'a [u8]],
+    words: &'a [&'a str],
     script: &'a [u8],
     fails: (&'a [u64], &'a [u64]),
     output: &'a [u8],
@@ -59,7 +61,7 @@ const CASES: [Case<'static>; 8] = [
     },
     Case {
         name: "a refusal, and the words are read",
-        words: &[b"--first", b"100"],
+        words: &["--first", "100"],
         script: b"add a\ndel 7\n",
         fails: (&[], &[]),
         output: b"file 0 100 103\n! no file 7\n",
@@ -67,7 +69,7 @@ const CASES: [Case<'static>; 8] = [
     },
     Case {
         name: "the words are outside the grammar",
-        words: &[b"--first", b"100", b"x"],
+        words: &["--first", "100", "x"],
         script: b"add a\n",
         fails: (&[], &[]),
         output: b"",
@@ -75,7 +77,7 @@ const CASES: [Case<'static>; 8] = [
     },
     Case {
         name: "a made corpus takes the place of the script",
-        words: &[b"--made", b"0", b"--count", b"1"],
+        words: &["--made", "0", "--count", "1"],
         script: b"add b\n",
         fails: (&[1], &[]),
         output: b"made 0 1\nlines 4\nrefused 0\nbytes 24\nsum 1177\n",
@@ -119,7 +121,7 @@ const CASES: [Case<'static>; 8] = [
 fn the_exit_status_says_how_the_run_ended(rt: HostRuntime) -> Result<(), Fail> {
     let alloc = rt.alloc();
     for case in &CASES {
-        let words = list(alloc, case.words)?;
+        let args = arguments(alloc, case.words)?;
         let mut held = Vec::new(alloc);
         held.push((
             Bytes::copy_of(alloc, b"a")?,
@@ -129,8 +131,8 @@ fn the_exit_status_says_how_the_run_ended(rt: HostRuntime) -> Result<(), Fail> {
         let script = Bytes::copy_of(alloc, case.script)?;
         let mut source = MemSource::new(alloc, script, case.fails.0.to_vec(alloc)?);
         let mut sink = MemSink::new(alloc, case.fails.1.to_vec(alloc)?);
-        let words = words.as_slice();
-        let status = answer(&rt, alloc, words, &mut files, &mut source, &mut sink);
+        let args = args.as_slice();
+        let status = begin(&rt, alloc, args, false, &mut files, &mut source, &mut sink);
         assert_eq!(rt; sink.written(), case.output, "{}", case.name);
         assert_eq!(rt; status, ExitCode::from(case.status), "{}", case.name);
     }

@@ -21,19 +21,19 @@ impl From<AllocError> for WordFault {
     }
 }
 
-/// The words of the command line, without the program's name.
-pub fn words<R: Env + AllocGlobal>(rt: &R) -> Result<Vec<Bytes>, WordFault> {
+/// The arguments of the program, from its name on.
+pub fn arguments<R: Env + AllocGlobal>(rt: &R) -> Result<Vec<String>, WordFault> {
     let args = match env::args(rt) {
         Ok(args) => args,
         Err(fault) if fault.kind() == ErrorKind::OutOfMemory => return Err(WordFault::NoMemory),
         Err(_) => return Err(WordFault::NotText),
     };
     let args: Vec<String> = args.collect(rt.alloc())?;
-    Ok(copied(rt.alloc(), after_name(args.as_slice()))?)
+    Ok(args)
 }
 
 /// The words after the program's name, where there is one.
-fn after_name(args: &[String]) -> &[String]
+pub fn after_name(args: &[String]) -> &[String]
     ensures { result.now ≡ drop 1 args.now }
 {
     match args.split_at_checked(1) {

@@ -1,4 +1,5 @@
 -- Lemmas, and worked examples.
+pub mod RunLemmas
 pub mod StreamLemmas
 pub mod Told
 pub mod WholeScripts

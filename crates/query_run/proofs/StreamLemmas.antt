@@ -20,7 +20,7 @@ use Rattle.query_run.specs.inner.Streams.{FeedsPiece, IsFed, IsSure, ReadsOn, Se
 use Rattle.script_answers.specs.Stopped.{Ending, IsOfFiles}
 use Rattle.script_answers.specs.inner.Service.{Halts, IsSureOfFiles, Serves, Stand, fault_ending as held_ending}
 use Rattle.script_answers.proofs.Service.{halts_after, halts_more, halts_on, serves_none, serves_on}
-use Rattle.query_run.specs.Runs.{HandsOver, TakesWithin, within}
+use Rattle.query_run.specs.Runs.{HandsOver, TakesAtMost, within}
 use Rattle.query_run.specs.Faults.{of_read, of_run}
 use Rattle.script_answers.specs.declared.limits.Limits.{Limits}
 use Rattle.query_run.specs.declared.read.ReadFault.{ReadFault}
@@ -56,15 +56,19 @@ pub hands_over : (r most : ℕ) (left mid after : Option (List ℕ)) → r ≤ m
 hands_over r most left mid after short hands more =
     subst (λ (k : ℕ). HandsOver k left after) (omega (arith, short)) (hands_more r (most - r + 1) left mid after hands more)
 
+-- this many are no more than that
+pub takes_all : (n : ℕ) (left after : Option (List ℕ)) → HandsOver n left after → TakesAtMost n left after
+takes_all n left after hands = record { taken = hands.taken; from = hands.from; few = omega (arith, hands.count_is) }
+
 -- within the limit so far
-pub takes_handed : (r most : ℕ) (left mid : Option (List ℕ)) → r ≤ most → HandsOver r left mid → TakesWithin most left mid
+pub takes_handed : (r most : ℕ) (left mid : Option (List ℕ)) → r ≤ most → HandsOver r left mid → TakesAtMost most left mid
 takes_handed r most left mid short hands = record { taken = hands.taken; from = hands.from; few = omega (arith, short, hands.count_is) }
 
-pub takes_none : (most : ℕ) (left : Option (List ℕ)) → TakesWithin most left left
+pub takes_none : (most : ℕ) (left : Option (List ℕ)) → TakesAtMost most left left
 takes_none most left = record { taken = []; from = Consumes-nil left; few = omega arith }
 
 -- and within the limit with the next piece
-pub takes_more : (r most : ℕ) (left mid after : Option (List ℕ)) → r ≤ most → HandsOver r left mid → TakesWithin (most - r) mid after → TakesWithin most left after
+pub takes_more : (r most : ℕ) (left mid after : Option (List ℕ)) → r ≤ most → HandsOver r left mid → TakesAtMost (most - r) mid after → TakesAtMost most left after
 takes_more r most left mid after short hands more = record {
   taken = hands.taken ++ more.taken;
   from = Consumes-trans left mid after hands.taken more.taken hands.from more.from;
@@ -195,16 +199,15 @@ module _ (limits : Limits) (script : List ℕ) (before : Stand) (old : Option (L
       let all = lines limits.line script in
       let done = take mid.completed all in
       let whole : all ≡ (done ++ batch) ++ rest = sym (take-append-drop mid.completed all) ∙ ap (λ (l : List Line). done ++ l) next ∙ sym (append_assoc done batch rest) in
-      subst (λ (l : List Line). Halts limits l how kept before now old new) (sym whole)
-      (halts_more limits (done ++ batch) rest how kept before now old new (halts_on limits done batch how kept before mid now old middle new reads.come halts))
+      halts_more limits all (done ++ batch) rest how kept before now old new whole (halts_on limits (done ++ batch) done batch how kept before mid now old middle new refl reads.come halts)
 
   -- it ended before the next line
   pub reads_stop : (r : ℕ) (held : List ℕ) (how : Ending) (kept : Type 0) (mid : Stand) (middle : Option (List ℕ)) → (IsOfFiles how → ⊥) → ReadsOn limits script r held before mid old middle →
       Halts limits (lines limits.line script) how kept before mid old middle
   reads_stop r held how kept mid middle ours reads =
       let all = lines limits.line script in
-      subst (λ (l : List Line). Halts limits l how kept before mid old middle) (take-append-drop mid.completed all)
-      (halts_more limits (take mid.completed all) (drop mid.completed all) how kept before mid old middle (halts_after limits (take mid.completed all) how kept before mid old middle ours reads.come))
+      halts_more limits all (take mid.completed all) (drop mid.completed all) how kept before mid old middle (sym (take-append-drop mid.completed all))
+      (halts_after limits (take mid.completed all) how kept before mid old middle ours reads.come)
 
   -- the lines that come last are served
   pub reads_all : (r : ℕ) (held : List ℕ) (batch : List Line) (mid now : Stand) (middle new : Option (List ℕ)) → ReadsOn limits script r held before mid old middle →
@@ -257,6 +260,10 @@ pub long_read : (fault : ReadFault) → of_read fault ≡ StreamTooLong → faul
 long_read ReadFailed is = absurd (cc is)
 long_read ReadTooLong is = refl
 long_read ReadNoMemory is = absurd (cc is)
+
+pub long_ended : {T : Type 0} (r : Result T StreamFault) (fault : ReadFault) → IsErrAnd r (λ e. e ≡ of_read fault) → fault ≡ ReadTooLong → IsErrOf r StreamTooLong
+long_ended (Ok b) fault is long = absurd is
+long_ended (Err e) fault is long = ap Err (is ∙ ap of_read long)
 
 -- a read that ended as too long
 pub read_long : {T : Type 0} (r : Result T StreamFault) (fault : ReadFault) → IsErrAnd r (λ e. e ≡ of_read fault) → IsErrOf r StreamTooLong → fault ≡ ReadTooLong

@@ -7,7 +7,7 @@ use Rattle.script_lang.specs.Lines.{Line, lines, text_of_lines}
 use Rattle.script_answers.specs.Images.{Images}
 use Rattle.script_answers.specs.States.{State, Keeps, opening, IsFresh}
 use Rattle.script_answers.specs.Answers.{answers, output_by, state_after, AreRead}
-use Rattle.query_run.specs.Runs.{WhereTold, WhereMade, WhereMadeBy, HasAnswered, HasStopped, IsLeftBy, within, made_opening, made_summary}
+use Rattle.query_run.specs.Runs.{WhereTold, WhereMade, WhereMadeBy, HasAnswered, StopsAfter, IsLeftBy, within, made_opening, made_summary}
 use Rattle.script_answers.specs.Stopped.{Ending, GetsPart, IsOfFiles, IsStopped, begun}
 use Rattle.script_answers.specs.inner.Service.{Halts, IsAtStand, Serves, Stand}
 use Rattle.script_answers.proofs.Stops.{stopped_after}
@@ -133,11 +133,10 @@ nothing_of limits (Some first) left held sink text = part_before limits first le
 
 -- no line is completed, nothing was written, and the files are as they were
 pub none_stopped : (limits : Limits) (first : Option ℕ) (how : Ending) (ours : IsOfFiles how → ⊥) (kept : Type 0) (left : Option (List ℕ)) (held : Option Contents) (sink : Option (List ℕ)) →
-    WhereTold limits first left held (λ start script. HasStopped limits start (lines limits.line script) how kept held sink sink)
+    WhereTold limits first left held (λ start script. StopsAfter limits start (lines limits.line script) 0 how kept held sink sink)
 none_stopped limits None how ours kept left held sink = tt
-none_stopped limits (Some first) how ours kept left held sink = told limits first left held (λ start script. HasStopped limits start (lines limits.line script) how kept held sink sink) (λ script contents images is_left is_held.
+none_stopped limits (Some first) how ours kept left held sink = told limits first left held (λ start script. StopsAfter limits start (lines limits.line script) 0 how kept held sink sink) (λ script contents images is_left is_held.
     record {
-      completed = 0;
       within = omega arith;
       part = record { part = []; rest = _; whole = refl; written = Appends-nil sink };
       all = λ due. Appends-nil sink;
@@ -146,24 +145,18 @@ none_stopped limits (Some first) how ours kept left held sink = told limits firs
       named = λ failed. absurd (ours failed);
     })
 
--- a stop after so many lines is one after some
-pub some_stopped : (limits : Limits) (first : ℕ) (how : Ending) (kept : Type 0) (left : Option (List ℕ)) (held held' : Option Contents) (old new : Option (List ℕ)) (completed : ℕ) (version : VersionContent) →
+-- a stop of an engine is one of what it reads and writes
+pub stops_after : (limits : Limits) (first : ℕ) (how : Ending) (kept : Type 0) (left : Option (List ℕ)) (held held' : Option Contents) (old new : Option (List ℕ)) (completed : ℕ) (version : VersionContent) →
     WhereTold limits (Some first) left held (λ start script. IsStopped limits start (lines limits.line script) completed version how kept held' old new) →
-    WhereTold limits (Some first) left held (λ start script. HasStopped limits start (lines limits.line script) how kept held' old new)
-some_stopped limits first how kept left held held' old new completed version = told_as limits first left held
-    (λ start script. IsStopped limits start (lines limits.line script) completed version how kept held' old new) (λ start script. HasStopped limits start (lines limits.line script) how kept held' old new)
-    (λ start script stop. record { completed = completed; within = stop.within; part = stop.part; all = stop.all; files = stop.files; exact = stop.exact; named = stop.named })
+    WhereTold limits (Some first) left held (λ start script. StopsAfter limits start (lines limits.line script) completed how kept held' old new)
+stops_after limits first how kept left held held' old new completed version = told_as limits first left held
+    (λ start script. IsStopped limits start (lines limits.line script) completed version how kept held' old new) (λ start script. StopsAfter limits start (lines limits.line script) completed how kept held' old new)
+    (λ start script stop. record { within = stop.within; part = stop.part; all = stop.all; files = stop.files; exact = stop.exact; named = stop.named })
 
 -- a stop within a script is a part of its output
 pub part_stopped : (limits : Limits) (start : State) (script : List ℕ) (completed : ℕ) (version : VersionContent) (how : Ending) (kept : Type 0) (held : Option Contents) (old new : Option (List ℕ)) →
     IsStopped limits start (lines limits.line script) completed version how kept held old new → GetsPart old new (output_by limits start script)
 part_stopped limits start script completed version how kept held old new stop = part_of_all limits start (lines limits.line script) (completed + begun (drop completed (lines limits.line script))) old new stop.part
-
--- by the address that the words give, and by limits that are the same
-pub by_words : (o : Option ℕ) (limits limits' : Limits) (first : ℕ) (left : Option (List ℕ)) (held : Option Contents) (P : Limits → State → List ℕ → Type 0) → Some first ≡ o → limits ≡ limits' →
-    WhereTold limits (Some first) left held (P limits) → WhereTold limits' o left held (P limits')
-by_words o limits limits' first left held P is same h =
-    subst (λ (w : Option ℕ). WhereTold limits' w left held (P limits')) is (subst (λ (l : Limits). WhereTold l (Some first) left held (P l)) same h)
 
 -- nothing is a part of the summary of a made run
 made_before : (first : ℕ) (made : Option Made) (sink : Option (List ℕ)) → IfSome made (λ (m : Made). WhereMade first m (λ start. GetsPart sink sink (made_summary m start)))

@@ -1,4 +1,5 @@
 pub mod Faults
+pub mod Promises
 pub mod Runs
 pub mod Statuses
 pub mod Words

@@ -45,11 +45,10 @@ pub record IsLeftBy (limits : Limits) (start : State) (script : List ℕ) (engin
   pub keeps : Keeps engine false (state_after limits start (lines limits.line script))
   pub each : completed ≡ length (lines limits.line script)
 
--- Some lines are completed: the sink got the beginning of the answers to them and to the query that the next line asks, if it asks one, and where no write
--- failed and there was memory, it got all answers to them and no more. The files hold what the lines leave, but for the name that the next line
+-- This many lines are completed: the sink got the beginning of the answers to them and to the query that the next line asks, if it asks one, and where no
+-- write failed and there was memory, it got all answers to them and no more. The files hold what the lines leave, but for the name that the next line
 -- saves, and where each keep succeeded exactly that. Where the files failed, the next line names one
-pub record HasStopped (limits : Limits) (start : State) (script : List Line) (how : Ending) (kept : Type 0) (held : Option Contents) (old new : Option (List ℕ)) : Type 0 where
-  pub completed : ℕ
+pub record StopsAfter (limits : Limits) (start : State) (script : List Line) (completed : ℕ) (how : Ending) (kept : Type 0) (held : Option Contents) (old new : Option (List ℕ)) : Type 0 where
   pub within : completed ≤ length script
   pub part : GetsPart old new (text_of_lines (answers limits start (take (completed + begun (drop completed script)) script)))
   pub all : IsAllWritten how → Appends old new (text_of_lines (answers limits start (take completed script)))
@@ -67,11 +66,11 @@ pub record HandsOver (count : ℕ) (old new : Option (List ℕ)) : Type 0 where
 abbrev pub HandsOverMore : ℕ → Option (List ℕ) → Option (List ℕ) → Type 0
 HandsOverMore most old new = HandsOver (most + 1) old new
 
--- the source handed over at most one byte more than this many
-pub record TakesWithin (most : ℕ) (old new : Option (List ℕ)) : Type 0 where
+-- the source handed over at most this many bytes
+pub record TakesAtMost (most : ℕ) (old new : Option (List ℕ)) : Type 0 where
   pub taken : List ℕ
   pub from : Consumes old new taken
-  pub few : length taken ≤ most + 1
+  pub few : length taken ≤ most
 
 -- of a script that is too long, the lines that end within the limit
 abbrev pub within : ℕ → List ℕ → List ℕ

@@ -4,7 +4,7 @@ ghost use Rattle.made_corpus.specs.MadeLines.{made_lines};
 ghost use Rattle.made_corpus.specs.Summary.{summary};
 ghost use Rattle.outside.specs.Causes.{Rose};
 ghost use Rattle.gcl_model.specs.Limits.{address_end, most_made, most_readers};
-ghost use Rattle.query_run.specs.Statuses.{IsAllAnswered, IsMadeEnd};
+ghost use Rattle.query_run.specs.Statuses.{IsMadeEnd};
 ghost use Rattle.query_run.specs.Runs.{WhereMade, IsSummed, AreTold, made_summary};
 ghost use Rattle.script_answers.specs.Stopped.{GetsPart};
 
@@ -13,36 +13,37 @@ use crate::status::Status;
 use command_words::Made;
 use made_corpus::{MadeFiles, SummarySink, made_script};
 use outside::{Gate, Sink, SureSource};
+use query_lanes::Context;
 use script_answers::{RunFault, write_all};
 use std::alloc::Global;
+use std::random::RandomSource;
 use std::sync::Wait;
 use std::thread::Threads;
 
 /// Answers the script of a made corpus over its files, and writes the summary of the answers, which are kept nowhere.
-pub fn run_made<R: Threads + Wait + Sync, K: Sink, G: Gate + Sync>(
-    rt: &R,
-    alloc: Global,
+pub fn run_made<R: Threads + Wait + Sync + RandomSource, K: Sink, G: Gate + Sync>(
+    context: &Context<'_, R, G>,
     first: u64,
     readers: usize,
     made: Made,
     sink: &mut K,
-    gate: &G,
 ) -> Status
     requires in_range { first ≤ address_end }
     requires lanes { readers ≤ most_readers }
     requires few { made.count ≤ most_made }
     ensures ends { IsMadeEnd result }
-    ensures summed { result ≡ Status.Done → WhereMade first made (λ start. IsSummed made start false (K.written sink.old) (K.written sink.new)) }
+    ensures summed { result ≡ Status.Done →
+        WhereMade first made (λ start. IsSummed made start false (K.written sink.old) (K.written sink.new)) }
     ensures summed_with_refusals { result ≡ Status.DoneWithRefusals →
         WhereMade first made (λ start. IsSummed made start true (K.written sink.old) (K.written sink.new)) }
     ensures part { WhereMade first made (λ start. GetsPart (K.written sink.old) (K.written sink.new) (made_summary made start)) }
     ensures write_fault { result ≡ Status.WriteFault → Rose (K.faults sink.old) (K.faults sink.new) }
-    ensures calm { IsAllAnswered result → K.faults sink.new ≡ K.faults sink.old }
+    ensures calm { ¬ (result ≡ Status.WriteFault) → K.faults sink.new ≡ K.faults sink.old }
 {
-    let Some(answers) = answer_made(rt, alloc, first, readers, made, gate) else {
+    let Some(answers) = answer_made(context, first, readers, made) else {
         return Status::NoMemory;
     };
-    match write_summary(alloc, &answers.told, made, answers.lines, sink) {
+    match write_summary(context.alloc, &answers.told, made, answers.lines, sink) {
         Ok(()) if answers.refused => Status::DoneWithRefusals,
         Ok(()) => Status::Done,
         Err(RunFault::Write) => Status::WriteFault,
@@ -61,13 +62,11 @@ struct MadeAnswers {
 }
 
 /// Answers the script of a made corpus. None comes for want of memory alone, since the objects never fail.
-fn answer_made<R: Threads + Wait + Sync, G: Gate + Sync>(
-    rt: &R,
-    alloc: Global,
+fn answer_made<R: Threads + Wait + Sync + RandomSource, G: Gate + Sync>(
+    context: &Context<'_, R, G>,
     first: u64,
     readers: usize,
     made: Made,
-    gate: &G,
 ) -> Option<MadeAnswers>
     requires in_range { first ≤ address_end }
     requires lanes { readers ≤ most_readers }
@@ -76,19 +75,19 @@ fn answer_made<R: Threads + Wait + Sync, G: Gate + Sync>(
         WhereMade first made (λ start. AreTold made start answers.refused (⟦<SummarySink as Sink>⟧.written answers.told))) }
     ensures lines { IfSome result (λ answers. answers.lines ≡ length (made_lines made.start made.count)) }
 {
-    let script = made_script(alloc, made.start, made.count).ok()?;
-    let mut files = MadeFiles::new(alloc, made.start, made.count);
-    let mut source = SureSource::new(alloc, script.text);
+    let script = made_script(context.alloc, made.start, made.count).ok()?;
+    let mut files = MadeFiles::new(context.alloc, made.start, made.count);
+    let mut source = SureSource::new(context.alloc, script.text);
     let mut told = SummarySink::new();
+    let mut completed = 0;
     let status = run_script(
-        rt,
-        alloc,
+        context,
         first,
         readers,
         &mut files,
         &mut source,
         &mut told,
-        gate,
+        &mut completed,
     );
     let refused = match status {
         Status::Done => false,
@@ -116,7 +115,7 @@ fn write_summary<K: Sink>(
     ensures part { IfSome (⟦<SummarySink as Sink>⟧.written told.now) (λ text.
         GetsPart (K.written sink.old) (K.written sink.new) (summary made.start made.count text)) }
     ensures cause { IsErrOf result RunFault.Write → Rose (K.faults sink.old) (K.faults sink.new) }
-    ensures calm { OnOk result (K.faults sink.new ≡ K.faults sink.old) }
+    ensures calm { ¬ IsErrOf result RunFault.Write → K.faults sink.new ≡ K.faults sink.old }
 {
     let mut out = Vec::new(alloc);
     told.put_summary(&mut out, made.start, made.count, lines)?;

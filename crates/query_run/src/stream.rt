@@ -7,8 +7,8 @@ ghost use Rattle.script_answers.specs.Answers.{names_kept_of, names_of, output_b
 ghost use Rattle.script_answers.specs.States.{AreLimits, IsFresh};
 ghost use Rattle.script_answers.specs.Stopped.{GetsPart, IsStopped};
 ghost use Rattle.script_answers.specs.inner.Service.{Counts, Halts, IsServing, Serves, stand};
-ghost use Rattle.query_run.specs.Runs.{HandsOverMore, HasAnswered, IsAnsweredBy, IsLeftBy, TakesWithin, WhereTold, within};
-ghost use Rattle.query_run.specs.Statuses.{IsAllAnswered, IsCutOff, IsFinished, IsSureOfFiles, ending_of as status_ending};
+ghost use Rattle.query_run.specs.Runs.{HandsOverMore, HasAnswered, IsAnsweredBy, IsLeftBy, TakesAtMost, WhereTold, within};
+ghost use Rattle.query_run.specs.Statuses.{IsAllAnswered, IsCutOff, IsFinished, IsSureOfFiles, ending_of as status_ending, most_taken};
 ghost use Rattle.query_run.specs.inner.Streams.{HasRead, IsSure, LeavesFiles, ServesWithin, ending_of};
 
 use crate::read::read_piece;
@@ -35,14 +35,18 @@ fn serve_script<R: Threads + Wait + Sync, F: Files, S: Source, K: Sink, G: Gate 
     requires serving { IsServing opened.old progress.old 0 }
     requires none { opened.old.lines ≡ 0 }
     ensures serves { OnOk result (IfSome (S.left source.old) (λ script. Serves setting.now.limits (lines setting.now.limits.line script)
-        (stand (F.held files.old) opened.old progress.old) (stand (F.held files.new) opened.new progress.new) (K.written sink.old) (K.written sink.new))) }
-    ensures halts { OnErr result (IfSome (S.left source.old) (λ script. Halts setting.now.limits (lines setting.now.limits.line script) (ending_of result)
-        (F.unkept files.new ≡ F.unkept files.old)
-        (stand (F.held files.old) opened.old progress.old) (stand (F.held files.new) opened.new progress.new) (K.written sink.old) (K.written sink.new))) }
+        (stand (F.held files.old) opened.old progress.old) (stand (F.held files.new) opened.new progress.new)
+        (K.written sink.old) (K.written sink.new))) }
+    ensures halts { OnErr result (IfSome (S.left source.old) (λ script.
+        Halts setting.now.limits (lines setting.now.limits.line script) (ending_of result) (F.unkept files.new ≡ F.unkept files.old)
+        (stand (F.held files.old) opened.old progress.old) (stand (F.held files.new) opened.new progress.new)
+        (K.written sink.old) (K.written sink.new))) }
     ensures within { IsErrOf result StreamFault.TooLong → IfSome (S.left source.old) (λ script. ServesWithin setting.now.limits script
-        (stand (F.held files.old) opened.old progress.old) (stand (F.held files.new) opened.new progress.new) (K.written sink.old) (K.written sink.new)) }
+        (stand (F.held files.old) opened.old progress.old) (stand (F.held files.new) opened.new progress.new)
+        (K.written sink.old) (K.written sink.new)) }
     ensures serving { OnOk result (IsServing opened.new progress.new 0 × (opened.new.lines ≤ most_script)) }
-    ensures read { HasRead setting.now.limits.script (S.left source.old) (S.left source.new) (S.faults source.old) (S.faults source.new) result }
+    ensures read { HasRead setting.now.limits.script (S.left source.old) (S.left source.new)
+        (S.faults source.old) (S.faults source.new) result }
     ensures files { LeavesFiles setting.now.limits.line (S.left source.old) (files.new ≡ files.old) (F.held files.new ≡ F.held files.old)
         (F.unkept files.new ≡ F.unkept files.old) result }
     ensures sink { Counts (K.faults sink.old) (K.faults sink.new) (IsErrOf result StreamFault.Write) }
@@ -70,17 +74,21 @@ fn serve_all<R: Threads + Wait + Sync, F: Files, S: Source, K: Sink, G: Gate + S
     requires opened { IsFresh opened.old.engine opened.old.lines }
     requires readers { AreOf opened.old.engine.publisher opened.old.readers.items × (length opened.old.readers.items ≤ most_readers) }
     requires progress { (progress.old.asked ≡ 0) × (progress.old.refused ≡ false) × (progress.old.pending ≡ false) }
-    ensures answered { OnOk result (WhereTold setting.now.limits (Some opened.old.engine.version.first) (S.left source.old) (F.held files.old) (λ start script.
+    ensures answered { OnOk result (
+        WhereTold setting.now.limits (Some opened.old.engine.version.first) (S.left source.old) (F.held files.old) (λ start script.
         HasAnswered setting.now.limits start script progress.new.refused (F.held files.new) (K.written sink.old) (K.written sink.new))) }
-    ensures left { OnOk result (WhereTold setting.now.limits (Some opened.old.engine.version.first) (S.left source.old) (F.held files.old) (λ start script.
+    ensures left { OnOk result (
+        WhereTold setting.now.limits (Some opened.old.engine.version.first) (S.left source.old) (F.held files.old) (λ start script.
         IsLeftBy setting.now.limits start script opened.new.engine opened.new.lines)) }
-    ensures stopped { WhereTold setting.now.limits (Some opened.old.engine.version.first) (S.left source.old) (F.held files.old) (λ start script.
-        IsStopped setting.now.limits start (lines setting.now.limits.line script) opened.new.lines opened.new.engine.version (ending_of result)
-        (F.unkept files.new ≡ F.unkept files.old) (F.held files.new) (K.written sink.old) (K.written sink.new)) }
+    ensures stopped { WhereTold setting.now.limits (Some opened.old.engine.version.first) (S.left source.old) (F.held files.old)
+        (λ start script. IsStopped setting.now.limits start (lines setting.now.limits.line script)
+        opened.new.lines opened.new.engine.version (ending_of result) (F.unkept files.new ≡ F.unkept files.old)
+        (F.held files.new) (K.written sink.old) (K.written sink.new)) }
     ensures part_within { IsErrOf result StreamFault.TooLong →
         WhereTold setting.now.limits (Some opened.old.engine.version.first) (S.left source.old) (F.held files.old) (λ start script.
         GetsPart (K.written sink.old) (K.written sink.new) (output_by setting.now.limits start (within setting.now.limits.script script))) }
-    ensures read { HasRead setting.now.limits.script (S.left source.old) (S.left source.new) (S.faults source.old) (S.faults source.new) result }
+    ensures read { HasRead setting.now.limits.script (S.left source.old) (S.left source.new)
+        (S.faults source.old) (S.faults source.new) result }
     ensures files { LeavesFiles setting.now.limits.line (S.left source.old) (files.new ≡ files.old) (F.held files.new ≡ F.held files.old)
         (F.unkept files.new ≡ F.unkept files.old) result }
     ensures sink { Counts (K.faults sink.old) (K.faults sink.new) (IsErrOf result StreamFault.Write) }
@@ -93,13 +101,13 @@ fn serve_all<R: Threads + Wait + Sync, F: Files, S: Source, K: Sink, G: Gate + S
     Ok(())
 }
 
-/// Answers the script that a source hands out, on an engine that was just opened. Before the source is asked for more, each whole line that it
-/// has handed out is answered, and the answer is handed to the sink: so whoever waits for an answer before the next line is sent is not left
-/// waiting.
+/// Answers the script that a source hands out, on an engine that was just opened. Before the source is asked for more, each whole line that
+/// it has handed out is answered, and the answer is handed to the sink: so whoever waits for an answer before the next line is sent is not
+/// left waiting.
 ///
 /// Queries in a row are a batch, which the engine's readers answer beside a merge that is pending. `opened.lines` counts the lines that are
-/// completed: one that changes the collection or a file once that is done, any other once its answer is made. It is not for this call to end
-/// the engine.
+/// completed: one that changes the collection or a file once that is done, any other once its answer is made. It is not for this call to
+/// end the engine.
 pub fn serve<R: Threads + Wait + Sync, F: Files, S: Source, K: Sink, G: Gate + Sync>(
     rt: &R,
     alloc: Global,
@@ -117,12 +125,14 @@ pub fn serve<R: Threads + Wait + Sync, F: Files, S: Source, K: Sink, G: Gate + S
 
     // Where the script and what the files hold are known, the bytes written are the output of the script, and the files
     // hold what its lines leave.
-    ensures done { result ≡ Status.Done → WhereTold limits.now (Some opened.old.engine.version.first) (S.left source.old) (F.held files.old) (λ start script.
+    ensures done { result ≡ Status.Done →
+        WhereTold limits.now (Some opened.old.engine.version.first) (S.left source.old) (F.held files.old) (λ start script.
         IsAnsweredBy limits.now start script false (S.left source.new) (F.held files.new) (K.written sink.old) (K.written sink.new)) }
     ensures done_with_refusals { result ≡ Status.DoneWithRefusals →
         WhereTold limits.now (Some opened.old.engine.version.first) (S.left source.old) (F.held files.old) (λ start script.
         IsAnsweredBy limits.now start script true (S.left source.new) (F.held files.new) (K.written sink.old) (K.written sink.new)) }
-    ensures left { IsAllAnswered result → WhereTold limits.now (Some opened.old.engine.version.first) (S.left source.old) (F.held files.old) (λ start script.
+    ensures left { IsAllAnswered result →
+        WhereTold limits.now (Some opened.old.engine.version.first) (S.left source.old) (F.held files.old) (λ start script.
         IsLeftBy limits.now start script opened.new.engine opened.new.lines) }
 
     // Whatever the status, some lines are completed, the sink gets the beginning of the output, and the files hold exactly what these lines
@@ -139,8 +149,8 @@ pub fn serve<R: Threads + Wait + Sync, F: Files, S: Source, K: Sink, G: Gate + S
         WhereTold limits.now (Some opened.old.engine.version.first) (S.left source.old) (F.held files.old) (λ start script.
         GetsPart (K.written sink.old) (K.written sink.new) (output_by limits.now start (within limits.now.script script))) }
 
-    // Of no script more than one byte above its limit is asked for.
-    ensures took { TakesWithin limits.now.script (S.left source.old) (S.left source.new) }
+    // No more bytes are taken than a script may have, and one more where the status says that it is too long.
+    ensures took { TakesAtMost (most_taken limits.now.script result) (S.left source.old) (S.left source.new) }
 
     // Each other status has its cause.
     ensures read_fault { result ≡ Status.ReadFault → Rose (S.faults source.old) (S.faults source.new) }
@@ -157,14 +167,15 @@ pub fn serve<R: Threads + Wait + Sync, F: Files, S: Source, K: Sink, G: Gate + S
         ¬ Rose (F.faults files.old) (F.faults files.new) → IsSomeAnd (S.left source.old) (λ script. limits.now.script < length script) →
         IsCutOff result }
 
-    // Where all is answered no object failed.
-    ensures source_calm { IsAllAnswered result → S.faults source.new ≡ S.faults source.old }
-    ensures sink_calm { IsAllAnswered result → K.faults sink.new ≡ K.faults sink.old }
-    ensures files_calm { IsAllAnswered result → F.faults files.new ≡ F.faults files.old }
+    // Each object failed only where the status says so.
+    ensures source_calm { ¬ (result ≡ Status.ReadFault) → S.faults source.new ≡ S.faults source.old }
+    ensures sink_calm { ¬ (result ≡ Status.WriteFault) → K.faults sink.new ≡ K.faults sink.old }
+    ensures files_calm { ¬ (result ≡ Status.FileFault) → F.faults files.new ≡ F.faults files.old }
 
     // No file is asked for that no line names, and where no line saves none changes.
     ensures unasked { IfSome (S.left source.old) (λ script. names_of (lines limits.now.line script) ≡ [] → files.new ≡ files.old) }
-    ensures unsaved { IfSome (S.left source.old) (λ script. names_kept_of (lines limits.now.line script) ≡ [] → F.held files.new ≡ F.held files.old) }
+    ensures unsaved { IfSome (S.left source.old) (λ script. names_kept_of (lines limits.now.line script) ≡ [] →
+        F.held files.new ≡ F.held files.old) }
 {
     let setting = Setting {
         context: Context { rt, alloc, gate },

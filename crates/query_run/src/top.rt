@@ -4,10 +4,11 @@ ghost use Rattle.gcl_model.specs.Limits.{most_line, most_script};
 ghost use Rattle.script_lang.specs.Lines.{lines};
 ghost use Rattle.command_words.specs.Grammar.{options_of};
 ghost use Rattle.query_run.specs.Words.{first_of};
-ghost use Rattle.query_run.specs.Statuses.{IsSureOfFiles, IsFinished, IsCutOff, IsAllAnswered, ending_of};
+ghost use Rattle.query_run.specs.Statuses.{IsSureOfFiles, IsFinished, IsCutOff, ending_of, most_taken};
 ghost use Rattle.script_answers.specs.States.{greatest_limits};
 ghost use Rattle.script_answers.specs.Answers.{output, names_kept_of, names_of};
-ghost use Rattle.query_run.specs.Runs.{TakesWithin, WhereTold, WhereMadeBy, HasStopped, IsAnswered, IsSummed, HandsOverMore, made_summary, within};
+ghost use Rattle.query_run.specs.Runs.{TakesAtMost, WhereTold, WhereMadeBy, StopsAfter};
+ghost use Rattle.query_run.specs.Runs.{IsAnswered, IsSummed, HandsOverMore, made_summary, within};
 ghost use Rattle.script_answers.specs.Stopped.{GetsPart};
 
 use crate::made_run::run_made;
@@ -16,13 +17,19 @@ use crate::status::Status;
 use command_words::options_of;
 use gcl_model::Bytes;
 use outside::{Files, Gate, Sink, Source};
+use query_lanes::Context;
 use std::alloc::{AllocError, Global};
+use std::random::RandomSource;
 use std::sync::Wait;
 use std::thread::Threads;
 
-/// Reads a script from the source, and writes the answers to its lines to the sink; or, where the words ask for a made corpus, answers its script over
-/// its files and writes the summary. The words are those of `command_words`: `--first A`, `--readers N`, `--made X` and `--count C`.
-pub fn run<R: Threads + Wait + Sync, F: Files, S: Source, K: Sink, G: Gate + Sync>(
+/// Reads a script from the source, and writes the answers to its lines to the sink; or, where the words ask for a made corpus, answers its
+/// script over its files and writes the summary. The words are those of `command_words`: `--first A`, `--readers N`, `--made X` and
+/// `--count C`.
+///
+/// `completed` gets the number of lines of the script that are completed: where a file could not be loaded or kept, the line after these is
+/// the one that names it.
+pub fn run<R: Threads + Wait + Sync + RandomSource, F: Files, S: Source, K: Sink, G: Gate + Sync>(
     rt: &R,
     alloc: Global,
     words: &[Bytes],
@@ -30,6 +37,7 @@ pub fn run<R: Threads + Wait + Sync, F: Files, S: Source, K: Sink, G: Gate + Syn
     source: &mut S,
     sink: &mut K,
     gate: &G,
+    completed: &mut u64,
 ) -> Status
     // Usage exactly where the words are outside the grammar, but for want of memory, and then nothing is touched.
     ensures usage_only { result ≡ Status.Usage → options_of words.now ≡ None }
@@ -39,27 +47,30 @@ pub fn run<R: Threads + Wait + Sync, F: Files, S: Source, K: Sink, G: Gate + Syn
 
     // The headline: where the script and what the files hold are known, and of what the lines open it is said rightly
     // what it is an image of.
-    ensures done { result ≡ Status.Done → WhereTold greatest_limits (first_of words.now) (S.left source.old) (F.held files.old) (λ start script.
+    ensures done { result ≡ Status.Done →
+        WhereTold greatest_limits (first_of words.now) (S.left source.old) (F.held files.old) (λ start script.
         IsAnswered start script false (S.left source.new) (F.held files.new) (K.written sink.old) (K.written sink.new)) }
     ensures done_with_refusals { result ≡ Status.DoneWithRefusals →
         WhereTold greatest_limits (first_of words.now) (S.left source.old) (F.held files.old) (λ start script.
         IsAnswered start script true (S.left source.new) (F.held files.new) (K.written sink.old) (K.written sink.new)) }
 
-    // Whatever the status, some lines are completed, the sink gets the beginning of the output, and the files hold exactly what these lines
-    // leave; but where a keep answered an error that is so of every name but the one that the next line saves. None did, unless the status
-    // names a fault of a file or is out of memory. Where the status names a fault of the source or the files, or too long a script, all
-    // answers to these lines are written and nothing else; and at a fault of the files the next line is the one that names the file.
+    // Whatever the status, `completed` lines are completed, the sink gets the beginning of the output, and the files hold exactly what
+    // these lines leave; but where a keep answered an error that is so of every name but the one that the next line saves. None did, unless
+    // the status names a fault of a file or is out of memory. Where the status names a fault of the source or the files, or too long a
+    // script, all answers to these lines are written and nothing else; and at a fault of the files the next line is the one that names the
+    // file.
     ensures stopped { WhereTold greatest_limits (first_of words.now) (S.left source.old) (F.held files.old) (λ start script.
-        HasStopped greatest_limits start (lines most_line script) (ending_of result) (F.unkept files.new ≡ F.unkept files.old)
+        StopsAfter greatest_limits start (lines most_line script) completed.new (ending_of result) (F.unkept files.new ≡ F.unkept files.old)
         (F.held files.new) (K.written sink.old) (K.written sink.new)) }
     ensures sure { IsSureOfFiles result → F.unkept files.new ≡ F.unkept files.old }
     ensures part { WhereTold greatest_limits (first_of words.now) (S.left source.old) (F.held files.old) (λ start script.
         GetsPart (K.written sink.old) (K.written sink.new) (output start script)) }
-    ensures part_within { result ≡ Status.ScriptTooLong → WhereTold greatest_limits (first_of words.now) (S.left source.old) (F.held files.old) (λ start script.
+    ensures part_within { result ≡ Status.ScriptTooLong →
+        WhereTold greatest_limits (first_of words.now) (S.left source.old) (F.held files.old) (λ start script.
         GetsPart (K.written sink.old) (K.written sink.new) (output start (within most_script script))) }
 
-    // Of no script more than one byte above its limit is asked for.
-    ensures took { TakesWithin most_script (S.left source.old) (S.left source.new) }
+    // No more bytes are taken than a script may have, and one more where the status says that it is too long.
+    ensures took { TakesAtMost (most_taken most_script result) (S.left source.old) (S.left source.new) }
 
     // Each other status has its cause.
     ensures read_fault { result ≡ Status.ReadFault → Rose (S.faults source.old) (S.faults source.new) }
@@ -69,21 +80,24 @@ pub fn run<R: Threads + Wait + Sync, F: Files, S: Source, K: Sink, G: Gate + Syn
 
     // Where the words are in the grammar, no object failed and the script is within the limit, all is answered, or
     // memory is wanted. Where it is longer that is said, or memory is wanted.
-    ensures complete { IsSome (options_of words.now) → ¬ Rose (S.faults source.old) (S.faults source.new) → ¬ Rose (K.faults sink.old) (K.faults sink.new) →
-        ¬ Rose (F.faults files.old) (F.faults files.new) → IsSomeAnd (S.left source.old) (λ script. length script ≤ most_script) →
+    ensures complete { IsSome (options_of words.now) → ¬ Rose (S.faults source.old) (S.faults source.new) →
+        ¬ Rose (K.faults sink.old) (K.faults sink.new) → ¬ Rose (F.faults files.old) (F.faults files.new) →
+        IsSomeAnd (S.left source.old) (λ script. length script ≤ most_script) →
         IsFinished result }
-    ensures complete_long { IsSome (first_of words.now) → ¬ Rose (S.faults source.old) (S.faults source.new) → ¬ Rose (K.faults sink.old) (K.faults sink.new) →
-        ¬ Rose (F.faults files.old) (F.faults files.new) → IsSomeAnd (S.left source.old) (λ script. most_script < length script) →
+    ensures complete_long { IsSome (first_of words.now) → ¬ Rose (S.faults source.old) (S.faults source.new) →
+        ¬ Rose (K.faults sink.old) (K.faults sink.new) → ¬ Rose (F.faults files.old) (F.faults files.new) →
+        IsSomeAnd (S.left source.old) (λ script. most_script < length script) →
         IsCutOff result }
 
-    // Where all is answered no object failed.
-    ensures source_calm { IsAllAnswered result → S.faults source.new ≡ S.faults source.old }
-    ensures sink_calm { IsAllAnswered result → K.faults sink.new ≡ K.faults sink.old }
-    ensures files_calm { IsAllAnswered result → F.faults files.new ≡ F.faults files.old }
+    // Each object failed only where the status says so.
+    ensures source_calm { ¬ (result ≡ Status.ReadFault) → S.faults source.new ≡ S.faults source.old }
+    ensures sink_calm { ¬ (result ≡ Status.WriteFault) → K.faults sink.new ≡ K.faults sink.old }
+    ensures files_calm { ¬ (result ≡ Status.FileFault) → F.faults files.new ≡ F.faults files.old }
 
     // No file is asked for that no line names, and where no line saves none changes.
     ensures unasked { IfSome (S.left source.old) (λ script. names_of (lines most_line script) ≡ [] → files.new ≡ files.old) }
-    ensures unsaved { IfSome (S.left source.old) (λ script. names_kept_of (lines most_line script) ≡ [] → F.held files.new ≡ F.held files.old) }
+    ensures unsaved { IfSome (S.left source.old) (λ script. names_kept_of (lines most_line script) ≡ [] →
+        F.held files.new ≡ F.held files.old) }
 
     // Over a made corpus the sink gets the summary of the output, or the beginning of the summary, and no other object is touched.
     // Where it did not fail, all is answered, or memory is wanted.
@@ -91,27 +105,30 @@ pub fn run<R: Threads + Wait + Sync, F: Files, S: Source, K: Sink, G: Gate + Syn
         WhereMadeBy (options_of words.now) (λ made start. IsSummed made start false (K.written sink.old) (K.written sink.new)) }
     ensures summed_with_refusals { result ≡ Status.DoneWithRefusals →
         WhereMadeBy (options_of words.now) (λ made start. IsSummed made start true (K.written sink.old) (K.written sink.new)) }
-    ensures part_summed { WhereMadeBy (options_of words.now) (λ made start. GetsPart (K.written sink.old) (K.written sink.new) (made_summary made start)) }
+    ensures part_summed { WhereMadeBy (options_of words.now)
+        (λ made start. GetsPart (K.written sink.old) (K.written sink.new) (made_summary made start)) }
     ensures complete_made { IfSome (options_of words.now) (λ options.
         IsSome options.made → ¬ Rose (K.faults sink.old) (K.faults sink.new) → IsFinished result) }
-    ensures untouched_by_made { IfSome (options_of words.now) (λ options. IsSome options.made → (source.new ≡ source.old) × (files.new ≡ files.old)) }
+    ensures untouched_by_made { IfSome (options_of words.now) (λ options. IsSome options.made →
+        (source.new ≡ source.old) × (files.new ≡ files.old)) }
 {
+    *completed = 0;
     let options = match options_of(alloc, words) {
         Ok(Some(options)) => options,
         Ok(None) => return Status::Usage,
         Err(AllocError) => return Status::NoMemory,
     };
+    let context = Context { rt, alloc, gate };
     match options.made {
         None => run_script(
-            rt,
-            alloc,
+            &context,
             options.first,
             options.readers,
             files,
             source,
             sink,
-            gate,
+            completed,
         ),
-        Some(made) => run_made(rt, alloc, options.first, options.readers, made, sink, gate),
+        Some(made) => run_made(&context, options.first, options.readers, made, sink),
     }
 }

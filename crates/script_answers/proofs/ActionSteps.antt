@@ -19,44 +19,38 @@ use Rattle.script_answers.specs.declared.action.Action.{Action}
 use Rattle.script_answers.specs.declared.answer.Answer.{Answer}
 use Rattle.script_answers.specs.declared.limits.Limits.{Limits}
 use Rattle.script_answers.proofs.Service.{or_false}
-use Rattle.script_answers.proofs.Stops.{stopped_after}
+use Rattle.script_answers.proofs.Stops.{stopped_before, stopped_part}
 
--- what follows the lines of a reply, where nothing does
-alone : (o : Option Reply) (reply : Reply) → o ≡ Some reply → with_later o [] ≡ reply.lines
-alone None reply is = absurd (cc is)
-alone (Some other) reply is = let same : other ≡ reply = cc is in append-nil other.lines ∙ ap (λ (r : Reply). r.lines) same
+-- a line has this reply, and no line comes after it
+record IsReplied (state : State) (told : Option Reply) (reply : Reply) : Type 0 where
+  lines : with_later told [] ≡ reply.lines
+  after : after_reply state told ≡ reply.after
+  some : IsSome told
 
-after : (state : State) (o : Option Reply) (reply : Reply) → o ≡ Some reply → after_reply state o ≡ reply.after
-after state None reply is = absurd (cc is)
-after state (Some other) reply is = let same : other ≡ reply = cc is in ap (λ (r : Reply). r.after) same
-
-some : (o : Option Reply) (reply : Reply) → o ≡ Some reply → IsSome o
-some None reply is = absurd (cc is)
-some (Some other) reply is = refl
+replied : (state : State) (told : Option Reply) (reply : Reply) → told ≡ Some reply → IsReplied state told reply
+replied state None reply is = absurd (cc is)
+replied state (Some other) reply is =
+    let same : other ≡ reply = cc is in
+    record { lines = append-nil other.lines ∙ ap (λ (r : Reply). r.lines) same; after = ap (λ (r : Reply). r.after) same; some = refl }
 
 module _ (limits : Limits) where
   -- a line was answered and its answer written
   served_line : (state : State) (line : Line) (reply : Reply) (before now : Stand) (old new : Option (List ℕ)) → answer limits state line ≡ Some reply → IsAtStand now reply.after →
       now.refused ≡ (before.refused || list_any is_refusal reply.lines) → Appends old new (text_of_lines reply.lines) → Served limits state (line ∷ []) before now old new
   served_line state line reply before now old new is at refused written =
-      let o = answer limits state line in
-      let lines : answers limits state (line ∷ []) ≡ reply.lines = alone o reply is in
+      let o = replied state (answer limits state line) reply is in
       record {
-        answered = (some o reply is, tt);
-        at = subst (IsAtStand now) (sym (after state o reply is)) at;
-        refused_is = refused ∙ ap (λ (l : List (List ℕ)). before.refused || list_any is_refusal l) (sym lines);
-        written = subst (λ (l : List (List ℕ)). Appends old new (text_of_lines l)) (sym lines) written;
+        answered = (o.some, tt);
+        at = subst (IsAtStand now) (sym o.after) at;
+        refused_is = refused ∙ ap (λ (l : List (List ℕ)). before.refused || list_any is_refusal l) (sym o.lines);
+        written = subst (λ (l : List (List ℕ)). Appends old new (text_of_lines l)) (sym o.lines) written;
       }
 
   -- an empty line
-  pub serves_nothing : (line : Line) (before now : Stand) (old : Option (List ℕ)) → IsNothing line → now.completed ≡ before.completed + 1 → now.held ≡ before.held → now.engine ≡ before.engine → now.pending ≡ before.pending →
-      now.refused ≡ before.refused → Serves limits (line ∷ []) before now old old
-  serves_nothing line before now old nothing count held engine pending refused = record {
-    completed = count;
-    served = λ state at read.
-        let here : IsAtStand now state = subst (λ (h : Option Contents). IsAt h now.engine now.pending state) (sym held)
-        (subst (λ (e : _). IsAt before.held e now.pending state) (sym engine) (subst (λ (p : Bool). IsAt before.held before.engine p state) (sym pending) at)) in
-        served_line state line (unchanged state []) before now old old (nothing.reply_is limits state) here (refused ∙ or_false before.refused) (Appends-nil old);
+  pub serves_nothing : (line : Line) (before : Stand) (old : Option (List ℕ)) → IsNothing line → Serves limits (line ∷ []) before (record before { completed = before.completed + 1 }) old old
+  serves_nothing line before old nothing = record {
+    completed = refl;
+    served = λ state at read. served_line state line (unchanged state []) before (record before { completed = before.completed + 1 }) old old (nothing.reply_is limits state) at (or_false before.refused) (Appends-nil old);
   }
 
   -- what a line asks for was done, and its answer written
@@ -80,15 +74,9 @@ module _ (limits : Limits) where
       record {
         taken = 0;
         completed = let same = count in omega (arith, same);
-        stopped = record {
-          within = omega arith;
-          stands = u.stands;
-          part = record { part = []; rest = _; whole = refl; written = Appends-nil old };
-          all = λ due. Appends-nil old;
-          files = subst (λ (l : List (List ℕ)). HoldsBut l state.files now.held) (sym (append-nil (names_kept_of_line line) ∙ is.kept_are)) u.files;
-          exact = u.exact;
-          named = λ failed none. named failed (sym is.names_are ∙ sym (append-nil (names_of_line line)) ∙ none);
-        };
+        stopped = stopped_before limits state (line ∷ []) now.engine.version how kept now.held old u.stands
+            (subst (λ (l : List (List ℕ)). HoldsBut l state.files now.held) (sym (append-nil (names_kept_of_line line) ∙ is.kept_are)) u.files) u.exact
+            (λ failed none. named failed (sym is.names_are ∙ sym (append-nil (names_of_line line)) ∙ none));
       }
 
   -- it ended once the line was completed, and of its answer a part is written
@@ -97,23 +85,14 @@ module _ (limits : Limits) where
       GetsPart old new (text_of_lines (answer_lines now.engine.version given)) → Halts limits (line ∷ []) how kept before now old new
   halts_made action line given how kept before now old new is count gives lost ours part = λ state at read.
       let g = gives state at (is.reads state read.0) in
-      let o = answer limits state line in
-      let told : o ≡ Some g.reply = is.reply_is limits state ∙ g.is in
-      let lines : answers limits state (line ∷ []) ≡ g.reply.lines = alone o g.reply told in
-      let left : state_after limits state (line ∷ []) ≡ g.reply.after = after state o g.reply told in
-      let files : now.held ≡ Some (state_after limits state (line ∷ [])).files = g.files ∙ ap (λ (s : State). Some s.files) (sym left) in
+      let o = replied state (answer limits state line) g.reply (is.reply_is limits state ∙ g.is) in
       record {
         taken = 1;
         completed = count;
-        stopped = record {
-          within = omega arith;
-          stands = subst (λ (s : State). StandsFor now.engine.version s.collection) (sym left) g.follows.keeps.stands;
-          part = subst (λ (l : List (List ℕ)). GetsPart old new (text_of_lines l)) (sym (lines ∙ g.follows.lines)) part;
-          all = λ due. absurd (lost due);
-          files = record { contents = (state_after limits state (line ∷ [])).files; is = files; same = λ name. inl refl };
-          exact = λ all_kept. files;
-          named = λ failed. absurd (ours failed);
-        };
+        stopped = stopped_part limits state (line ∷ []) now.engine.version how kept now.held old new
+            (subst (λ (s : State). StandsFor now.engine.version s.collection) (sym o.after) g.follows.keeps.stands)
+            (subst (λ (l : List (List ℕ)). GetsPart old new (text_of_lines l)) (sym (o.lines ∙ g.follows.lines)) part)
+            (λ due. absurd (lost due)) (g.files ∙ ap (λ (s : State). Some s.files) (sym o.after)) ours;
       }
 
   -- it ended while the answer was made: the line is completed where a change was

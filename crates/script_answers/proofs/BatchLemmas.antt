@@ -1,9 +1,10 @@
 -- Batches: the queries of lines, their answers, and what becomes of the engine.
 use Rattle.std.proofs.Common.{◌≡◌, ℕ, ◌<◌, zero, suc, Bool, true, false, List, [], ◌∷◌, ◌++◌, length, take, drop, arith, Option, Some, None, IsSome, refl, sym, ap, ◌∙◌, subst, append_assoc}
 use Rattle.std.specs.Prelude.{flat_map, if◌then◌else◌}
+use Rattle.gcl_model.specs.Extents.{Extent}
 use Rattle.gcl_model.specs.Texts.{Text}
 use Rattle.gcl_model.specs.Forms.{Form}
-use Rattle.gcl_model.specs.Meaning.{concordance}
+use Rattle.gcl_model.specs.Wide.{wide}
 use Rattle.gcl_model.specs.Collections.{text_of}
 use Rattle.collection.specs.Engines.{EngineContent}
 use Rattle.gcl_parser.specs.declared.fault.QueryFault.{QueryFault}
@@ -12,25 +13,30 @@ use Rattle.gcl_parser.specs.Refusal.{refused}
 use Rattle.gcl_parser.specs.QueryForm.{query_form}
 use Rattle.gcl_parser.proofs.QueryForms.{query_forms_are_of_queries}
 use Rattle.script_lang.specs.Lines.{Line}
-use Rattle.script_lang.specs.Commands.{command_of}
-use Rattle.script_lang.specs.declared.commands.Command.{Command}
-use Rattle.script_lang.specs.declared.commands.Command.TheVariants.{Blank, Add, Del, Find, Count, Top, Files, Merge, Shards, Save, Load, Wrong}
-use Rattle.script_lang.specs.declared.refusals.Refusal.TheVariants.{LongLine, Query}
+use Rattle.script_lang.specs.declared.refusals.Refusal.TheVariants.{Query}
+use Rattle.query_lanes.specs.Answers.{found_in}
 use Rattle.query_lanes.specs.declared.asks.Ask.{Ask}
 use Rattle.query_lanes.specs.declared.asks.Asked.{Asked}
+use Rattle.query_lanes.specs.declared.asks.Asked.TheVariants.{All, First, Number}
 use Rattle.query_lanes.specs.Merges.{IsMergedWhere}
 use Rattle.script_answers.specs.States.{State, Keeps}
 use Rattle.script_answers.specs.Stopped.{begun}
-use Rattle.script_answers.specs.Answers.{Reply, asked_lines, query_lines, lines_by, unchanged, refusal_lines, reply, answer, answers, asks_query, is_query, after_reply, state_after, with_later, AllAnswered, AreRead}
-use Rattle.script_answers.specs.inner.Asks.{ask_lines, asks_text, IsAskedBy, AsksLine, AreAsked}
+use Rattle.script_answers.specs.Answers.{Reply, asked_lines, query_lines, lines_by, unchanged, refusal_lines, reply, answer, answers, is_query, after_reply, state_after, with_later, AllAnswered, AreRead}
+use Rattle.script_answers.specs.inner.Asks.{ask_lines, command_asking, found_lines, AsksLine, AreAsked}
 use Rattle.script_answers.specs.declared.limits.Limits.{Limits}
+use Rattle.script_answers.proofs.TaskLemmas.{of_query}
+
+lines_found : (asked : Asked) (list : List Extent) → found_lines (found_in asked list) ≡ asked_lines asked list
+lines_found All list = refl
+lines_found (First most) list = refl
+lines_found Number list = refl
 
 -- the lines of a query that is not refused are those of the one form that it stands for
 pub lines_of_form : (asked : Asked) (query : List ℕ) (form : Form) (text : Text) → refused query ≡ None → IsQueryWithin query form
-    → asked_lines asked (concordance text form) ≡ query_lines asked text query
+    → found_lines (found_in asked (wide text form)) ≡ query_lines asked text query
 lines_of_form asked query form text none within =
     let found : query_form query ≡ Some form = (query_forms_are_of_queries query form).1 within in
-    sym (ap (λ fault. lines_by asked text fault (query_form query)) none ∙ ap (lines_by asked text None) found)
+    lines_found asked (wide text form) ∙ sym (ap (λ fault. lines_by asked text fault (query_form query)) none ∙ ap (lines_by asked text None) found)
 
 -- and of one that is refused its fault
 pub lines_of_fault : (asked : Asked) (query : List ℕ) (wrong : QueryFault) (text : Text) → refused query ≡ Some wrong → refusal_lines (Query wrong) ≡ query_lines asked text query
@@ -48,28 +54,16 @@ merged_keeps true old new state merged keeps = record {
 }
 merged_keeps false old new state merged keeps = subst (λ (e : EngineContent). Keeps e false state) (sym merged) keeps
 
--- of a command that asks a query
-asked_reply : (limits : Limits) (state : State) (ask : Ask) (command : Command) → IsAskedBy ask command
-    → reply limits state command ≡ Some (unchanged state (ask_lines (text_of state.collection) ask))
-asked_reply limits state ask (Find query) asks = ap (λ l. Some (unchanged state l)) (sym (asks.lines_are (text_of state.collection)))
-asked_reply limits state ask (Count query) asks = ap (λ l. Some (unchanged state l)) (sym (asks.lines_are (text_of state.collection)))
-asked_reply limits state ask (Top most query) asks = ap (λ l. Some (unchanged state l)) (sym (asks.lines_are (text_of state.collection)))
-asked_reply limits state ask Blank asks = absurd asks
-asked_reply limits state ask (Add name) asks = absurd asks
-asked_reply limits state ask (Del id) asks = absurd asks
-asked_reply limits state ask Files asks = absurd asks
-asked_reply limits state ask Merge asks = absurd asks
-asked_reply limits state ask Shards asks = absurd asks
-asked_reply limits state ask (Save name) asks = absurd asks
-asked_reply limits state ask (Load name) asks = absurd asks
-asked_reply limits state ask Wrong asks = absurd asks
+asked_reply : (limits : Limits) (state : State) (asked : Asked) (query : List ℕ) → reply limits state (command_asking asked query) ≡ Some (unchanged state (query_lines asked (text_of state.collection) query))
+asked_reply limits state All query = refl
+asked_reply limits state (First most) query = refl
+asked_reply limits state Number query = refl
 
 -- the answer to a line that asks a query is that to the query, and changes nothing
 pub batch_answers : (limits : Limits) (state : State) (ask : Ask) (line : Line) → AsksLine ask line
     → answer limits state line ≡ Some (unchanged state (ask_lines (text_of state.collection) ask))
-batch_answers limits state ask line asks =
-    ap (λ (long : Bool). if long then Some (unchanged state (refusal_lines LongLine)) else reply limits state (command_of line.bytes)) asks.short
-    ∙ asked_reply limits state ask (command_of line.bytes) asks.asks
+batch_answers limits state ask line is =
+    of_query _ (reply limits state) ask line is ∙ asked_reply limits state ask.asked is.asks.query ∙ ap (λ l. Some (unchanged state l)) (sym (is.asks.lines_are (text_of state.collection)))
 
 -- a batch changes nothing
 pub batch_state : (limits : Limits) (state : State) (asks : List Ask) (batch : List Line) → AreAsked asks batch → state_after limits state batch ≡ state
@@ -120,28 +114,16 @@ asked_front (suc n) [] (line ∷ batch) are = absurd are
 asked_front (suc n) (ask ∷ asks) [] are = absurd are
 asked_front (suc n) (ask ∷ asks) (line ∷ batch) are = (are.0, asked_front n asks batch are.1)
 
--- a line that asks a query is known to
-asks_known : (ask : Ask) (command : Command) → IsAskedBy ask command → is_query command ≡ true
-asks_known ask (Find query) asks = refl
-asks_known ask (Count query) asks = refl
-asks_known ask (Top most query) asks = refl
-asks_known ask Blank asks = absurd asks
-asks_known ask (Add name) asks = absurd asks
-asks_known ask (Del id) asks = absurd asks
-asks_known ask Files asks = absurd asks
-asks_known ask Merge asks = absurd asks
-asks_known ask Shards asks = absurd asks
-asks_known ask (Save name) asks = absurd asks
-asks_known ask (Load name) asks = absurd asks
-asks_known ask Wrong asks = absurd asks
-
-asks_a_query : (ask : Ask) (line : Line) → AsksLine ask line → asks_query line ≡ true
-asks_a_query ask line asks = ap (λ (long : Bool). if long then false else is_query (command_of line.bytes)) asks.short ∙ asks_known ask (command_of line.bytes) asks.asks
+asked_is_query : (asked : Asked) (query : List ℕ) → is_query (command_asking asked query) ≡ true
+asked_is_query All query = refl
+asked_is_query (First most) query = refl
+asked_is_query Number query = refl
 
 -- of the lines of a batch that are left the first one may be answered in part
 pub one_begun : (i : ℕ) (asks : List Ask) (batch : List Line) → AreAsked asks batch → i < length batch → begun (drop i batch) ≡ 1
 one_begun i [] [] are lt = absurd (omega (arith, lt))
 one_begun i [] (line ∷ batch) are lt = absurd are
 one_begun i (ask ∷ asks) [] are lt = absurd are
-one_begun zero (ask ∷ asks) (line ∷ batch) are lt = ap (λ (b : Bool). if b then 1 else 0) (asks_a_query ask line are.0)
+one_begun zero (ask ∷ asks) (line ∷ batch) are lt =
+    ap (λ (b : Bool). if b then 1 else 0) (of_query false is_query ask line are.0 ∙ asked_is_query ask.asked are.0.asks.query)
 one_begun (suc i) (ask ∷ asks) (line ∷ batch) are lt = one_begun i asks batch are.1 (omega (arith, lt))

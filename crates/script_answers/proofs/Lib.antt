@@ -1,11 +1,9 @@
 -- Lemmas, and worked examples.
 pub mod ActionSteps
-pub mod AskLemmas
 pub mod BatchLemmas
 pub mod BatchSteps
 pub mod ImageLemmas
 pub mod PageLemmas
-pub mod PageLists
 pub mod PutLemmas
 pub mod Replies
 pub mod SaveReplies

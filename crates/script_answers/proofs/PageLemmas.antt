@@ -1,80 +1,52 @@
--- The text of an answer to a query, by what was found.
-use Rattle.std.proofs.Common.{◌≡◌, ℕ, ◌+◌, ◌≤◌, zero, suc, List, [], ◌∷◌, ◌++◌, length, map, take, drop, refl, sym, ap, ◌∙◌, arith, append-nil}
-use Rattle.std.proofs.lemmas.List.{map-append, take-append-drop}
+-- The text of the answers to queries, by what was found.
+use Rattle.std.proofs.Common.{◌≡◌, ℕ, ◌+◌, ◌-◌, ◌≤◌, zero, suc, List, [], ◌∷◌, ◌++◌, length, map, take, refl, sym, ap, ◌∙◌, arith, append-nil, append_assoc, length-append, Bool, ◌||◌}
+use Rattle.std.proofs.lemmas.List.{map-append}
 use Rattle.std.proofs.lemmas.Grind.{flat_map-append}
-use Rattle.std.specs.Global.{Global}
-use Rattle.std.specs.declared.sync.Arc.{Arc}
-use Rattle.std.specs.Prelude.{Option, Ok, Err, Result}
-use Rattle.std.specs.List.{AllByRecursion}
+use Rattle.std.proofs.Math.Seq.{take-append_seam}
+use Rattle.std.proofs.lemmas.List.Folds.{list_any-append}
+use Rattle.std.specs.List.{list_any}
+use Rattle.std.specs.Prelude.{flat_map}
 use Rattle.gcl_model.specs.Extents.{Extent}
-use Rattle.gcl_model.specs.Forms.{Form}
-use Rattle.gcl_model.specs.FormOf.{form_of}
-use Rattle.gcl_model.specs.Limits.{address_end}
-use Rattle.gcl_model.specs.Meaning.{concordance}
 use Rattle.gcl_model.specs.Texts.{Text}
-use Rattle.gcl_model.specs.declared.expr.Expr.{Expr}
-use Rattle.gcl_parser.specs.declared.fault.QueryFault.{QueryFault}
-use Rattle.script_lang.specs.Answers.{interval_line, total_line}
+use Rattle.script_lang.specs.Answers.{interval_line, is_refusal, total_line}
 use Rattle.script_lang.specs.Lines.{text_of_lines}
-use Rattle.script_lang.specs.declared.refusals.Refusal.TheVariants.{Query}
-use Rattle.query_lanes.specs.Answers.{answer_by}
-use Rattle.query_lanes.specs.declared.asks.Asked.{Asked}
-use Rattle.query_lanes.specs.declared.asks.Asked.TheVariants.{All, First, Number}
-use Rattle.query_lanes.specs.declared.asks.Found.TheVariants.{List as Members, Total, Refused}
-use Rattle.script_answers.specs.Answers.{list_lines, refusal_lines}
-use Rattle.script_answers.specs.inner.Asks.{expr_lines}
-use Rattle.script_answers.specs.inner.Puts.{PutsPart}
-use Rattle.script_answers.proofs.PageLists.{list_few, taken_few}
-use Rattle.script_answers.proofs.PutLemmas.{part_as, part_on}
+use Rattle.query_lanes.specs.Answers.{answer_in}
+use Rattle.query_lanes.specs.declared.asks.Ask.{Ask}
+use Rattle.query_lanes.specs.declared.asks.Found.{Found}
+use Rattle.query_lanes.specs.declared.asks.Found.TheVariants.{List as Members}
+use Rattle.script_answers.specs.Answers.{list_lines}
+use Rattle.script_answers.specs.inner.Asks.{ask_lines, found_lines}
+use Rattle.script_answers.specs.inner.Puts.{founds_text, members_text}
+use Rattle.script_answers.proofs.Service.{or_assoc}
 
--- the text of the lines of some members
-abbrev pub members_text : List Extent → List ℕ
-members_text list = text_of_lines (map interval_line list)
+pub members_on : (xs ys : List Extent) → members_text (xs ++ ys) ≡ members_text xs ++ members_text ys
+members_on xs ys = ap text_of_lines (map-append interval_line xs ys) ∙ flat_map-append _ (map interval_line xs) (map interval_line ys)
 
-pub texts_on : (xs ys : List Extent) → members_text (xs ++ ys) ≡ members_text xs ++ members_text ys
-texts_on xs ys = ap text_of_lines (map-append interval_line xs ys) ∙ flat_map-append _ (map interval_line xs) (map interval_line ys)
-
--- a part of the text of the first members is one of the whole text
-pub part_of_list : (a c : Option (List ℕ)) (h : List ℕ) (put : ℕ) (list : List Extent) → PutsPart a c h (members_text (take put list)) → PutsPart a c h (members_text list)
-part_of_list a c h put list part =
-    part_as a c h (members_text (take put list) ++ members_text (drop put list)) (members_text list) (sym (texts_on (take put list) (drop put list)) ∙ ap members_text (take-append-drop put list))
-    (part_on a c h (members_text (take put list)) (members_text (drop put list)) part)
+pub founds_on : (xs ys : List Found) → founds_text (xs ++ ys) ≡ founds_text xs ++ founds_text ys
+founds_on xs ys = ap text_of_lines (flat_map-append found_lines xs ys) ∙ flat_map-append _ (flat_map found_lines xs) (flat_map found_lines ys)
 
 -- the text of a list is that of its members, and then their number
 pub list_text : (list : List Extent) → text_of_lines (list_lines list) ≡ members_text list ++ (total_line (length list) ++ 10 ∷ [])
 list_text list = flat_map-append _ (map interval_line list) (total_line (length list) ∷ []) ∙ ap (λ l. members_text list ++ l) (append-nil (total_line (length list) ++ 10 ∷ []))
 
--- where members are found the answer is a list
-pub list_found : (asked : Asked) (text : Text) (query : Result (Arc Expr Global) QueryFault) (list : List Extent) → Members list ≡ answer_by asked text query → expr_lines asked text query ≡ list_lines list
-list_found All text (Ok expr) list is = let same : list ≡ concordance text (form_of expr.value) = cc is in ap list_lines (sym same)
-list_found (First most) text (Ok expr) list is = let same : list ≡ take most (concordance text (form_of expr.value)) = cc is in ap list_lines (sym same)
-list_found Number text (Ok expr) list is = absurd (cc is)
-list_found asked text (Err fault) list is = absurd (cc is)
+-- the text of a list that was found
+pub found_text : (found : Found) (list : List Extent) → found ≡ Members list → text_of_lines (found_lines found) ≡ members_text list ++ (total_line (length list) ++ 10 ∷ [])
+found_text found list is = ap (λ f. text_of_lines (found_lines f)) is ∙ list_text list
 
--- a number is one line
-pub total_found : (asked : Asked) (text : Text) (query : Result (Arc Expr Global) QueryFault) (total : ℕ) → Total total ≡ answer_by asked text query → expr_lines asked text query ≡ total_line total ∷ []
-total_found All text (Ok expr) total is = absurd (cc is)
-total_found (First most) text (Ok expr) total is = absurd (cc is)
-total_found Number text (Ok expr) total is = let same : total ≡ length (concordance text (form_of expr.value)) = cc is in ap (λ n. total_line n ∷ []) (sym same)
-total_found asked text (Err fault) total is = absurd (cc is)
+-- the first ones, and one more
+pub one_after : {A : Type 0} (list so_far left : List A) (next : A) (count : ℕ) → list ≡ so_far ++ next ∷ left → count ≡ length so_far → take (count + 1) list ≡ so_far ++ next ∷ []
+one_after list so_far left next count whole number =
+    let long : count + 1 ≡ length (so_far ++ next ∷ []) = omega (arith, number, length-append so_far (next ∷ [])) in
+    ap (λ l. take (count + 1) l) (whole ∙ sym (append_assoc so_far (next ∷ []) left)) ∙ ap (λ (n : ℕ). take n ((so_far ++ next ∷ []) ++ left)) long ∙ take-append_seam (so_far ++ next ∷ []) left
 
--- and a fault is a refusal
-pub fault_found : (asked : Asked) (text : Text) (query : Result (Arc Expr Global) QueryFault) (fault : QueryFault) → Refused fault ≡ answer_by asked text query → expr_lines asked text query ≡ refusal_lines (Query fault)
-fault_found All text (Ok expr) fault is = absurd (cc is)
-fault_found (First most) text (Ok expr) fault is = absurd (cc is)
-fault_found Number text (Ok expr) fault is = absurd (cc is)
-fault_found asked text (Err wrong) fault is = let same : fault ≡ wrong = cc is in ap (λ f. refusal_lines (Query f)) (sym same)
+-- the lines of what was found of some queries are those that answer them
+pub lines_of_founds : (text : Text) (asks : List Ask) → flat_map found_lines (map (answer_in text) asks) ≡ flat_map (ask_lines text) asks
+lines_of_founds text [] = refl
+lines_of_founds text (ask ∷ asks) = ap (λ l. ask_lines text ask ++ l) (lines_of_founds text asks)
 
--- no list that is found has more members than there are addresses
-pub few_found : (asked : Asked) (text : Text) (query : Result (Arc Expr Global) QueryFault) (list : List Extent) → text.next ≤ address_end → Members list ≡ answer_by asked text query → length list ≤ address_end
-few_found All text (Ok expr) list within is =
-    let same : list ≡ concordance text (form_of expr.value) = cc is in
-    let few = list_few text (form_of expr.value) within in
-    omega (arith, few, ap length same)
-few_found (First most) text (Ok expr) list within is =
-    let same : list ≡ take most (concordance text (form_of expr.value)) = cc is in
-    let few = list_few text (form_of expr.value) within in
-    let less = taken_few most (concordance text (form_of expr.value)) in
-    omega (arith, few, less, ap length same)
-few_found Number text (Ok expr) list within is = absurd (cc is)
-few_found asked text (Err fault) list within is = absurd (cc is)
+-- a refusal is among what was found so far, or it is what is found next, or it is among the others
+pub refused_on : (refused refusal whole : Bool) (founds left : List Found) (next : Found) → founds ≡ next ∷ left → refusal ≡ list_any is_refusal (found_lines next) → (refused || list_any is_refusal (flat_map found_lines founds)) ≡ whole →
+    ((refused || refusal) || list_any is_refusal (flat_map found_lines left)) ≡ whole
+refused_on refused refusal whole founds left next split is so_far =
+    or_assoc (refused || refusal) refused refusal (list_any is_refusal (flat_map found_lines left)) refl ∙ ap (λ (b : Bool). refused || b)
+    (ap (λ (b : Bool). b || list_any is_refusal (flat_map found_lines left)) is ∙ sym (list_any-append is_refusal (found_lines next) (flat_map found_lines left)) ∙ ap (λ (l : List Found). list_any is_refusal (flat_map found_lines l)) (sym split)) ∙ so_far

@@ -31,17 +31,6 @@ use Rattle.script_answers.specs.declared.limits.Limits.{Limits}
 use Rattle.script_answers.proofs.ImageLemmas.{reads, spelled_short, tokens_short}
 use Rattle.script_answers.proofs.Replies.{refused_follows}
 
-not_many : (limits : Limits) (state : State) (name bytes : List ℕ) → length bytes ≤ limits.image →
-    bytes_reply limits state name bytes ≡ record { lines = saved_line (length bytes) ∷ []; after = state_keeping state name bytes }
-not_many limits state name bytes fits =
-    let few : nat_lt limits.image (length bytes) ≡ false = grind (arith, nat_tests) in
-    rw few refl
-
--- the reply to saving an image that is short enough
-pub saved_reply : (limits : Limits) (state : State) (name bytes : List ℕ) → bytes ≡ image_of state.collection → length bytes ≤ limits.image →
-    save_reply limits state name ≡ record { lines = saved_line (length bytes) ∷ []; after = state_keeping state name bytes }
-saved_reply limits state name bytes image fits = ap (bytes_reply limits state name) (sym image) ∙ not_many limits state name bytes fits
-
 -- after a keep that failed, all names but one hold what they held
 pub held_but_one : (state : State) (name : List ℕ) (failed failed' : ℕ) (engine : EngineContent) (before now : Option Contents) → IsAt before engine false state → ChangesOnly name before now →
     failed' ≡ failed + 1 → Unmade (name ∷ []) (failed' ≡ failed) state engine now

@@ -43,20 +43,11 @@ later_begin (Some reply) a b rest is = (rest, ap (λ l. reply.lines ++ l) is ∙
 pub take_more : {T : Type 0} (n : ℕ) (all batch rest : List T) → drop n all ≡ batch ++ rest → take (n + length batch) all ≡ take n all ++ batch
 take_more n all batch rest is = take-add n (length batch) all ∙ ap (λ l. take n all ++ take (length batch) l) is ∙ ap (λ l. take n all ++ l) (take-append_seam batch rest)
 
-pub drop_more : {T : Type 0} (n : ℕ) (all batch rest : List T) → drop n all ≡ batch ++ rest → drop (n + length batch) all ≡ rest
-drop_more n all batch rest is = sym (drop-drop (length batch) n all) ∙ ap (drop (length batch)) is ∙ drop-append_seam batch rest
-
 -- their places lie within
 pub more_within : {T : Type 0} (n : ℕ) (all batch rest : List T) → n ≤ length all → drop n all ≡ batch ++ rest → n + length batch ≤ length all
 more_within n all batch rest within is =
     let left : length all - n ≡ length batch + length rest = sym (length-drop n all) ∙ ap length is ∙ length-append batch rest in
     omega (arith, left, within)
-
--- some line is left at a place within
-pub place_within : {T : Type 0} (n : ℕ) (all rest : List T) (line : T) → drop n all ≡ line ∷ rest → n + 1 ≤ length all
-place_within n all rest line is =
-    let left : length all - n ≡ suc (length rest) = sym (length-drop n all) ∙ ap length is in
-    omega (arith, left)
 
 -- the first of some lines and others
 pub take_first : {T : Type 0} (k : ℕ) (xs ys : List T) → (more : List T) × (take k (xs ++ ys) ≡ take k xs ++ more)
@@ -65,12 +56,6 @@ take_first (suc k) [] ys = (take (suc k) ys, refl)
 take_first (suc k) (x ∷ xs) ys =
     let later = take_first k xs ys in
     (later.0, ap (λ l. x ∷ l) later.1)
-
--- nothing is left after the last one
-pub none_after : {T : Type 0} (n : ℕ) (all : List T) → drop n all ≡ [] → length all ≤ n
-none_after n all is =
-    let left : length all - n ≡ 0 = sym (length-drop n all) ∙ ap length is in
-    omega (arith, left)
 
 -- files that hold all of this hold it but for some names
 pub all_held : (names : List (List ℕ)) (files : Contents) (held : Option Contents) → held ≡ Some files → HoldsBut names files held

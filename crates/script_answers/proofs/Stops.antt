@@ -3,7 +3,7 @@ use Rattle.std.proofs.Common.{◌≡◌, ℕ, ◌+◌, ◌≤◌, Bool, true, fa
 use Rattle.std.proofs.lemmas.List.{drop-drop, take-append-le, drop-append-le}
 use Rattle.std.proofs.Math.Seq.{take-append_seam, drop-append_seam}
 use Rattle.std.proofs.lemmas.Grind.{flat_map-append}
-use Rattle.std.proofs.KnownBytes.{Appends-trans}
+use Rattle.std.proofs.KnownBytes.{Appends-nil, Appends-trans}
 use Rattle.std.specs.Prelude.{flat_map}
 use Rattle.std.specs.Io.KnownBytes.{Appends}
 use Rattle.outside.specs.Contents.{Contents}
@@ -88,23 +88,42 @@ module _ (limits : Limits) where
         named = λ failed none. stop.named failed (ap (λ (l : List Line). names_of (take 1 l)) (sym left) ∙ none);
       }
 
+  -- a stop before any of the lines
+  pub stopped_before : (start : State) (xs : List Line) (version : VersionContent) (how : Ending) (kept : Type 0) (held : Option Contents) (old : Option (List ℕ)) → StandsFor version start.collection →
+      HoldsBut (names_kept_of (take 1 xs)) start.files held → (kept → held ≡ Some start.files) → (IsOfFiles how → names_of (take 1 xs) ≡ [] → ⊥) → IsStopped limits start xs 0 version how kept held old old
+  stopped_before start xs version how kept held old stands files exact named = record {
+    within = omega arith;
+    stands = stands;
+    part = record { part = []; rest = _; whole = refl; written = Appends-nil old };
+    all = λ due. Appends-nil old;
+    files = files;
+    exact = exact;
+    named = named;
+  }
+
+  -- a stop after lines that were all done, of whose answers the sink got a part
+  pub stopped_part : (start : State) (xs : List Line) (version : VersionContent) (how : Ending) (kept : Type 0) (held : Option Contents) (old new : Option (List ℕ)) → StandsFor version (state_after limits start xs).collection →
+      GetsPart old new (text_of_lines (answers limits start xs)) → (IsAllWritten how → Appends old new (text_of_lines (answers limits start xs))) → held ≡ Some (state_after limits start xs).files → ¬ IsOfFiles how →
+      IsStopped limits start xs (length xs) version how kept held old new
+  stopped_part start xs version how kept held old new stands part written files ours =
+      let all : take (length xs) xs ≡ xs = take_all (length xs) xs (omega arith) in
+      let ahead : take (length xs + begun (drop (length xs) xs)) xs ≡ xs = take_all _ xs (omega arith) in
+      let held_all = files ∙ ap (λ (l : List Line). Some (state_after limits start l).files) (sym all) in
+      record {
+        within = omega arith;
+        stands = subst (λ (l : List Line). StandsFor version (state_after limits start l).collection) (sym all) stands;
+        part = subst (λ (l : List Line). GetsPart old new (text_of_lines (answers limits start l))) (sym ahead) part;
+        all = λ due. subst (λ (l : List Line). Appends old new (text_of_lines (answers limits start l))) (sym all) (written due);
+        files = all_held _ _ held held_all;
+        exact = λ all_kept. held_all;
+        named = λ failed. absurd (ours failed);
+      }
+
   -- a stop after lines that were all answered
   pub stopped_after : (start : State) (xs : List Line) (version : VersionContent) (how : Ending) (kept : Type 0) (held : Option Contents) (old new : Option (List ℕ)) → StandsFor version (state_after limits start xs).collection →
       Appends old new (text_of_lines (answers limits start xs)) → held ≡ Some (state_after limits start xs).files → ¬ IsOfFiles how → IsStopped limits start xs (length xs) version how kept held old new
   stopped_after start xs version how kept held old new stands written files ours =
-      let all : take (length xs) xs ≡ xs = take_all (length xs) xs (omega arith) in
-      let none : drop (length xs) xs ≡ [] = ap (drop (length xs)) (sym (append-nil xs)) ∙ drop-append_seam xs [] in
-      let ahead : take (length xs + begun (drop (length xs) xs)) xs ≡ xs = take_all _ xs (omega arith) in
-      record {
-        within = omega arith;
-        stands = subst (λ (l : List Line). StandsFor version (state_after limits start l).collection) (sym all) stands;
-        part = subst (λ (l : List Line). GetsPart old new (text_of_lines (answers limits start l))) (sym ahead)
-            (record { part = text_of_lines (answers limits start xs); rest = []; whole = sym (append-nil _); written = written });
-        all = λ due. subst (λ (l : List Line). Appends old new (text_of_lines (answers limits start l))) (sym all) written;
-        files = all_held _ _ held (files ∙ ap (λ (l : List Line). Some (state_after limits start l).files) (sym all));
-        exact = λ all_kept. files ∙ ap (λ (l : List Line). Some (state_after limits start l).files) (sym all);
-        named = λ failed. absurd (ours failed);
-      }
+      stopped_part start xs version how kept held old new stands (record { part = text_of_lines (answers limits start xs); rest = []; whole = sym (append-nil _); written = written }) (λ due. written) files ours
 
   -- a stop where each keep succeeded if these did
   pub stopped_as : (start : State) (all : List Line) (n : ℕ) (version : VersionContent) (how : Ending) (kept kept' : Type 0) (held : Option Contents) (old new : Option (List ℕ)) → (kept' → kept) →

@@ -1,5 +1,5 @@
 -- What a line asks for, by its command.
-use Rattle.std.proofs.Common.{◌≡◌, ℕ, Bool, true, false, List, [], Some, refl, sym, ap, ◌∙◌, subst}
+use Rattle.std.proofs.Common.{◌≡◌, ℕ, Bool, true, false, List, [], IfSome, Some, refl, sym, ap, ◌∙◌, subst}
 use Rattle.std.specs.Prelude.{if◌then◌else◌}
 use Rattle.script_lang.specs.Lines.{Line}
 use Rattle.script_lang.specs.Commands.{command_of}
@@ -7,91 +7,83 @@ use Rattle.script_lang.specs.declared.commands.Command.{Command}
 use Rattle.script_lang.specs.declared.commands.Command.TheVariants.{Blank, Add, Del, Find, Count, Top, Files, Merge, Shards, Save, Load, Wrong}
 use Rattle.script_lang.specs.declared.refusals.Refusal.TheVariants.{LongLine}
 use Rattle.query_lanes.specs.declared.asks.Ask.{Ask}
+use Rattle.query_lanes.specs.declared.asks.Asked.{Asked}
+use Rattle.query_lanes.specs.declared.asks.Asked.TheVariants.{All, First, Number}
 use Rattle.script_answers.specs.States.{State}
 use Rattle.script_answers.specs.Answers.{answer, is_query, names_asked, names_kept, names_kept_of_line, names_of_line, refusal_lines, reply, unchanged, IsReadBy, IsReadUnless}
-use Rattle.script_answers.specs.inner.Asks.{AsksLine, IsAskedBy}
-use Rattle.script_answers.specs.inner.Tasks.{IsActionOf, IsNothing, IsReadByAction, IsTaskOf, task_kept, task_names, action_kept, action_names, action_reply}
+use Rattle.script_answers.specs.inner.Asks.{AsksLine, IsAskOf, command_asking}
+use Rattle.script_answers.specs.inner.Tasks.{IsActionOf, IsNothing, IsReadByAction, IsTaskFor, IsTaskOf, task_kept, task_names, action_kept, action_names, action_of, action_reply}
 use Rattle.script_answers.specs.declared.action.Action.{Action}
-use Rattle.script_answers.specs.declared.action.Action.TheVariants.{Refuse}
 use Rattle.script_answers.specs.declared.task.Task.{Task}
 use Rattle.script_answers.specs.declared.task.Task.TheVariants.{Nothing, Ask as Asks, Act}
 use Rattle.script_answers.specs.declared.limits.Limits.{Limits}
 
-module _ (line : Line) (command : Command) (short : line.long ≡ false) (is : command_of line.bytes ≡ command) where
-  answered : (limits : Limits) (state : State) → answer limits state line ≡ reply limits state command
-  answered limits state = ap (λ (long : Bool). if long then Some (unchanged state (refusal_lines LongLine)) else reply limits state (command_of line.bytes)) short ∙ ap (reply limits state) is
+-- a command does this, and asks no query
+record Acts (command : Command) (action : Action) : Type 0 where
+  same : (limits : Limits) (state : State) → reply limits state command ≡ action_reply limits state action
+  names : names_asked command ≡ action_names action
+  kept : names_kept command ≡ action_kept action
+  reads : (state : State) → IsReadBy state command → IsReadByAction state action
+  unasked : is_query command ≡ false
 
-  asked : (f : Command → List (List ℕ)) → (if line.long then [] else f (command_of line.bytes)) ≡ f command
-  asked f = ap (λ (long : Bool). if long then [] else f (command_of line.bytes)) short ∙ ap f is
+acts : (command : Command) → IfSome (action_of command) (Acts command)
+acts (Add name) = record { same = λ limits state. refl; names = refl; kept = refl; reads = λ state read. read; unasked = refl }
+acts (Del id) = record { same = λ limits state. refl; names = refl; kept = refl; reads = λ state read. read; unasked = refl }
+acts Files = record { same = λ limits state. refl; names = refl; kept = refl; reads = λ state read. read; unasked = refl }
+acts Merge = record { same = λ limits state. refl; names = refl; kept = refl; reads = λ state read. read; unasked = refl }
+acts Shards = record { same = λ limits state. refl; names = refl; kept = refl; reads = λ state read. read; unasked = refl }
+acts (Save name) = record { same = λ limits state. refl; names = refl; kept = refl; reads = λ state read. read; unasked = refl }
+acts (Load name) = record { same = λ limits state. refl; names = refl; kept = refl; reads = λ state read. read; unasked = refl }
+acts Wrong = record { same = λ limits state. refl; names = refl; kept = refl; reads = λ state read. read; unasked = refl }
+acts Blank = tt
+acts (Find query) = tt
+acts (Count query) = tt
+acts (Top most query) = tt
 
-  -- of a command that asks no query
-  pub action_of : (action : Action) → ((limits : Limits) (state : State) → reply limits state command ≡ action_reply limits state action) → names_asked command ≡ action_names action →
-      names_kept command ≡ action_kept action → ((state : State) → IsReadBy state command → IsReadByAction state action) → is_query command ≡ false → IsActionOf action line
-  action_of action same names kept reads unasked = record {
-    reply_is = λ limits state. answered limits state ∙ same limits state;
-    names_are = asked names_asked ∙ names;
-    kept_are = asked names_kept ∙ kept;
-    reads = λ state read. reads state (subst (IsReadBy state) is (subst (λ (long : Bool). IsReadUnless long state line.bytes) short read));
-    unasked = ap (λ (long : Bool). if long then false else is_query (command_of line.bytes)) short ∙ ap is_query is ∙ unasked;
+module _ (line : Line) (short : line.long ≡ false) where
+  -- what is computed of the command of a line that is not long
+  asked : {T : Type 0} (long : T) (f : Command → T) (command : Command) → command_of line.bytes ≡ command → (if line.long then long else f (command_of line.bytes)) ≡ f command
+  asked long f command is = ap (λ (b : Bool). if b then long else f (command_of line.bytes)) short ∙ ap f is
+
+  -- it asks for what its command asks for
+  pub task_of_line : (task : Task) (command : Command) → command_of line.bytes ≡ command → IsTaskFor task command → IsTaskOf task line
+  task_of_line Nothing command is blank = record {
+    reply_is = λ limits state. asked _ (reply limits state) Blank (is ∙ blank);
+    names_are = asked [] names_asked Blank (is ∙ blank);
+    kept_are = asked [] names_kept Blank (is ∙ blank);
   }
+  task_of_line (Asks ask) command is asks = record { short = short; asks = subst (IsAskOf ask) (sym is) asks }
+  task_of_line (Act action) command is does =
+      let facts : Acts command action = subst (λ o. IfSome o (Acts command)) does (acts command) in
+      record {
+        reply_is = λ limits state. asked _ (reply limits state) command is ∙ facts.same limits state;
+        names_are = asked [] names_asked command is ∙ facts.names;
+        kept_are = asked [] names_kept command is ∙ facts.kept;
+        reads = λ state read. facts.reads state (subst (IsReadBy state) is (subst (λ (long : Bool). IsReadUnless long state line.bytes) short read));
+        unasked = asked false is_query command is ∙ facts.unasked;
+      }
 
-  -- of one that asks this query
-  pub query_of : (ask : Ask) → IsAskedBy ask command → AsksLine ask line
-  query_of ask asks = record { short = short; asks = subst (IsAskedBy ask) (sym is) asks }
+-- what is computed of a command that asks a query
+pub of_query : {T : Type 0} (long : T) (f : Command → T) (ask : Ask) (line : Line) → (asks : AsksLine ask line) → (if line.long then long else f (command_of line.bytes)) ≡ f (command_asking ask.asked asks.asks.query)
+of_query long f ask line asks = asked line asks.short long f (command_asking ask.asked asks.asks.query) asks.asks.command_is
 
-  -- of an empty line
-  pub nothing_of : command ≡ Blank → IsNothing line
-  nothing_of blank = record {
-    reply_is = λ limits state. answered limits state ∙ ap (reply limits state) blank;
-    names_are = asked names_asked ∙ ap names_asked blank;
-    kept_are = asked names_kept ∙ ap names_kept blank;
-  }
+names_of_query : (asked : Asked) (query : List ℕ) → names_asked (command_asking asked query) ≡ []
+names_of_query All query = refl
+names_of_query (First most) query = refl
+names_of_query Number query = refl
 
--- a long line is refused
-pub long_of : (line : Line) → line.long ≡ true → IsActionOf (Refuse LongLine) line
-long_of line long = record {
-  reply_is = λ limits state. ap (λ (b : Bool). if b then Some (unchanged state (refusal_lines LongLine)) else reply limits state (command_of line.bytes)) long;
-  names_are = ap (λ (b : Bool). if b then [] else names_asked (command_of line.bytes)) long;
-  kept_are = ap (λ (b : Bool). if b then [] else names_kept (command_of line.bytes)) long;
-  reads = λ state read. tt;
-  unasked = ap (λ (b : Bool). if b then false else is_query (command_of line.bytes)) long;
-}
+kept_of_query : (asked : Asked) (query : List ℕ) → names_kept (command_asking asked query) ≡ []
+kept_of_query All query = refl
+kept_of_query (First most) query = refl
+kept_of_query Number query = refl
 
 -- the names of a line are those of its task
 pub task_names_are : (task : Task) (line : Line) → IsTaskOf task line → names_of_line line ≡ task_names task
 task_names_are Nothing line is = is.names_are
-task_names_are (Asks ask) line is = ap (λ (long : Bool). if long then [] else names_asked (command_of line.bytes)) is.short ∙ query_names ask (command_of line.bytes) is.asks
-  where
-    query_names : (ask : Ask) (command : Command) → IsAskedBy ask command → names_asked command ≡ []
-    query_names ask (Find query) asks = refl
-    query_names ask (Count query) asks = refl
-    query_names ask (Top most query) asks = refl
-    query_names ask Blank asks = absurd asks
-    query_names ask (Add name) asks = absurd asks
-    query_names ask (Del id) asks = absurd asks
-    query_names ask Files asks = absurd asks
-    query_names ask Merge asks = absurd asks
-    query_names ask Shards asks = absurd asks
-    query_names ask (Save name) asks = absurd asks
-    query_names ask (Load name) asks = absurd asks
-    query_names ask Wrong asks = absurd asks
+task_names_are (Asks ask) line is = of_query [] names_asked ask line is ∙ names_of_query ask.asked is.asks.query
 task_names_are (Act action) line is = is.names_are
 
 pub task_kept_are : (task : Task) (line : Line) → IsTaskOf task line → names_kept_of_line line ≡ task_kept task
 task_kept_are Nothing line is = is.kept_are
-task_kept_are (Asks ask) line is = ap (λ (long : Bool). if long then [] else names_kept (command_of line.bytes)) is.short ∙ query_kept ask (command_of line.bytes) is.asks
-  where
-    query_kept : (ask : Ask) (command : Command) → IsAskedBy ask command → names_kept command ≡ []
-    query_kept ask (Find query) asks = refl
-    query_kept ask (Count query) asks = refl
-    query_kept ask (Top most query) asks = refl
-    query_kept ask Blank asks = absurd asks
-    query_kept ask (Add name) asks = absurd asks
-    query_kept ask (Del id) asks = absurd asks
-    query_kept ask Files asks = absurd asks
-    query_kept ask Merge asks = absurd asks
-    query_kept ask Shards asks = absurd asks
-    query_kept ask (Save name) asks = absurd asks
-    query_kept ask (Load name) asks = absurd asks
-    query_kept ask Wrong asks = absurd asks
+task_kept_are (Asks ask) line is = of_query [] names_kept ask line is ∙ kept_of_query ask.asked is.asks.query
 task_kept_are (Act action) line is = is.kept_are

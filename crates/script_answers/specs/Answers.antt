@@ -7,7 +7,7 @@ use Rattle.gcl_model.specs.Limits.{address_end}
 use Rattle.gcl_model.specs.Texts.{Text}
 use Rattle.gcl_model.specs.Extents.{Extent}
 use Rattle.gcl_model.specs.Forms.{Form}
-use Rattle.gcl_model.specs.Meaning.{concordance}
+use Rattle.gcl_model.specs.Wide.{wide}
 use Rattle.gcl_model.specs.Tokens.{tokens_of}
 use Rattle.gcl_model.specs.Collections.{Collection, width_of, text_of, has_file, with_file, without_file}
 use Rattle.gcl_model.specs.Slots.{slot_range, slots_after_add, slots_after_merge, slots_after_open}
@@ -117,10 +117,10 @@ asked_lines All list = list_lines list
 asked_lines (First most) list = list_lines (take most list)
 asked_lines Number list = total_line (length list) ∷ []
 
--- the first fault of a query, or what is asked of the concordance list of its form
+-- the first fault of a query, or what is asked of the wide list of its form
 abbrev pub lines_by : Asked → Text → Option QueryFault → Option Form → List (List ℕ)
 lines_by asked text (Some fault) form = refusal_lines (Query fault)
-lines_by asked text None (Some form) = asked_lines asked (concordance text form)
+lines_by asked text None (Some form) = asked_lines asked (wide text form)
 lines_by asked text None None = []
 
 -- the lines that answer a query over a text: over "to be" those of `count "to"` are `= 1`; a text that is not refused has a form

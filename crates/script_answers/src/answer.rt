@@ -2,6 +2,7 @@
 ghost use Rattle.std.specs.Prelude.{◌≡◌, ◌++◌, OnOk};
 ghost use Rattle.std.specs.List.{list_any};
 ghost use Rattle.address_space.specs.Runs.{FileEntry};
+ghost use Rattle.file_runs.specs.Records.{files_in};
 ghost use Rattle.live_version.specs.Contents.{VersionContent, files_of};
 ghost use Rattle.script_lang.specs.Answers.{is_refusal};
 ghost use Rattle.script_lang.specs.Lines.{text_of_lines};
@@ -9,6 +10,7 @@ ghost use Rattle.script_answers.specs.Answers.{listing_lines, record_lines};
 ghost use Rattle.script_answers.specs.inner.Tasks.{answer_lines, is_change};
 
 use address_space::SharedRecord;
+use file_runs::SharedRun;
 use live_version::{Slot, Version};
 use script_lang::{
     Refusal, put_file, put_gone, put_merging, put_opened, put_record, put_refusal, put_saved,
@@ -70,12 +72,22 @@ fn put_files(out: &mut Vec<u8>, files: &[SharedRecord]) -> Result<(), AllocError
     Ok(())
 }
 
+/// Appends a line for each file of some runs.
+fn put_runs(out: &mut Vec<u8>, runs: &[SharedRun]) -> Result<(), AllocError>
+    ensures { OnOk result (out.new.items ≡ out.old.items ++ text_of_lines (record_lines (files_in runs.now))) }
+{
+    for run in runs {
+        put_files(out, run.as_slice())?;
+    }
+    Ok(())
+}
+
 /// Appends a line for each surviving file of some slots.
 fn put_slots(out: &mut Vec<u8>, slots: &[Slot]) -> Result<(), AllocError>
     ensures { OnOk result (out.new.items ≡ out.old.items ++ text_of_lines (record_lines (files_of slots.now))) }
 {
     for slot in slots {
-        put_files(out, slot.records().as_slice())?;
+        put_runs(out, slot.records().runs())?;
     }
     Ok(())
 }

@@ -17,7 +17,7 @@ pub fn merge_pending<R: Wait, G: Gate>(
     pending: &mut bool,
 ) -> Result<(), AllocError>
     requires { engine.old.version.number < merge_end }
-    ensures keeps { OnOk result ((state : State) → Keeps engine.old pending.old state → Keeps engine.new pending.new state) }
+    ensures keeps { OnOk result ((state : State) → Keeps engine.old pending.old state → Keeps engine.new false state) }
     ensures made { OnOk result (pending.new ≡ false) }
     ensures number { OnOk result (engine.new.version.number ≤ engine.old.version.number + merges_pending pending.old) }
     ensures savable { OnOk result (CanBeSaved engine.old.version → CanBeSaved engine.new.version) }

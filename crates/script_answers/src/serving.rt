@@ -60,9 +60,7 @@ fn serve_batch<R: Threads + Wait + Sync, K: Sink, G: Gate + Sync>(
         setting.context.alloc,
         sink,
         &mut progress.out,
-        &opened.engine,
         &mut opened.lines,
-        asks.as_slice(),
         answers,
     )?;
     asks.clear();
@@ -137,11 +135,11 @@ fn serve_task<R: Threads + Wait + Sync, F: Files, K: Sink, G: Gate + Sync>(
     requires named { IsNamedTask task }
     requires serving { IsServing opened.old progress.old (length asks.old.items) }
     requires room { opened.old.lines + length asks.old.items < most_script }
-    ensures goes { OnOk result ((waiting : List Line) (line : Line) → AreAsked asks.old.items waiting → IsTaskOf task line →
-        Goes setting.now.limits (waiting ++ line ∷ []) asks.new.items (stand (F.held files.old) opened.old progress.old)
+    ensures goes { OnOk result ((waiting rest : List Line) (line : Line) → AreAsked asks.old.items waiting → IsTaskOf task line →
+        Goes setting.now.limits (waiting ++ line ∷ rest) rest asks.new.items (stand (F.held files.old) opened.old progress.old)
         (stand (F.held files.new) opened.new progress.new) (K.written sink.old) (K.written sink.new)) }
-    ensures halts { OnErr result ((waiting : List Line) (line : Line) → AreAsked asks.old.items waiting → IsTaskOf task line →
-        Halts setting.now.limits (waiting ++ line ∷ []) (ending_of result) (F.unkept files.new ≡ F.unkept files.old)
+    ensures halts { OnErr result ((waiting rest : List Line) (line : Line) → AreAsked asks.old.items waiting → IsTaskOf task line →
+        Halts setting.now.limits (waiting ++ line ∷ rest) (ending_of result) (F.unkept files.new ≡ F.unkept files.old)
         (stand (F.held files.old) opened.old progress.old) (stand (F.held files.new) opened.new progress.new) (K.written sink.old) (K.written sink.new)) }
     ensures serving { OnOk result (IsServing opened.new progress.new (length asks.new.items)) }
     ensures each { OnOk result (opened.new.lines + length asks.new.items ≡ opened.old.lines + length asks.old.items + 1) }

@@ -1,13 +1,13 @@
 ghost use Rattle.std.specs.Prelude.{◌≡◌, false, true, IfOk};
-ghost use Rattle.script_lang.specs.Commands.{IsNamed, command_of};
-ghost use Rattle.script_lang.specs.Lines.{Line};
+ghost use Rattle.script_lang.specs.Commands.{IsNamed};
 ghost use Rattle.gcl_model.specs.FormOf.{form_of};
 ghost use Rattle.gcl_model.specs.Texts.{Text};
 ghost use Rattle.gcl_model.specs.WellFormed.{IsWellFormed};
 ghost use Rattle.query_lanes.specs.declared.asks.Asked.{Asked};
 ghost use Rattle.script_answers.specs.Answers.{query_lines};
-ghost use Rattle.script_answers.specs.inner.Asks.{IsAskOf, expr_lines};
-ghost use Rattle.script_answers.specs.inner.Tasks.{IsNamedTask, IsTaskOf};
+ghost use Rattle.query_lanes.specs.Answers.{answer_by};
+ghost use Rattle.script_answers.specs.inner.Asks.{IsAskOf, command_asking, found_lines};
+ghost use Rattle.script_answers.specs.inner.Tasks.{IsNamedTask, IsTaskFor, IsTaskOf};
 
 use crate::action::Action;
 use gcl_model::{Bytes, Expr};
@@ -40,7 +40,7 @@ fn shared(alloc: Global, expr: Expr) -> Result<Arc<Expr>, AllocError>
 /// The expression of a query, or why it has none.
 fn expr_of(alloc: Global, query: &[u8]) -> Result<Result<Arc<Expr>, QueryFault>, AllocError>
     ensures well_formed { IfOk result (λ read. IfOk read (λ expr. IsWellFormed (form_of expr.value))) }
-    ensures lines { IfOk result (λ read. (asked : Asked) (text : Text) → expr_lines asked text read ≡ query_lines asked text query.now) }
+    ensures lines { IfOk result (λ read. (asked : Asked) (text : Text) → found_lines (answer_by asked text read) ≡ query_lines asked text query.now) }
 {
     match parse(alloc, query) {
         Ok(expr) => {
@@ -54,7 +54,7 @@ fn expr_of(alloc: Global, query: &[u8]) -> Result<Result<Arc<Expr>, QueryFault>,
 
 /// The query that these bytes are, as one of a batch; one that is refused keeps its fault. `number` says which query of the run it is.
 fn ask_of(alloc: Global, number: u64, asked: Asked, query: &Bytes) -> Result<Ask, AllocError>
-    ensures { IfOk result (IsAskOf asked query.now) }
+    ensures { IfOk result (λ ask. IsAskOf ask (command_asking asked query.now)) }
 {
     let query = expr_of(alloc, query.as_slice())?;
     Ok(Ask {
@@ -67,7 +67,7 @@ fn ask_of(alloc: Global, number: u64, asked: Asked, query: &Bytes) -> Result<Ask
 /// What a line with this command asks for.
 fn task_of(alloc: Global, command: Command, number: u64) -> Result<Task, AllocError>
     requires named { IsNamed command }
-    ensures task { IfOk result (λ task. (line : Line) → line.long ≡ false → command_of line.bytes ≡ command → IsTaskOf task line) }
+    ensures task { IfOk result (λ task. IsTaskFor task command) }
     ensures named { IfOk result IsNamedTask }
 {
     match command {

@@ -5,7 +5,7 @@ use Rattle.gcl_model.specs.Extents.{Extent}
 use Rattle.address_space.specs.Runs.{FileEntry}
 use Rattle.gcl_parser.specs.declared.fault.QueryFault.{QueryFault}
 use Rattle.gcl_parser.specs.declared.fault.QueryKind.{QueryKind}
-use Rattle.gcl_parser.specs.declared.fault.QueryKind.TheVariants.{OperandExpected, OperatorOrCloseExpected, EmptyTerm, BadWidth, OpenQuote, Character, TooLarge, TooDeep}
+use Rattle.gcl_parser.specs.declared.fault.QueryKind.TheVariants.{OperandExpected, OperatorOrCloseExpected, EmptyTerm, BadPrefix, BadWidth, OpenQuote, Character, TooLarge, TooDeep}
 use Rattle.script_lang.specs.declared.refusals.Refusal.{Refusal}
 use Rattle.script_lang.specs.declared.refusals.Refusal.TheVariants.{Command, LongLine, Query, NoFile, TooLong, NoAddresses, NotEmpty, NotImage}
 
@@ -50,6 +50,7 @@ abbrev pub kind_text : QueryKind → List ℕ
 kind_text OperandExpected = codes "operand expected"
 kind_text OperatorOrCloseExpected = codes "operator or close expected"
 kind_text EmptyTerm = codes "empty term"
+kind_text BadPrefix = codes "bad prefix"
 kind_text BadWidth = codes "bad width"
 kind_text OpenQuote = codes "open quote"
 kind_text Character = codes "character"

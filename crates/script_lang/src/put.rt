@@ -142,6 +142,7 @@ fn kind_text(kind: QueryKind) -> &'static [u8]
         QueryKind::OperandExpected => b"operand expected",
         QueryKind::OperatorOrCloseExpected => b"operator or close expected",
         QueryKind::EmptyTerm => b"empty term",
+        QueryKind::BadPrefix => b"bad prefix",
         QueryKind::BadWidth => b"bad width",
         QueryKind::OpenQuote => b"open quote",
         QueryKind::Character => b"character",

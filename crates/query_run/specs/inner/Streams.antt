@@ -8,7 +8,7 @@ use Rattle.script_answers.specs.Answers.{names_kept_of, names_of}
 use Rattle.script_answers.specs.Stopped.{Ending, finished, read_failed, too_long, write_failed, files_failed, out_of_memory}
 use Rattle.script_answers.specs.inner.Service.{Counts, Serves, Stand}
 use Rattle.script_answers.specs.declared.limits.Limits.{Limits}
-use Rattle.query_run.specs.Runs.{HandsOverMore, TakesWithin, within}
+use Rattle.query_run.specs.Runs.{HandsOverMore, TakesAtMost, within}
 use Rattle.query_run.specs.declared.stream_fault.StreamFault.{StreamFault}
 use Rattle.query_run.specs.declared.stream_fault.StreamFault.TheVariants.{Read as StreamRead, TooLong as StreamTooLong, Write as StreamWrite, Files as StreamFiles, NoMemory as StreamNoMemory}
 
@@ -48,9 +48,9 @@ IsSure (Err StreamWrite) = ⊤
 IsSure (Err StreamFiles) = ⊥
 IsSure (Err StreamNoMemory) = ⊥
 
--- what was read of a script that may have this many bytes: at most one byte more, and of a longer one that; and its count of faults
+-- what was read of a script that may have this many bytes: no more, and of a longer one a byte more; and its count of faults
 pub record HasRead {T : Type 0} (most : ℕ) (left left' : Option (List ℕ)) (before now : ℕ) (result : Result T StreamFault) : Type 0 where
-  pub took : TakesWithin most left left'
+  pub took : ¬ IsErrOf result StreamTooLong → TakesAtMost most left left'
   pub ended : OnOk result (IsAtEnd left')
   pub short : OnOk result (IfSome left (λ script. length script ≤ most))
   pub too_long : IsErrOf result StreamTooLong → HandsOverMore most left left'

@@ -1,27 +1,29 @@
 -- How an answer is put page by page: what is held back, and what the sink got.
-use Rattle.std.specs.Prelude.{◌≡◌, ℕ, List, ◌++◌, take, Option}
+use Rattle.std.specs.Prelude.{◌≡◌, ℕ, List, ◌++◌, map, length, flat_map, Option}
 use Rattle.std.specs.Io.KnownBytes.{Appends}
 use Rattle.gcl_model.specs.Extents.{Extent}
-use Rattle.query_lanes.specs.declared.asks.Asked.{Asked}
-use Rattle.query_lanes.specs.declared.asks.Asked.TheVariants.{All, First, Number}
-use Rattle.script_answers.specs.Stopped.{GetsPart}
+use Rattle.script_lang.specs.Answers.{interval_line}
+use Rattle.script_lang.specs.Lines.{text_of_lines}
+use Rattle.query_lanes.specs.declared.asks.Found.{Found}
+use Rattle.script_answers.specs.inner.Asks.{found_lines}
 
--- the members of a list that are asked for; for their number all are
-abbrev pub members_asked : Asked → List Extent → List Extent
-members_asked All list = list
-members_asked (First most) list = take most list
-members_asked Number list = list
-
--- of a text the sink got the beginning, and the rest is held back
-pub record IsPut (old new : Option (List ℕ)) (held text : List ℕ) : Type 0 where
+-- a text was put after what was held back: the sink got the beginning of both, and the rest is held back
+pub record Puts (old new : Option (List ℕ)) (held held' text : List ℕ) : Type 0 where
   pub part : List ℕ
-  pub whole : text ≡ part ++ held
+  pub whole : held ++ text ≡ part ++ held'
   pub written : Appends old new part
 
--- a text was put after whatever was put before
-abbrev pub Puts : Option (List ℕ) → Option (List ℕ) → List ℕ → List ℕ → List ℕ → Type 0
-Puts before now held held' more = (old : Option (List ℕ)) (text : List ℕ) → IsPut old before held text → IsPut old now held' (text ++ more)
+-- the text of the lines of some members
+abbrev pub members_text : List Extent → List ℕ
+members_text list = text_of_lines (map interval_line list)
 
--- of a text that was to be put after whatever was put before the sink got a beginning
-abbrev pub PutsPart : Option (List ℕ) → Option (List ℕ) → List ℕ → List ℕ → Type 0
-PutsPart before now held more = (old : Option (List ℕ)) (text : List ℕ) → IsPut old before held text → GetsPart old now (text ++ more)
+-- the text of what was found of some queries
+abbrev pub founds_text : List Found → List ℕ
+founds_text founds = text_of_lines (flat_map found_lines founds)
+
+-- of a list with a text the first parts were put, this many, and the others are left
+pub record PutsFirst {A : Type 0} (text : List A → List ℕ) (old new : Option (List ℕ)) (held held' : List ℕ) (list left : List A) (count : ℕ) : Type 0 where
+  pub so_far : List A
+  pub whole : list ≡ so_far ++ left
+  pub count_is : count ≡ length so_far
+  pub puts : Puts old new held held' (text so_far)

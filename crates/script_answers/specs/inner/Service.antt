@@ -1,5 +1,5 @@
 -- How a run stands, and what becomes of it while some lines are answered.
-use Rattle.std.specs.Prelude.{◌≡◌, ℕ, ◌+◌, ◌≤◌, ◌||◌, Bool, List, [], ◌++◌, length, drop, Option, Some, Result, Ok, Err, IsErrOf, ⊤, if◌then◌else◌}
+use Rattle.std.specs.Prelude.{◌≡◌, ℕ, ◌+◌, ◌≤◌, ◌||◌, Bool, List, [], ◌++◌, length, Option, Some, Result, Ok, Err, IsErrOf, ⊤, if◌then◌else◌}
 use Rattle.std.specs.List.{list_any}
 use Rattle.std.specs.Io.KnownBytes.{Appends}
 use Rattle.gcl_model.specs.Limits.{most_readers}
@@ -11,7 +11,7 @@ use Rattle.collection.specs.Engines.{EngineContent}
 use Rattle.collection.specs.declared.engine.Opened.{Opened}
 use Rattle.query_lanes.specs.Readers.{AreOf}
 use Rattle.query_lanes.specs.declared.asks.Ask.{Ask}
-use Rattle.script_lang.specs.Lines.{Line, lines, text_of_lines}
+use Rattle.script_lang.specs.Lines.{Line, text_of_lines}
 use Rattle.script_lang.specs.Answers.{is_refusal}
 use Rattle.script_answers.specs.States.{State, Keeps}
 use Rattle.script_answers.specs.Answers.{answers, state_after, AllAnswered, AreRead}
@@ -66,19 +66,13 @@ pub record Halted (limits : Limits) (state : State) (lines : List Line) (how : E
 abbrev pub Halts : Limits → List Line → Ending → Type 0 → Stand → Stand → Option (List ℕ) → Option (List ℕ) → Type 0
 Halts limits lines how kept before after old new = (state : State) → IsAtStand before state → AreRead limits state lines → Halted limits state lines how kept before after old new
 
--- of some lines the first ones were served, and the queries of the others wait for their batch
-pub record Goes (limits : Limits) (all : List Line) (asks : List Ask) (before after : Stand) (old new : Option (List ℕ)) : Type 0 where
+-- of some lines the first ones were served, the queries of those after them wait for their batch, and the rest is still to come
+pub record Goes (limits : Limits) (all rest : List Line) (asks : List Ask) (before after : Stand) (old new : Option (List ℕ)) : Type 0 where
   pub taken : List Line
   pub waiting : List Line
-  pub whole : all ≡ taken ++ waiting
+  pub whole : all ≡ taken ++ (waiting ++ rest)
   pub are : AreAsked asks waiting
   pub serves : Serves limits taken before after old new
-
--- the lines of a script up to a place came, and those after it follow
-pub record Comes (limits : Limits) (script : List ℕ) (at : ℕ) (asks : List Ask) (before after : Stand) (old new : Option (List ℕ)) : Type 0 where
-  pub so_far : List Line
-  pub whole : lines limits.line script ≡ so_far ++ lines limits.line (drop at script)
-  pub goes : Goes limits so_far asks before after old new
 
 -- how many merges are pending
 abbrev pub merges_pending : Bool → ℕ

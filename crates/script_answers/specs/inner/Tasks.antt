@@ -11,7 +11,10 @@ use Rattle.script_lang.specs.Answers.{file_line, gone_line, merging_line, opened
 use Rattle.script_answers.specs.Answers.{Reply, add_reply, answer, asks_query, del_reply, files_lines, listing_lines, names_kept_of_line, names_of_line, open_reply, refusal_lines, save_reply, state_merged, unchanged, IsRead}
 use Rattle.script_answers.specs.Images.{IsReading}
 use Rattle.script_answers.specs.States.{State, Keeps}
-use Rattle.script_answers.specs.inner.Asks.{AsksLine}
+use Rattle.script_lang.specs.declared.commands.Command.{Command}
+use Rattle.script_lang.specs.declared.commands.Command.TheVariants.{Blank, Add as ToAdd, Del, Files as ToList, Merge as ToMerge, Shards, Save as ToSave, Load, Wrong}
+use Rattle.script_lang.specs.declared.refusals.Refusal.TheVariants.{Command as NoCommand}
+use Rattle.script_answers.specs.inner.Asks.{AsksLine, IsAskOf}
 use Rattle.script_answers.specs.declared.action.Action.{Action}
 use Rattle.script_answers.specs.declared.action.Action.TheVariants.{Add, Delete, ListFiles, Merge, CountSlots, Save, Open, Refuse}
 use Rattle.script_answers.specs.declared.answer.Answer.{Answer}
@@ -59,6 +62,24 @@ IsNamedAction _ = ⊤
 abbrev pub IsReadByAction : State → Action → Type 0
 IsReadByAction state (Open name) = IfSome (state.files name) (λ content. IsReading content (state.images content))
 IsReadByAction state _ = ⊤
+
+-- what a command asks for that asks no query and is not empty
+abbrev pub action_of : Command → Option Action
+action_of (ToAdd name) = Some (Add name)
+action_of (Del id) = Some (Delete id)
+action_of ToList = Some ListFiles
+action_of ToMerge = Some Merge
+action_of Shards = Some CountSlots
+action_of (ToSave name) = Some (Save name)
+action_of (Load name) = Some (Open name)
+action_of Wrong = Some (Refuse NoCommand)
+action_of _ = None
+
+-- what a command asks for
+abbrev pub IsTaskFor : Task → Command → Type 0
+IsTaskFor Nothing command = command ≡ Blank
+IsTaskFor (Ask ask) command = IsAskOf ask command
+IsTaskFor (Act action) command = action_of command ≡ Some action
 
 -- a line asks for this, and for no query
 pub record IsActionOf (action : Action) (line : Line) : Type 0 where

@@ -1,15 +1,11 @@
-use Rattle.std.proofs.Common.{◌≡◌, subst, ◌<◌, ◌≤◌, Some, refl, ap, arith}
-use Rattle.gcl_model.specs.Limits.{address_end, most_script}
+use Rattle.std.proofs.Common.{◌≡◌, ◌<◌, ◌≤◌, refl, ap, arith}
+use Rattle.gcl_model.specs.Limits.{address_end}
 use Rattle.collection.specs.Engines.{EngineContent}
-use Rattle.script_lang.specs.Lines.{lines}
 use Rattle.script_answers.specs.States.{greatest_limits}
-use Rattle.script_answers.specs.Answers.{output_by}
-use Rattle.script_answers.specs.Stopped.{GetsPart, out_of_memory}
+use Rattle.query_run.specs.Promises.{Objects, objects}
 use Rattle.query_run.specs.Statuses.{ending_of}
-use Rattle.query_run.specs.Runs.{HasStopped, TakesWithin, within}
-use Rattle.query_run.proofs.Told.{by_words, none_stopped, some_stopped}
-use Rattle.query_run.proofs.StreamLemmas.{takes_none}
-use Rattle.script_answers.specs.declared.limits.Limits.{Limits}
+use Rattle.query_run.proofs.RunLemmas.{nothing_run, run_by}
+use Rattle.query_run.proofs.Told.{stops_after}
 use Rattle.query_run.proofs.script_run.run_script.Goals as goal
 
 pub unreachable-requires : goal.unreachable-requires
@@ -18,32 +14,42 @@ unreachable-requires g c =
     let within : c.args.first ≤ address_end = c.requires.in_range in
     omega (arith, over, within)
 
-pub returns-clause-part_within : goal.returns-clause-part_within
-returns-clause-part_within g c = λ long.
-    let first : Some c.in-Ok.opened.engine.version.first ≡ Some c.args.first = ap (λ (e : EngineContent). Some e.version.first) c.in-Ok.ensures.history in
-    by_words (Some c.args.first) c.greatest-limits.result greatest_limits c.in-Ok.opened.engine.version.first (g.S.Source.left c.args.source.now) (g.F.Files.held c.args.files.now)
-    (λ limits start script. GetsPart (g.K.Sink.written c.args.sink.now) (g.K.Sink.written c.serve-status.new.sink) (output_by limits start (within limits.script script)))
-    first c.greatest-limits.ensures (c.serve-status.ensures.part_within long)
+pub returns-in-Err-NoMemory : goal.returns-in-Err-NoMemory
+returns-in-Err-NoMemory g c =
+    rw c.requires.none (nothing_run greatest_limits
+    (objects (g.S.Source.left c.args.source.now) (g.S.Source.faults c.args.source.now) (g.F.Files.held c.args.files.now) (g.F.Files.unkept c.args.files.now) (g.F.Files.faults c.args.files.now) (g.K.Sink.written c.args.sink.now) (g.K.Sink.faults c.args.sink.now))
+    c.args.first c.args.files.now)
 
-pub returns-in-Err-NoMemory-clause-stopped : goal.returns-in-Err-NoMemory-clause-stopped
-returns-in-Err-NoMemory-clause-stopped g c = none_stopped greatest_limits (Some c.args.first) out_of_memory (λ failed. failed) (g.F.Files.unkept c.args.files.now ≡ g.F.Files.unkept c.args.files.now) (g.S.Source.left c.args.source.now) (g.F.Files.held c.args.files.now) (g.K.Sink.written c.args.sink.now)
-
-pub returns-clause-stopped : goal.returns-clause-stopped
-returns-clause-stopped g c =
-    let first : Some c.in-Ok.opened.engine.version.first ≡ Some c.args.first = ap (λ (e : EngineContent). Some e.version.first) c.in-Ok.ensures.history in
-    let left = g.S.Source.left c.args.source.now in
-    let held = g.F.Files.held c.args.files.now in
-    let kept = g.F.Files.unkept c.serve-status.new.files ≡ g.F.Files.unkept c.args.files.now in
-    let held' = g.F.Files.held c.serve-status.new.files in
-    let old = g.K.Sink.written c.args.sink.now in
-    let new = g.K.Sink.written c.serve-status.new.sink in
-    by_words (Some c.args.first) c.greatest-limits.result greatest_limits c.in-Ok.opened.engine.version.first left held
-    (λ limits start script. HasStopped limits start (lines limits.line script) (ending_of c.serve-status.result) kept held' old new) first c.greatest-limits.ensures
-    (some_stopped c.greatest-limits.result c.in-Ok.opened.engine.version.first (ending_of c.serve-status.result) kept left held held' old new c.serve-status.new.opened.lines c.serve-status.new.opened.engine.version c.serve-status.ensures.stopped)
-
-pub returns-in-Err-NoMemory-clause-took : goal.returns-in-Err-NoMemory-clause-took
-returns-in-Err-NoMemory-clause-took g c = takes_none most_script (g.S.Source.left c.args.source.now)
-
-pub returns-clause-took : goal.returns-clause-took
-returns-clause-took g c =
-    subst (λ (l : Limits). TakesWithin l.script (g.S.Source.left c.args.source.now) (g.S.Source.left c.serve-status.new.source)) c.greatest-limits.ensures c.serve-status.ensures.took
+pub returns : goal.returns
+returns g c =
+    let first : c.in-Ok.opened.engine.version.first ≡ c.args.first = ap (λ (e : EngineContent). e.version.first) c.in-Ok.ensures.history in
+    let limits = c.greatest-limits.result in
+    let address = c.in-Ok.opened.engine.version.first in
+    let old : Objects = objects (g.S.Source.left c.args.source.now) (g.S.Source.faults c.args.source.now) (g.F.Files.held c.args.files.now) (g.F.Files.unkept c.args.files.now) (g.F.Files.faults c.args.files.now) (g.K.Sink.written c.args.sink.now) (g.K.Sink.faults c.args.sink.now) in
+    let new : Objects = objects (g.S.Source.left c.serve-status.new.source) (g.S.Source.faults c.serve-status.new.source) (g.F.Files.held c.serve-status.new.files) (g.F.Files.unkept c.serve-status.new.files) (g.F.Files.faults c.serve-status.new.files) (g.K.Sink.written c.serve-status.new.sink) (g.K.Sink.faults c.serve-status.new.sink) in
+    let completed = c.serve-status.new.opened.lines in
+    let status = c.serve-status.result in
+    let served = c.serve-status.ensures in
+    run_by limits greatest_limits address c.args.first old new completed status (c.serve-status.new.files ≡ c.args.files.now) c.greatest-limits.ensures first (record {
+      never_usage = served.never_usage;
+      told = record {
+        done = served.done;
+        done_with_refusals = served.done_with_refusals;
+        stopped = stops_after limits address (ending_of status) (new.unkept ≡ old.unkept) old.left old.held new.held old.written new.written completed c.serve-status.new.opened.engine.version served.stopped;
+        sure = served.sure;
+        part = served.part;
+        part_within = served.part_within;
+      };
+      caused = record {
+        took = served.took;
+        read_fault = served.read_fault;
+        write_fault = served.write_fault;
+        file_fault = served.file_fault;
+        too_long = served.too_long;
+        source_calm = served.source_calm;
+        sink_calm = served.sink_calm;
+        files_calm = served.files_calm;
+      };
+      complete = record { complete = λ given. served.complete; complete_long = λ given. served.complete_long };
+      others = record { unasked = served.unasked; unsaved = served.unsaved };
+    })

@@ -1,4 +1,5 @@
-use Rattle.std.proofs.Common.{◌≡◌}
+use Rattle.std.proofs.Common.{◌≡◌, ◌+◌, rules}
+use Rattle.query_run.proofs.StreamLemmas.{takes_all}
 use Rattle.query_run.proofs.Told.{told_part}
 use Rattle.query_run.proofs.stream.serve.Goals as goal
 
@@ -31,3 +32,6 @@ returns-clause-part g c =
     told_part c.args.limits.now c.args.opened.now.engine.version.first _ (g.F.Files.unkept c.serve_all.new.files ≡ g.F.Files.unkept c.args.files.now)
     (g.S.Source.left c.args.source.now) (g.F.Files.held c.args.files.now) (g.F.Files.held c.serve_all.new.files)
     (g.K.Sink.written c.args.sink.now) (g.K.Sink.written c.serve_all.new.sink) c.serve_all.new.opened.lines c.serve_all.new.opened.engine c.serve_all.ensures.stopped
+
+pub returns-in-Err-TooLong-clause-took : goal.returns-in-Err-TooLong-clause-took
+returns-in-Err-TooLong-clause-took g c = takes_all (c.args.limits.now.script + 1) (g.S.Source.left c.args.source.now) (g.S.Source.left c.serve_all.new.source) (c.serve_all.ensures.read.too_long (search rules))

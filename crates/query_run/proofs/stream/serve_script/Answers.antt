@@ -8,7 +8,8 @@ use Rattle.script_answers.specs.inner.Service.{Halts, Serves, stand}
 use Rattle.script_answers.proofs.Service.{halts_as}
 use Rattle.query_run.specs.Faults.{of_read, of_run}
 use Rattle.query_run.specs.inner.Streams.{ReadsOn, ServesWithin, ending_of, fault_ending}
-use Rattle.query_run.proofs.StreamLemmas.{at_script, come_last, come_next, ended_few, ending_is, fed_piece, hands_all, hands_over, hands_piece, no_files, none_among, read_long, reads_all, reads_halts, reads_served, reads_stop, reads_within, run_ending, sure_run, takes_handed, takes_more}
+use Rattle.query_run.specs.declared.read.ReadFault.TheVariants.{TooLong as ReadTooLong}
+use Rattle.query_run.proofs.StreamLemmas.{at_script, come_last, come_next, ended_few, ending_is, fed_piece, hands_all, hands_over, hands_piece, long_ended, no_files, none_among, read_long, reads_all, reads_halts, reads_served, reads_stop, reads_within, run_ending, sure_run, takes_handed, takes_more}
 use Rattle.query_run.proofs.stream.serve_script.Goals as goal
 
 pub returns-in_err-read_piece-clause-halts : goal.returns-in_err-read_piece-clause-halts
@@ -22,7 +23,7 @@ returns-in_err-read_piece-clause-within g c = λ long. at_script (g.S.Source.lef
 
 pub returns-in_err-read_piece-clause-read : goal.returns-in_err-read_piece-clause-read
 returns-in_err-read_piece-clause-read g c = record {
-  took = takes_more c.loop-feed.read c.args.setting.now.limits.script (g.S.Source.left c.args.source.now) (g.S.Source.left c.loop-feed.source) (g.S.Source.left c.read_piece.new.source) c.loop-feed.invariant.few c.loop-feed.invariant.taken c.in_err-read_piece.ensures.took;
+  took = λ short. takes_more c.loop-feed.read c.args.setting.now.limits.script (g.S.Source.left c.args.source.now) (g.S.Source.left c.loop-feed.source) (g.S.Source.left c.read_piece.new.source) c.loop-feed.invariant.few c.loop-feed.invariant.taken (c.in_err-read_piece.ensures.took (λ long. let same : c.in_err-read_piece.field-0.0 ≡ ReadTooLong = cc long in short (long_ended c.from_residual.result c.in_err-read_piece.field-0.0 c.from_residual.ensures.1 same)));
   ended = search rules;
   short = search rules;
   too_long = λ long. hands_over c.loop-feed.read c.args.setting.now.limits.script (g.S.Source.left c.args.source.now) (g.S.Source.left c.loop-feed.source) (g.S.Source.left c.read_piece.new.source) c.loop-feed.invariant.few c.loop-feed.invariant.taken
@@ -42,7 +43,7 @@ returns-in_err-serve_held-clause-halts g c = on_err _ c.from_residual-in_err-ser
 
 pub returns-in_err-serve_held-clause-read : goal.returns-in_err-serve_held-clause-read
 returns-in_err-serve_held-clause-read g c = record {
-  took = takes_handed c.read_piece.new.read c.args.setting.now.limits.script (g.S.Source.left c.args.source.now) (g.S.Source.left c.read_piece.new.source) c.in_ok-read_piece.ensures.within (hands_piece c.loop-feed.read c.read_piece.new.read c.loop-feed.feed c.read_piece.new.feed (g.S.Source.left c.args.source.now) (g.S.Source.left c.loop-feed.source) (g.S.Source.left c.read_piece.new.source) c.in_ok-read_piece.ensures.counted c.loop-feed.invariant.taken c.in_ok-read_piece.ensures.fed);
+  took = λ short. takes_handed c.read_piece.new.read c.args.setting.now.limits.script (g.S.Source.left c.args.source.now) (g.S.Source.left c.read_piece.new.source) c.in_ok-read_piece.ensures.within (hands_piece c.loop-feed.read c.read_piece.new.read c.loop-feed.feed c.read_piece.new.feed (g.S.Source.left c.args.source.now) (g.S.Source.left c.loop-feed.source) (g.S.Source.left c.read_piece.new.source) c.in_ok-read_piece.ensures.counted c.loop-feed.invariant.taken c.in_ok-read_piece.ensures.fed);
   ended = search rules;
   short = search rules;
   too_long = search rules;
@@ -101,7 +102,7 @@ returns-in_err-serve_held-2-clause-halts g c = on_err _ c.from_residual-in_err-s
 
 pub returns-in_err-serve_held-2-clause-read : goal.returns-in_err-serve_held-2-clause-read
 returns-in_err-serve_held-2-clause-read g c = record {
-  took = takes_handed c.read_piece.new.read c.args.setting.now.limits.script (g.S.Source.left c.args.source.now) (g.S.Source.left c.read_piece.new.source) c.in_ok-read_piece.ensures.within (hands_piece c.loop-feed.read c.read_piece.new.read c.loop-feed.feed c.read_piece.new.feed (g.S.Source.left c.args.source.now) (g.S.Source.left c.loop-feed.source) (g.S.Source.left c.read_piece.new.source) c.in_ok-read_piece.ensures.counted c.loop-feed.invariant.taken c.in_ok-read_piece.ensures.fed);
+  took = λ short. takes_handed c.read_piece.new.read c.args.setting.now.limits.script (g.S.Source.left c.args.source.now) (g.S.Source.left c.read_piece.new.source) c.in_ok-read_piece.ensures.within (hands_piece c.loop-feed.read c.read_piece.new.read c.loop-feed.feed c.read_piece.new.feed (g.S.Source.left c.args.source.now) (g.S.Source.left c.loop-feed.source) (g.S.Source.left c.read_piece.new.source) c.in_ok-read_piece.ensures.counted c.loop-feed.invariant.taken c.in_ok-read_piece.ensures.fed);
   ended = search rules;
   short = search rules;
   too_long = search rules;
@@ -131,7 +132,7 @@ pub returns-clause-read : goal.returns-clause-read
 returns-clause-read g c =
     let no : c.in_ok-read_piece.field-0 ≡ false = search rules in
     record {
-      took = takes_handed c.read_piece.new.read c.args.setting.now.limits.script (g.S.Source.left c.args.source.now) (g.S.Source.left c.read_piece.new.source) c.in_ok-read_piece.ensures.within (hands_piece c.loop-feed.read c.read_piece.new.read c.loop-feed.feed c.read_piece.new.feed (g.S.Source.left c.args.source.now) (g.S.Source.left c.loop-feed.source) (g.S.Source.left c.read_piece.new.source) c.in_ok-read_piece.ensures.counted c.loop-feed.invariant.taken c.in_ok-read_piece.ensures.fed);
+      took = λ short. takes_handed c.read_piece.new.read c.args.setting.now.limits.script (g.S.Source.left c.args.source.now) (g.S.Source.left c.read_piece.new.source) c.in_ok-read_piece.ensures.within (hands_piece c.loop-feed.read c.read_piece.new.read c.loop-feed.feed c.read_piece.new.feed (g.S.Source.left c.args.source.now) (g.S.Source.left c.loop-feed.source) (g.S.Source.left c.read_piece.new.source) c.in_ok-read_piece.ensures.counted c.loop-feed.invariant.taken c.in_ok-read_piece.ensures.fed);
       ended = (c.in_ok-read_piece.ensures.none no).0;
       short = at_script (g.S.Source.left c.args.source.now) (λ script. length script ≤ c.args.setting.now.limits.script) (λ script is.
           let short = hands_all c.read_piece.new.read (g.S.Source.left c.args.source.now) (g.S.Source.left c.read_piece.new.source) script is (hands_piece c.loop-feed.read c.read_piece.new.read c.loop-feed.feed c.read_piece.new.feed (g.S.Source.left c.args.source.now) (g.S.Source.left c.loop-feed.source) (g.S.Source.left c.read_piece.new.source) c.in_ok-read_piece.ensures.counted c.loop-feed.invariant.taken c.in_ok-read_piece.ensures.fed) (c.in_ok-read_piece.ensures.none no).0 in

@@ -6,6 +6,7 @@ use Rattle.script_answers.specs.States.{greatest_limits}
 use Rattle.script_answers.specs.Stopped.{out_of_memory}
 use Rattle.outside.specs.Causes.{Rose}
 use Rattle.query_run.specs.declared.status.Status.TheVariants.{NoMemory}
+use Rattle.query_run.specs.Statuses.{most_taken}
 use Rattle.query_run.specs.Words.{first_of}
 use Rattle.script_answers.specs.Answers.{output, names_of, names_kept_of}
 use Rattle.query_run.proofs.Told.{nothing_of, nothing_of_made, none_stopped, kept_at, made_at, made_finishes}
@@ -40,4 +41,4 @@ pub returns-in-Err-clause-took : goal.returns-in-Err-clause-took
 returns-in-Err-clause-took g c = takes_none most_script (g.S.Source.left c.args.source.now)
 
 pub returns-in-Some-clause-took : goal.returns-in-Some-clause-took
-returns-in-Some-clause-took g c = takes_none most_script (g.S.Source.left c.args.source.now)
+returns-in-Some-clause-took g c = takes_none (most_taken most_script c.run_made.result) (g.S.Source.left c.args.source.now)

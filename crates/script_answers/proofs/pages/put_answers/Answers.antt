@@ -1,37 +1,46 @@
-use Rattle.std.proofs.Common.{◌≡◌, ◌+◌, ◌-◌, ◌<◌, ◌∷◌, ℕ, length, take, get_or, sym, ◌∙◌, arith, rules}
+use Rattle.std.proofs.Common.{◌≡◌, ◌+◌, ◌-◌, ◌++◌, [], ◌∷◌, ℕ, List, take, refl, sym, ap, ◌∙◌, subst, arith, rules, append-nil}
 use Rattle.std.specs.Vec.Iter.{into_iter_items}
-use Rattle.query_lanes.specs.Answers.{answer_in}
-use Rattle.live_version.specs.Contents.{version_text}
+use Rattle.gcl_model.proofs.Cases.{on_err}
+use Rattle.query_lanes.specs.declared.asks.Found.{Found}
 use Rattle.script_lang.specs.Lines.{text_of_lines}
-use Rattle.script_answers.specs.inner.Asks.{ask_lines, asks_text}
-use Rattle.script_answers.proofs.AskLemmas.{later_part, next_text, some_left}
-use Rattle.script_answers.proofs.PutLemmas.{part_as, part_of_put, puts_part}
+use Rattle.script_answers.specs.Stopped.{GetsPart}
+use Rattle.script_answers.specs.inner.Asks.{found_lines}
+use Rattle.script_answers.specs.inner.Puts.{Puts, founds_text}
+use Rattle.script_answers.proofs.PageLemmas.{founds_on, one_after, refused_on}
+use Rattle.script_answers.proofs.PutLemmas.{held_more, more_first, part_first}
 use Rattle.script_answers.proofs.pages.put_answers.Goals as goal
+
+pub loop-found-init : goal.loop-found-init
+loop-found-init g c = record {
+  puts = record { so_far = []; whole = search rules; count_is = omega arith; puts = held_more (g.K.Sink.written c.args.sink.now) c.args.out.now.items c.args.out.now.items [] (sym (append-nil c.args.out.now.items)) };
+  before = search rules;
+  count = search rules;
+  refusal = search rules;
+  later = search rules;
+  same = search rules;
+}
 
 pub returns-in_err-refused-clause-part : goal.returns-in_err-refused-clause-part
 returns-in_err-refused-clause-part g c =
-    let text = version_text c.args.engine.now.version in
-    let asks = c.args.asks.now in
-    let i : ℕ = c.loop-found.i in
-    let old = g.K.Sink.written c.args.sink.now in
-    let mid = g.K.Sink.written c.loop-found.sink in
-    let new = g.K.Sink.written c.put_answer.new.sink in
-    let completed : c.loop-found.completed ≡ c.args.completed.now + i = c.loop-found.invariant.completed in
-    let count : c.loop-found.completed - c.args.completed.now + 1 ≡ i + 1 = omega (arith, completed) in
+    let puts = c.loop-found.invariant.puts in
     let split : into_iter_items c.loop-found.found-iterator ≡ c.in-Some.found ∷ into_iter_items c.next.new.self = search rules in
-    let lt : i < length asks = some_left (answer_in text) asks i c.in-Some.found (into_iter_items c.next.new.self) (sym split ∙ c.loop-found.invariant.rest) in
-    let is : c.index-asks-i.result ≡ get_or asks i c.index-asks-i.result = search rules in
-    part_as old new c.args.out.now.items _ _ (next_text text asks i (c.loop-found.completed - c.args.completed.now + 1) c.index-asks-i.result lt is count)
-    (puts_part old mid new c.args.out.now.items c.loop-found.out.items (asks_text text (take i asks)) (text_of_lines (ask_lines text c.index-asks-i.result)) c.loop-found.invariant.puts c.in_err-refused.ensures.part)
+    let one : text_of_lines (found_lines c.in-Some.found) ≡ founds_text (c.in-Some.found ∷ []) = ap text_of_lines (sym (append-nil (found_lines c.in-Some.found))) in
+    let first : take (c.loop-found.completed - c.args.completed.now + 1) c.args.answers.items ≡ puts.so_far ++ c.in-Some.found ∷ [] =
+    one_after c.args.answers.items puts.so_far (into_iter_items c.next.new.self) c.in-Some.found (c.loop-found.completed - c.args.completed.now) (puts.whole ∙ ap (λ l. puts.so_far ++ l) split) puts.count_is in
+    on_err _ c.from_residual.result (subst (λ (l : List Found). GetsPart (g.K.Sink.written c.args.sink.now) (g.K.Sink.written c.put_found.new.sink) (c.args.out.now.items ++ founds_text l)) (sym first)
+    (part_first founds_text founds_on _ _ _ c.args.out.now.items c.loop-found.out.items c.args.answers.items _ (c.in-Some.found ∷ []) _ puts
+    (subst (λ (l : List ℕ). GetsPart (g.K.Sink.written c.loop-found.sink) (g.K.Sink.written c.put_found.new.sink) (c.loop-found.out.items ++ l)) one c.in_err-refused.ensures.part)))
 
-pub returns-clause-part : goal.returns-clause-part
-returns-clause-part g c =
-    let text = version_text c.args.engine.now.version in
-    let asks = c.args.asks.now in
-    let i : ℕ = c.loop-found.i in
-    let old = g.K.Sink.written c.args.sink.now in
-    let new = g.K.Sink.written c.loop-found.sink in
-    let completed : c.loop-found.completed ≡ c.args.completed.now + i = c.loop-found.invariant.completed in
-    let count : c.loop-found.completed - c.args.completed.now + 1 ≡ i + 1 = omega (arith, completed) in
-    later_part text old new c.args.out.now.items asks i (c.loop-found.completed - c.args.completed.now + 1) count
-    (part_of_put old new c.args.out.now.items c.loop-found.out.items (asks_text text (take i asks)) c.loop-found.invariant.puts)
+pub loop-found-preserved : goal.loop-found-preserved
+loop-found-preserved g c =
+    let split : into_iter_items c.loop-found.found-iterator ≡ c.in-Some.found ∷ into_iter_items c.next.new.self = search rules in
+    let one : text_of_lines (found_lines c.in-Some.found) ≡ founds_text (c.in-Some.found ∷ []) = ap text_of_lines (sym (append-nil (found_lines c.in-Some.found))) in
+    record {
+      puts = more_first founds_text founds_on _ _ _ c.args.out.now.items c.loop-found.out.items c.put_found.new.out.items c.args.answers.items _ (c.in-Some.found ∷ []) _ _ (c.loop-found.completed + 1 - c.args.completed.now) split
+          (omega (arith, c.loop-found.invariant.before)) c.loop-found.invariant.puts (subst (λ (l : List ℕ). Puts (g.K.Sink.written c.loop-found.sink) (g.K.Sink.written c.put_found.new.sink) c.loop-found.out.items c.put_found.new.out.items l) one c.in_ok-refused.ensures.puts);
+      before = search rules;
+      count = search rules;
+      refusal = refused_on c.loop-found.refused c.in_ok-refused.field-0 _ _ _ c.in-Some.found split c.in_ok-refused.ensures.refusal c.loop-found.invariant.refusal;
+      later = search rules;
+      same = search rules;
+    }

@@ -23,10 +23,7 @@ pub returns-in_err-answer-clause-halts : goal.returns-in_err-answer-clause-halts
 returns-in_err-answer-clause-halts g c = on_err _ c.from_residual-in_err-answer.result (λ line is.
     rw (ending_is c.from_residual-in_err-answer.result (of_files c.in_err-answer.field-0.0) c.from_residual-in_err-answer.ensures.1)
     (halts_unmade c.args.setting.now.limits c.args.action.now line _ _ _ _ (g.K.Sink.written c.args.sink.now) is refl
-    (λ state at read. c.in_err-answer.ensures.unmade state (record {
-      files = at.files;
-      keeps = subst (λ (w : Bool). Keeps c.merge_pending.new.engine w state) c.in_ok-merge_pending.ensures.made (c.in_ok-merge_pending.ensures.keeps state at.keeps);
-    }))
+    (λ state at read. c.in_err-answer.ensures.unmade state (record { files = at.files; keeps = c.in_ok-merge_pending.ensures.keeps state at.keeps }))
     (named_fault c.in_err-answer.field-0.0 c.in_err-answer.ensures.named)))
 
 pub returns-in_err-put_answer-clause-halts : goal.returns-in_err-put_answer-clause-halts
@@ -34,10 +31,7 @@ returns-in_err-put_answer-clause-halts g c = on_err _ c.from_residual-in_err-put
     rw (ending_is c.from_residual-in_err-put_answer.result NoMemory c.from_residual-in_err-put_answer.ensures.1)
     (halts_unsaid c.args.setting.now.limits c.args.action.now line c.in_ok-answer.answer _ _ _ _ (g.K.Sink.written c.args.sink.now) is (search rules)
     (λ state at read. subst (λ (w : Bool). Gives (action_reply c.args.setting.now.limits state c.args.action.now) state c.act.new.engine w (g.F.Files.held c.act.new.files) c.in_ok-answer.answer) (sym c.is_merge-progress.ensures)
-    (c.in_ok-answer.ensures.gives state (record {
-      files = at.files;
-      keeps = subst (λ (w : Bool). Keeps c.merge_pending.new.engine w state) c.in_ok-merge_pending.ensures.made (c.in_ok-merge_pending.ensures.keeps state at.keeps);
-    }) read))
+    (c.in_ok-answer.ensures.gives state (record { files = at.files; keeps = c.in_ok-merge_pending.ensures.keeps state at.keeps }) read))
     (λ due. due) (λ failed. failed)))
 
 pub returns-in_err-write_all-clause-halts : goal.returns-in_err-write_all-clause-halts
@@ -47,8 +41,5 @@ returns-in_err-write_all-clause-halts g c = on_err _ c.from_residual-in_err-writ
     rw (ending_is c.from_residual-in_err-write_all.result (of_write fault) c.from_residual-in_err-write_all.ensures.1)
     (halts_made c.args.setting.now.limits c.args.action.now line c.in_ok-answer.answer (fault_ending (of_write fault)) _ _ _ _ _ is (search rules)
     (λ state at read. subst (λ (w : Bool). Gives (action_reply c.args.setting.now.limits state c.args.action.now) state c.act.new.engine w (g.F.Files.held c.act.new.files) c.in_ok-answer.answer) (sym c.is_merge-progress.ensures)
-    (c.in_ok-answer.ensures.gives state (record {
-      files = at.files;
-      keeps = subst (λ (w : Bool). Keeps c.merge_pending.new.engine w state) c.in_ok-merge_pending.ensures.made (c.in_ok-merge_pending.ensures.keeps state at.keeps);
-    }) read))
+    (c.in_ok-answer.ensures.gives state (record { files = at.files; keeps = c.in_ok-merge_pending.ensures.keeps state at.keeps }) read))
     (lost_write fault) (no_files fault) (subst (GetsPart (g.K.Sink.written c.args.sink.now) (g.K.Sink.written c.write_all.new.sink)) text c.in_err-write_all.ensures.part)))
