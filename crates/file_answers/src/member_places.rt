@@ -6,8 +6,19 @@ use passages::Passage;
 use std::marker::Model;
 use token_places::PlaceWalk;
 
+/// Has a walk go on from where another one is, where that is nearer to an address.
+fn catch_up<'a>(walk: &mut PlaceWalk<'a>, other: &PlaceWalk<'a>, address: u64)
+    requires alike { walk.old ≡ other.now }
+    ensures same { walk.new ≡ walk.old }
+{
+    if walk.reached() < other.reached() && other.reached() <= address {
+        *walk = other.copy();
+    }
+}
+
 /// The bytes that the members of a list cover. Members start and end later from each to the next, so a walk over the
-/// starts and one over the ends go through the text once each.
+/// starts and one over the ends only go forward. Each goes on from where the other is, where that is nearer: the text is
+/// gone through once, and once more where members overlap.
 #[derive(Drop)]
 pub struct MemberPlaces<'a> {
     starts: PlaceWalk<'a>,
@@ -40,8 +51,11 @@ impl<'a> MemberPlaces<'a> {
         ensures passage { result ≡ passage_of self.old member }
         ensures same { self.new ≡ self.old }
     {
+        catch_up(&mut self.starts, &self.ends, member.start);
+        let from = self.starts.place_at(member.start).from;
+        catch_up(&mut self.ends, &self.starts, member.end);
         Passage {
-            from: self.starts.place_at(member.start).from,
+            from,
             to: self.ends.place_at(member.end).to,
         }
     }

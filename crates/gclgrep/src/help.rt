@@ -16,8 +16,8 @@ Searches files for a structured query, and writes the lines that its answers mee
   -d NAME=QUERY, --define NAME=QUERY
                                 $NAME stands for (QUERY) in what follows
   -D FILE, --definitions FILE   read such definitions from a file, one on a line
-  -t N, --threads N             1 to 16
-  -s, --no-messages             say nothing of files that cannot be read
+  -t N, --threads N             search up to N files side by side, 1 to 16; without it 4
+  -s, --no-messages             say nothing of files that cannot be read, and make no notes
       --help, --version
 
 Without FILE, or with -, standard input is searched.

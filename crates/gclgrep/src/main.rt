@@ -1,15 +1,15 @@
 //! Searches files for a structured query, and writes the lines or the passages of the answers.
 //!
 //! The words name the query and the files; the text goes to standard output, and one line on standard error says each
-//! thing that was wrong. What is written of which file is the contract of `grep_run::search`.
+//! thing that was wrong. What is written of which file is the contract of `grep_run::run`.
 #![tactic(auto)]
 
 ghost use Rattle.std.specs.Prelude.{◌≡◌, drop};
 
-mod asking;
 mod help;
 mod input;
-mod lines;
+mod notes;
+mod reader_gone;
 mod session;
 mod tell;
 
@@ -29,17 +29,23 @@ fn after_name(args: &[String]) -> &[String]
     }
 }
 
+/// Says why the words were not read, and gives the status.
+fn refuse<R: Eprint>(rt: &R, line: &str) -> ExitCode {
+    say(rt, line);
+    ExitCode::from(2)
+}
+
 fn main(rt: HostRuntime) -> ExitCode {
     let args = match env::args(&rt) {
         Ok(args) => args,
-        Err(_) => return say(
+        Err(_) => return refuse(
             &rt,
             "gclgrep: a word is not UTF-8, or there is no memory for it",
         ),
     };
     let words: Vec<String> = match args.collect(rt.alloc()) {
         Ok(words) => words,
-        Err(_) => return say(&rt, "gclgrep: out of memory"),
+        Err(_) => return refuse(&rt, "gclgrep: out of memory"),
     };
     let mut files = input::WithInput::new(StdFiles::new(&rt), StdSource::new(&rt, rt.stdin()));
     let mut sink = StdSink::new(&rt, rt.stdout());

@@ -1,6 +1,8 @@
+use crate::input::WithInput;
+use crate::reader_gone::ReaderGone;
 use crate::session::answer;
 use gcl_model::Bytes;
-use outside::{MemFiles, MemSink};
+use outside::{MemFiles, MemSink, MemSource};
 use std::alloc::{AllocError, Global};
 use std::process::ExitCode;
 use std::test::Fail;
@@ -125,7 +127,13 @@ const ROWS: [Row<'static>; 22] = [
     },
 ];
 
-fn files(alloc: Global) -> Result<MemFiles, AllocError> {
+impl ReaderGone for MemSink {
+    fn reader_gone(&self) -> bool {
+        false
+    }
+}
+
+fn files(alloc: Global, fails: Vec<u64>) -> Result<MemFiles, AllocError> {
     let held: [(&[u8], &[u8]); 3] = [
         (b"a", b"to be or not to be"),
         (b"e", b""),
@@ -136,23 +144,128 @@ fn files(alloc: Global) -> Result<MemFiles, AllocError> {
         let name = Bytes::copy_of(alloc, name)?;
         entries.push((name, Bytes::copy_of(alloc, content)?))?;
     }
-    Ok(MemFiles::new(alloc, entries, Vec::new(alloc)))
+    Ok(MemFiles::new(alloc, entries, fails))
+}
+
+fn words_of(alloc: Global, texts: &[&str]) -> Result<Vec<String>, AllocError> {
+    let mut words = Vec::new(alloc);
+    for text in texts {
+        words.push(String::from_str(alloc, text)?)?;
+    }
+    Ok(words)
 }
 
 #[test]
 fn each_row_is_written_as_it_must(rt: HostRuntime) -> Result<(), Fail> {
     let alloc = rt.alloc();
     for row in &ROWS {
-        let mut words = Vec::new(alloc);
-        for word in row.words {
-            words.push(String::from_str(alloc, word)?)?;
-        }
-        let mut files = files(alloc)?;
+        let words = words_of(alloc, row.words)?;
+        let mut files = files(alloc, Vec::new(alloc))?;
         let mut sink = MemSink::new(alloc, Vec::new(alloc));
         let status = answer(&rt, alloc, words.as_slice(), &mut files, &mut sink);
         let written = str::from_utf8(sink.written()).unwrap_or("no text");
         assert_eq!(rt; written, row.output);
         assert!(rt; status == ExitCode::from(row.status), "{written}");
+    }
+    Ok(())
+}
+
+/// Which call of the sink, of the files and of standard input fails, none where it is 0, and what is written of how often `a`, standard
+/// input and `e` have the word `to`.
+struct Failing {
+    calls: [u64; 3],
+    output: &'static str,
+    status: u8,
+}
+
+const ALL: &str = "a:2\n(standard input):1\ne:0\n";
+
+const FAILING: [Failing; 10] = [
+    Failing {
+        calls: [0, 0, 0],
+        output: ALL,
+        status: 0,
+    },
+    Failing {
+        calls: [1, 0, 0],
+        output: "",
+        status: 2,
+    },
+    Failing {
+        calls: [2, 0, 0],
+        output: "a:2\n",
+        status: 2,
+    },
+    Failing {
+        calls: [3, 0, 0],
+        output: "a:2\n(standard input):1\n",
+        status: 2,
+    },
+    Failing {
+        calls: [4, 3, 3],
+        output: ALL,
+        status: 0,
+    },
+    Failing {
+        calls: [0, 1, 0],
+        output: "(standard input):1\ne:0\n",
+        status: 2,
+    },
+    Failing {
+        calls: [0, 2, 0],
+        output: "a:2\n(standard input):1\n",
+        status: 2,
+    },
+    Failing {
+        calls: [0, 0, 1],
+        output: "a:2\ne:0\n",
+        status: 2,
+    },
+    Failing {
+        calls: [0, 0, 2],
+        output: "a:2\ne:0\n",
+        status: 2,
+    },
+    Failing {
+        calls: [2, 1, 0],
+        output: "(standard input):1\n",
+        status: 2,
+    },
+];
+
+/// This call alone.
+fn call(alloc: Global, number: u64) -> Result<Vec<u64>, AllocError> {
+    let mut calls = Vec::new(alloc);
+    calls.push(number)?;
+    Ok(calls)
+}
+
+/// The files, and standard input that holds `to be`.
+fn with_input(
+    alloc: Global,
+    file: u64,
+    source: u64,
+) -> Result<WithInput<MemFiles, MemSource>, AllocError> {
+    let files = files(alloc, call(alloc, file)?)?;
+    let bytes = Bytes::copy_of(alloc, b"to be")?;
+    let source = MemSource::new(alloc, bytes, call(alloc, source)?);
+    Ok(WithInput::new(files, source))
+}
+
+#[test]
+fn each_call_of_sink_files_and_source_fails_in_turn(rt: HostRuntime) -> Result<(), Fail> {
+    let alloc = rt.alloc();
+    for threads in ["-t1", "-t4"] {
+        let words = words_of(alloc, &[threads, "-c", "\"to\"", "a", "-", "e"])?;
+        for row in &FAILING {
+            let [write, load, read] = row.calls;
+            let mut files = with_input(alloc, load, read)?;
+            let mut sink = MemSink::new(alloc, call(alloc, write)?);
+            let status = answer(&rt, alloc, words.as_slice(), &mut files, &mut sink);
+            let written = str::from_utf8(sink.written()).unwrap_or("no text");
+            assert_eq!(rt; written, row.output, "{threads}");
+            assert!(rt; status == ExitCode::from(row.status), "{written}");
+        }
     }
     Ok(())
 }

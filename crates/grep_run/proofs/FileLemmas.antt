@@ -5,32 +5,40 @@ use Rattle.gcl_model.specs.Extents.{Extent}
 use Rattle.gcl_model.specs.Forms.{Form}
 use Rattle.gcl_model.specs.Meaning.{concordance}
 use Rattle.gcl_model.specs.Texts.{Text}
+use Rattle.gcl_model.specs.Wide.{wide}
 use Rattle.text_search.specs.FileTexts.{file_text}
 use Rattle.passages.specs.declared.shown.Shown.{Shown}
 use Rattle.file_answers.specs.Outputs.{output_of}
 use Rattle.grep_run.specs.Requests.{Request, file_output, shown_name, shown_of}
 use Rattle.text_search.specs.Names.{query_text}
+use Rattle.wide_terms.specs.Expansion.{expansion}
 use Rattle.text_search.proofs.NameLemmas.{names_decide_the_list, names_decide_the_cost}
 
+-- what an expression became over a file, and the file's words that it names
+pub record IsOver (bytes : List ℕ) (form over : Form) (text : Text) : Type 0 where
+  pub text_is : text ≡ query_text bytes over
+  pub form_is : over ≡ expansion (file_text bytes) form
+  pub wide_is : concordance (file_text bytes) over ≡ wide (file_text bytes) form
+
 -- the list is that over the whole file
-pub list-is : (bytes : List ℕ) (form : Form) (text : Text) → text ≡ query_text bytes form → concordance text form ≡ concordance (file_text bytes) form
-list-is bytes form text is = ap (λ t. concordance t form) is ∙ names_decide_the_list (file_text bytes) form
+pub list-is : (bytes : List ℕ) (form over : Form) (text : Text) → IsOver bytes form over text → concordance text over ≡ wide (file_text bytes) form
+list-is bytes form over text is = ap (λ t. concordance t over) is.text_is ∙ names_decide_the_list (file_text bytes) over ∙ is.wide_is
 
 -- and so is the bound on look-ups
-pub looked-is : (bytes : List ℕ) (form : Form) (text : Text) → text ≡ query_text bytes form →
-    (length (concordance text form) + 1) * cost text 1 form ≡ (length (concordance (file_text bytes) form) + 1) * cost (file_text bytes) 1 form
-looked-is bytes form text is =
-    ap (λ (list : List Extent). (length list + 1) * cost text 1 form) (list-is bytes form text is)
-    ∙ ap (λ (n : ℕ). (length (concordance (file_text bytes) form) + 1) * n) (ap (λ t. cost t 1 form) is ∙ names_decide_the_cost (file_text bytes) 1 form)
+pub looked-is : (bytes : List ℕ) (form over : Form) (text : Text) → IsOver bytes form over text →
+    (length (concordance text over) + 1) * cost text 1 over ≡ (length (wide (file_text bytes) form) + 1) * cost (file_text bytes) 1 (expansion (file_text bytes) form)
+looked-is bytes form over text is =
+    ap (λ (list : List Extent). (length list + 1) * cost text 1 over) (list-is bytes form over text is)
+    ∙ ap (λ (n : ℕ). (length (wide (file_text bytes) form) + 1) * n) (ap (λ t. cost t 1 over) is.text_is ∙ names_decide_the_cost (file_text bytes) 1 over ∙ ap (cost (file_text bytes) 1) is.form_is)
 
 pub on_err : {T E : Type 0} (r : Result T E) (P : Type 0) → P → OnErr r P
 on_err (Ok t) P p = tt
 on_err (Err e) P p = p
 
 -- what is written is what is asked of the whole file
-pub output-is : (r : Request) (name bytes : List ℕ) (text : Text) (shown : Shown) (label : List ℕ) → text ≡ query_text bytes r.form → shown ≡ shown_of r name → label ≡ shown_name name →
-    output_of r.mode shown label bytes (take r.most (concordance text r.form)) ≡ file_output r name bytes
-output-is r name bytes text shown label is shown_is label_is =
-    ap (λ s. output_of r.mode s label bytes (take r.most (concordance text r.form))) shown_is
-    ∙ ap (λ (n : List ℕ). output_of r.mode (shown_of r name) n bytes (take r.most (concordance text r.form))) label_is
-    ∙ ap (λ l. output_of r.mode (shown_of r name) (shown_name name) bytes (take r.most l)) (list-is bytes r.form text is)
+pub output-is : (r : Request) (name bytes : List ℕ) (over : Form) (text : Text) (shown : Shown) (label : List ℕ) → IsOver bytes r.form over text → shown ≡ shown_of r name → label ≡ shown_name name →
+    output_of r.mode shown label bytes (take r.most (concordance text over)) ≡ file_output r name bytes
+output-is r name bytes over text shown label is shown_is label_is =
+    ap (λ s. output_of r.mode s label bytes (take r.most (concordance text over))) shown_is
+    ∙ ap (λ (n : List ℕ). output_of r.mode (shown_of r name) n bytes (take r.most (concordance text over))) label_is
+    ∙ ap (λ l. output_of r.mode (shown_of r name) (shown_name name) bytes (take r.most l)) (list-is bytes r.form over text is)

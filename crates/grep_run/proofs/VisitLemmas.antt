@@ -34,7 +34,7 @@ pub record SoFar (told : Option Contents) (r : Request) (names : List (List ℕ)
 abbrev pub visit_of : List ℕ → Fate → Visit
 visit_of name fate = record { name = name; fate = fate }
 
-count_by-snoc : (p : Visit → Bool) (vs : List Visit) (v : Visit) → count_by p (vs ++ v ∷ []) ≡ count_by p vs + cond (p v) 1 0
+pub count_by-snoc : (p : Visit → Bool) (vs : List Visit) (v : Visit) → count_by p (vs ++ v ∷ []) ≡ count_by p vs + cond (p v) 1 0
 count_by-snoc p vs v =
     let last : sum_by (λ w. cond (p w) 1 0) (v ∷ []) ≡ cond (p v) 1 0 = zero-add (cond (p v) 1 0) in
     sum_by-append (λ w. cond (p w) 1 0) vs (v ∷ []) ∙ ap (λ (n : ℕ). count_by p vs + n) last
@@ -45,7 +45,7 @@ or_false false true = refl
 or_false false false = refl
 
 -- one file more was visited
-are_more : (told : Option Contents) (names : List (List ℕ)) (visits : List Visit) (i : ℕ) (name : List ℕ) (fate : Fate) → AreVisits told names visits → length visits ≡ i → i < length names →
+pub are_more : (told : Option Contents) (names : List (List ℕ)) (visits : List Visit) (i : ℕ) (name : List ℕ) (fate : Fate) → AreVisits told names visits → length visits ≡ i → i < length names →
     get_or names i name ≡ name → IsFate told name fate → AreVisits told names (visits ++ visit_of name fate ∷ [])
 are_more told names visits i name fate are count inside here is =
     let v : Visit = visit_of name fate in
@@ -58,11 +58,11 @@ are_more told names visits i name fate are count inside here is =
     }
 
 -- what a failure does to the count of faults
-fails_more : (b : Bool) (n faults f f' : ℕ) → min (faults + n) (2 ^ 64 - 1) ≤ f → MatchBool b (min (f + 1) (2 ^ 64 - 1) ≤ f') (f' ≡ f) → min (faults + (n + cond b 1 0)) (2 ^ 64 - 1) ≤ f'
+pub fails_more : (b : Bool) (n faults f f' : ℕ) → min (faults + n) (2 ^ 64 - 1) ≤ f → MatchBool b (min (f + 1) (2 ^ 64 - 1) ≤ f') (f' ≡ f) → min (faults + (n + cond b 1 0)) (2 ^ 64 - 1) ≤ f'
 fails_more true n faults f f' before now = omega arith
 fails_more false n faults f f' before now = omega arith
 
-calm_more : (b : Bool) (n faults f f' : ℕ) → (n ≡ 0 → f ≡ faults) → MatchBool b (min (f + 1) (2 ^ 64 - 1) ≤ f') (f' ≡ f) → n + cond b 1 0 ≡ 0 → f' ≡ faults
+pub calm_more : (b : Bool) (n faults f f' : ℕ) → (n ≡ 0 → f ≡ faults) → MatchBool b (min (f + 1) (2 ^ 64 - 1) ≤ f') (f' ≡ f) → n + cond b 1 0 ≡ 0 → f' ≡ faults
 calm_more true n faults f f' before now none = absurd (omega arith)
 calm_more false n faults f f' before now none = now ∙ before (omega arith)
 

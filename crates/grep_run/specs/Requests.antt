@@ -3,7 +3,7 @@ use Rattle.std.specs.Prelude.{ℕ, Bool, List, codes, bytes_eq, length, nat_lt, 
 use Rattle.gcl_model.specs.Extents.{Extent}
 use Rattle.gcl_model.specs.Forms.{Form}
 use Rattle.gcl_model.specs.FormOf.{form_of}
-use Rattle.gcl_model.specs.Meaning.{concordance}
+use Rattle.gcl_model.specs.Wide.{wide}
 use Rattle.text_search.specs.FileTexts.{file_text}
 use Rattle.passages.specs.declared.shown.Shown.{Shown}
 use Rattle.file_answers.specs.Outputs.{output_of}
@@ -30,9 +30,9 @@ shown_name name = if bytes_eq name (codes "-") then codes "(standard input)" els
 abbrev pub shown_of : Request → List ℕ → Shown
 shown_of r name = record { name = if r.named then Some (shown_name name) else None; numbered = r.numbered }
 
--- the answers of a file, which is searched by itself
+-- the answers of a file, which is searched by itself; a prefix term stands for each of its words that begin so
 abbrev pub answers_of : Request → List ℕ → List Extent
-answers_of r bytes = take r.most (concordance (file_text bytes) r.form)
+answers_of r bytes = take r.most (wide (file_text bytes) r.form)
 
 -- whether it has one
 abbrev pub has_answer : Request → List ℕ → Bool

@@ -5,8 +5,9 @@ use Rattle.std.specs.Io.KnownBytes.{Appends}
 use Rattle.outside.specs.Contents.{BeginsContent, Contents}
 use Rattle.gcl_model.specs.Cost.{cost}
 use Rattle.gcl_model.specs.Limits.{most_file}
-use Rattle.gcl_model.specs.Meaning.{concordance}
+use Rattle.gcl_model.specs.Wide.{wide}
 use Rattle.text_search.specs.FileTexts.{file_text}
+use Rattle.wide_terms.specs.Expansion.{expansion}
 use Rattle.file_answers.specs.Written.{GetsPart}
 use Rattle.file_answers.specs.declared.mode.Mode.TheVariants.{Quiet}
 use Rattle.grep_run.specs.Requests.{Request, file_output, has_answer}
@@ -63,9 +64,9 @@ is_failed (searched bytes) = false
 is_failed too_long = false
 is_failed failed = true
 
--- how many look-ups the search of a file takes at most: those of listing its answers
+-- how many look-ups the search of a file takes at most: those of listing its answers, with each prefix term one of the words that begin so
 abbrev pub look_ups : Request → Fate → ℕ
-look_ups r (searched bytes) = (length (concordance (file_text bytes) r.form) + 1) * cost (file_text bytes) 1 r.form
+look_ups r (searched bytes) = (length (wide (file_text bytes) r.form) + 1) * cost (file_text bytes) 1 (expansion (file_text bytes) r.form)
 look_ups r too_long = 0
 look_ups r failed = 0
 

@@ -12,6 +12,8 @@ pub struct Asked<'a> {
     pub numbered: bool,
     /// How many answers of a file count at most.
     pub most: u64,
+    /// How many files are searched side by side at most.
+    pub threads: usize,
     /// The files' names, in the order in which they are searched.
     pub names: &'a [Bytes],
 }

@@ -16,7 +16,7 @@ use outside::{Files, Sink};
 use std::alloc::Global;
 
 /// With one outcome more.
-fn after(summary: Summary, outcome: Outcome) -> Summary
+pub(crate) fn after(summary: Summary, outcome: Outcome) -> Summary
     ensures found { result.found ≡ (summary.found || is_found outcome) }
     ensures left_out { result.left_out ≡ (summary.left_out || is_left_out outcome) }
 {

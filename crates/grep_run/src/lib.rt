@@ -5,21 +5,34 @@
 #![tactic(auto)]
 
 mod asked;
+mod batch;
+mod context;
+mod defining;
+mod definitions_file;
 mod fault;
 mod files;
 mod one_file;
 mod outcome;
 mod remarks;
+mod room_sink;
+mod running;
 mod searching;
 mod status;
+mod tally;
 mod wish;
+mod work;
 
 pub use asked::{Asked, Query};
+pub use context::Context;
+pub use defining::{DefineRefusal, DefineStop, definition_parts};
+pub use definitions_file::FileStop;
 pub use fault::SearchFault;
 pub use files::search_files;
 pub use one_file::MOST_FILE;
 pub use outcome::{Outcome, Summary};
 pub use remarks::{NoRemarks, Remarks};
+pub use running::{Ended, end_number, run};
 pub use searching::search;
 pub use status::{Status, number};
+pub use tally::{ElementTally, Tally, TermTally};
 pub use wish::Wish;

@@ -1,25 +1,22 @@
-ghost use Rattle.std.specs.Prelude.{◌≡◌, ◌+◌, ◌*◌, ◌≤◌, length, IfOk, OnOk, OnErr, IsErrOf};
+ghost use Rattle.std.specs.Prelude.{◌≡◌, ◌+◌, ◌≤◌, length, IfOk, OnOk, OnErr, IsErrOf};
 ghost use Rattle.std.specs.Io.KnownBytes.{Appends};
 ghost use Rattle.outside.specs.Causes.{Rose};
-ghost use Rattle.gcl_model.specs.Cost.{cost};
 ghost use Rattle.gcl_model.specs.FormOf.{form_of};
 ghost use Rattle.gcl_model.specs.Limits.{most_file};
-ghost use Rattle.gcl_model.specs.Meaning.{concordance};
 ghost use Rattle.gcl_model.specs.WellFormed.{IsWellFormed};
-ghost use Rattle.text_search.specs.FileTexts.{file_text};
 ghost use Rattle.file_answers.specs.Written.{GetsPart};
 ghost use Rattle.grep_run.specs.Requests.{file_output, has_answer, request_of, shown_name, shown_of};
-ghost use Rattle.grep_run.specs.Visits.{IsBegun, IsVisited};
+ghost use Rattle.grep_run.specs.Visits.{IsBegun, IsVisited, look_ups, searched};
 
 use crate::fault::SearchFault;
 use crate::outcome::Outcome;
 use crate::wish::Wish;
-use file_answers::{Label, write_file};
+use file_answers::{Asking, Label, write_file};
 use gcl_model::{Bytes, Ledger, Steps};
 use outside::{FileError, Files, Loaded, Sink};
 use passages::Shown;
 use std::alloc::{AllocError, Global};
-use text_search::QueryText;
+use text_search::{QueryText, expanded};
 
 /// How many bytes a file has at most.
 pub const MOST_FILE: u64 = 1 << 26;
@@ -56,7 +53,7 @@ fn label(alloc: Global, wish: &Wish<'_>, name: &[u8]) -> Result<Label, AllocErro
 }
 
 /// Writes what is asked of a file with these bytes, and says whether it has an answer.
-fn search_bytes<K: Sink, S: Ledger>(
+pub(crate) fn search_bytes<K: Sink, S: Ledger>(
     alloc: Global,
     sink: &mut K,
     steps: &mut Steps<S>,
@@ -66,18 +63,25 @@ fn search_bytes<K: Sink, S: Ledger>(
 ) -> Result<bool, SearchFault>
     requires well_formed { IsWellFormed (form_of wish.now.asking.expr.now) }
     requires short { length bytes.now ≤ most_file }
-    ensures written { OnOk result (Appends (K.written sink.old) (K.written sink.new) (file_output (request_of wish.now) name.now bytes.now)) }
+    ensures written { OnOk result (Appends (K.written sink.old) (K.written sink.new) (file_output
+        (request_of wish.now) name.now bytes.now)) }
     ensures part { GetsPart (K.written sink.old) (K.written sink.new) (file_output (request_of wish.now) name.now bytes.now) }
     ensures some { IfOk result (λ some. some ≡ has_answer (request_of wish.now) bytes.now) }
-    ensures cost { steps.new ≤ steps.old + (length (concordance (file_text bytes.now) (form_of wish.now.asking.expr.now)) + 1)
-        * cost (file_text bytes.now) 1 (form_of wish.now.asking.expr.now) }
+    ensures cost { steps.new ≤ steps.old + look_ups (request_of wish.now) (searched bytes.now) }
     ensures fault { IsErrOf result SearchFault.Write → Rose (K.faults sink.old) (K.faults sink.new) }
     ensures calm { OnOk result (K.faults sink.new ≡ K.faults sink.old) }
 {
-    let text = QueryText::of(alloc, bytes, wish.asking.expr)?;
+    let expr = expanded(alloc, bytes, wish.asking.expr)?;
+    let text = QueryText::of(alloc, bytes, &expr)?;
+    let asking = Asking {
+        expr: &expr,
+        most: wish.asking.most,
+        mode: wish.asking.mode,
+    };
     let label = label(alloc, wish, name)?;
     let mut out = Vec::new(alloc);
-    let found = write_file(sink, &mut out, &text, steps, &wish.asking, &label, bytes)?;
+    let found = write_file(sink, &mut out, &text, steps, &asking, &label, bytes)?;
+    wish.tally.add(&text);
     Ok(found)
 }
 

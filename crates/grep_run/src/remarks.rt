@@ -1,8 +1,27 @@
+use crate::asked::Query;
+use crate::defining::DefineStop;
 use crate::outcome::Outcome;
+use crate::status::Status;
+use crate::tally::Tally;
+use grep_words::SearchWords;
+use query_names::Definitions;
 
-/// Is told what became of each file. It tells nothing.
+/// Is told what became of each file, and which definition or query is refused, for messages. It tells nothing.
 pub trait Remarks {
+    /// The words ask for this search.
+    fn begins(&mut self, words: &SearchWords);
+
+    /// The file of this name was gone to.
     fn visited(&mut self, name: &[u8], outcome: Outcome);
+
+    /// The definition `NAME=QUERY` was not made. These are the ones in front of it.
+    fn define_refused(&mut self, definitions: &Definitions, text: &[u8], stop: DefineStop);
+
+    /// The search ended so, and the files that were searched have this of what the query names.
+    fn counted(&mut self, tally: &Tally, status: Status);
+
+    /// The search for this query ended so.
+    fn ended(&mut self, query: &Query<'_>, status: Status);
 }
 
 /// Says nothing.
@@ -10,5 +29,13 @@ pub trait Remarks {
 pub struct NoRemarks;
 
 impl Remarks for NoRemarks {
+    fn begins(&mut self, _words: &SearchWords) {}
+
     fn visited(&mut self, _name: &[u8], _outcome: Outcome) {}
+
+    fn define_refused(&mut self, _definitions: &Definitions, _text: &[u8], _stop: DefineStop) {}
+
+    fn counted(&mut self, _tally: &Tally, _status: Status) {}
+
+    fn ended(&mut self, _query: &Query<'_>, _status: Status) {}
 }

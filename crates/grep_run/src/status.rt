@@ -26,7 +26,7 @@ pub enum Status {
 }
 
 /// Whether nothing is to be written.
-fn is_quiet(mode: Mode) -> bool
+pub(crate) fn is_quiet(mode: Mode) -> bool
     ensures { result ≡ is_quiet mode }
 {
     match mode {

@@ -21,6 +21,3 @@ pub use parts::{begin_parts, put_parts};
 pub use passage::Passage;
 pub use put::{put_count, put_name};
 pub use shown::Shown;
-
-#[cfg(test)]
-mod tests;

@@ -16,6 +16,3 @@ pub use definitions::Definitions;
 pub use fault::{DefineFault, NameFault};
 pub use names::is_name;
 pub use putting::put_in;
-
-#[cfg(test)]
-mod tests;

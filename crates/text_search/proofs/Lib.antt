@@ -4,4 +4,5 @@ pub mod NameTables
 pub mod PlaceSearch
 pub mod FileLemmas
 pub mod ListLemmas
+pub mod MatchLemmas
 mod Worked

@@ -13,7 +13,9 @@ use Rattle.gcl_model.specs.Cost.{cost, costs, fewest_places, turns_cost}
 use Rattle.gcl_model.proofs.Lists.{all_left, all_right, all_weaker}
 use Rattle.text_search.specs.FileTexts.{file_text}
 use Rattle.text_search.specs.Names.{names_of, names_in, is_named, named_text, query_text}
-use Rattle.text_search.specs.Laws.{NamesDecideTheList, NamesDecideTheCost}
+use Rattle.wide_terms.specs.Expansion.{expansion}
+use Rattle.wide_terms.proofs.Spreading.{expansion_is_wide}
+use Rattle.text_search.specs.Laws.{NamesDecideTheList, NamesDecideTheWideList, NamesDecideTheCost}
 
 -- each of the tokens is named
 abbrev pub AreNamed : List (List ℕ) → List (List ℕ) → Type 0
@@ -118,6 +120,9 @@ same_list names text form h = ap (extents_where text) (same_meaning names text f
 
 pub names_decide_the_list : NamesDecideTheList
 names_decide_the_list text form = same_list (names_of form) text form (all_named (names_of form))
+
+pub names_decide_the_wide_list : NamesDecideTheWideList
+names_decide_the_wide_list bytes form = names_decide_the_list (file_text bytes) (expansion (file_text bytes) form) ∙ expansion_is_wide (file_text bytes) form
 
 fewest_named : (names : List (List ℕ)) (words : List Word) (tokens : List (List ℕ)) → AreNamed names tokens → fewest_places (filter (λ w. is_named names w.token) words) tokens ≡ fewest_places words tokens
 fewest_named names words [] h = refl

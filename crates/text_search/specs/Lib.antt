@@ -3,3 +3,4 @@ pub mod Names
 pub mod Laws
 pub mod Tables
 pub mod Kept
+pub mod Matching

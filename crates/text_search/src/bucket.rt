@@ -81,4 +81,14 @@ impl Bucket {
         }
         &[]
     }
+
+    /// Whether a token begins with these bytes and has an address.
+    pub(crate) fn has_word_from(&self, prefix: &[u8]) -> bool {
+        for term in &self.terms {
+            if term.token().starts_with(prefix) && !term.places().is_empty() {
+                return true;
+            }
+        }
+        false
+    }
 }

@@ -1,7 +1,8 @@
-ghost use Rattle.text_search.specs.Laws.{NamesDecideTheList, NamesDecideTheCost};
+ghost use Rattle.text_search.specs.Laws.{NamesDecideTheList, NamesDecideTheWideList, NamesDecideTheCost};
 
 /// Of a text, an expression asks for the words that it names, and for no others.
 pub fn names_decide()
     ensures list { NamesDecideTheList }
+    ensures wide { NamesDecideTheWideList }
     ensures cost { NamesDecideTheCost }
 {}

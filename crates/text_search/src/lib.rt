@@ -4,18 +4,25 @@
 //! is the `Leaves` of an evaluator. Contracts see it as the file's text with these words alone (`query_text`). The layer
 //! above uses `answers`, a page of the concordance list over the whole file, and `answer_count`; the laws say that the
 //! list and its cost depend on the named words alone. Of `to be or not to be` the list of `"to".."be"` is (1, 2), (5, 6).
+//!
+//! A query with prefix terms is first `expanded` over the file: each such term becomes one of the file's words that begin with its prefix.
 #![tactic(auto)]
 
 mod bucket;
+mod expansion;
+mod file_words;
 mod laws;
 mod leaves;
 mod listing;
+mod matching;
 mod names;
 mod search;
 mod table;
 mod term_places;
 mod text;
 
+pub use expansion::expanded;
+pub use file_words::FileWords;
 pub use laws::names_decide;
 pub use listing::{answer_count, answers, answers_on, count_on};
 pub use text::QueryText;

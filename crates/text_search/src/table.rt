@@ -75,4 +75,11 @@ impl TermTable {
     {
         self.buckets[key(token.len())].places(token)
     }
+
+    /// Whether a token begins with these bytes and has an address.
+    pub(crate) fn has_word_from(&self, prefix: &[u8]) -> bool {
+        self.buckets
+            .iter()
+            .any(|bucket| bucket.has_word_from(prefix))
+    }
 }

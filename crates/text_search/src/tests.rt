@@ -1,7 +1,8 @@
+ghost use Rattle.std.specs.Prelude.{◌<◌, length};
 ghost use Rattle.gcl_model.specs.FormOf.{form_of};
 ghost use Rattle.gcl_model.specs.WellFormed.{IsWellFormed};
 
-use crate::{QueryText, answer_count, answers, names_decide};
+use crate::{QueryText, answer_count, answers, expanded, names_decide};
 use gcl_model::{Bytes, Expr, IntervalList, TokenList, file_end, file_start};
 use gcl_parser::parse;
 use plain_text::{of_tokens, slow_list};
@@ -140,4 +141,52 @@ fn many_names_are_told_apart(rt: HostRuntime) -> Result<(), Fail> {
         file.extend_from_slice(b"y ")?;
     }
     compare(&rt, alloc, &file, &query)
+}
+
+/// The rows of a table: a file, a query with prefix terms, and the start and end of each answer.
+const PREFIXED: [(&[u8], &[u8], &[(u64, u64)]); 9] = [
+    (b"to be or not to be", b"\"t\"*", &[(1, 1), (5, 5)]),
+    (b"to be or not to be", b"\"TO\"*", &[(1, 1), (5, 5)]),
+    (b"to be or not to be", b"\"n\"* ^ \"o\"*", &[(3, 4)]),
+    (b"to be or not to be", b"\"z\"*", &[]),
+    (b"to be or not to be", b"\"b\"*..\"t\"*", &[(2, 5)]),
+    (b"to be or not to be", b"\"to\" ^ \"t\"*", &[(1, 1), (5, 5)]),
+    (
+        b"<to>Too</to> tonight, TOM; to <t/>tot",
+        b"\"to\"*",
+        &[(2, 2), (4, 4), (5, 5), (6, 6), (9, 9)],
+    ),
+    (
+        b"<s>the king</s><s>a queen</s><s>kingdoms</s>",
+        b"(\"<s>\"..\"</s>\") > \"king\"*",
+        &[(1, 4), (9, 11)],
+    ),
+    (
+        b"\xc3\xa9t\xc3\xa9 \xc3\xa9 \xe9",
+        b"\"\xc3\"*",
+        &[(1, 1), (2, 2)],
+    ),
+];
+
+/// The answers of a query over a file.
+fn prefixed(alloc: Global, bytes: &[u8], query: &[u8]) -> Result<IntervalList, Fail>
+    requires { length bytes.now < 1000 }
+{
+    let query = parse(alloc, query)?;
+    let expr = expanded(alloc, bytes, &query)?;
+    let text = QueryText::of(alloc, bytes, &expr)?;
+    Ok(answers(alloc, &text, &expr, 0, 1000)?)
+}
+
+#[test]
+fn a_prefix_term_is_one_of_the_words_that_begin_with_it(rt: HostRuntime) -> Result<(), Fail> {
+    for (bytes, query, want) in PREFIXED {
+        assert!(rt; bytes.len() < 1000);
+        let members = prefixed(rt.alloc(), bytes, query)?;
+        assert_eq!(rt; members.len(), want.len(), "{query:?}");
+        for (member, (start, end)) in members.as_slice().iter().zip(want) {
+            assert_eq!(rt; (member.start, member.end), (*start, *end), "{query:?}");
+        }
+    }
+    Ok(())
 }

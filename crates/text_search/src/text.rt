@@ -55,13 +55,18 @@ impl<'a> QueryText<'a> {
         })
     }
 
-    /// The addresses that hold the token.
-    pub(crate) fn places(&self, token: &[u8]) -> &[u32]
+    /// The addresses that hold the token, where the expression names it.
+    pub fn places(&self, token: &[u8]) -> &[u32]
         ensures places { result.now ≡ places self.now.words token.now }
         ensures climbing { AreClimbing result.now }
         ensures sound { IsText self.now }
     {
         self.table.places(token)
+    }
+
+    /// Whether one of the words that are kept begins with these bytes, and stands in the file.
+    pub fn has_word_from(&self, prefix: &[u8]) -> bool {
+        self.table.has_word_from(prefix)
     }
 
     /// The addresses of the file.

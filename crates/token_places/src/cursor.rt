@@ -47,6 +47,18 @@ impl<'a> PlaceCursor<'a> {
         }
     }
 
+    /// A cursor of its own over what is still to come.
+    pub fn copy(&self) -> Self
+        ensures { result ≡ self.now }
+    {
+        PlaceCursor {
+            size: self.size,
+            rest: self.rest,
+            place: self.place,
+            unclosed: self.unclosed,
+        }
+    }
+
     /// The next token and where it comes from, or None at the end.
     pub fn next(&mut self) -> Option<PlacedToken<'a>>
         ensures some { IfSome result (λ token. self.old ≡ token ∷ self.new) }

@@ -1,10 +1,12 @@
 ghost use Rattle.gcl_model.specs.Collections.{file_start, file_end};
 ghost use Rattle.std.specs.Char.{to_ascii_lowercase};
-ghost use Rattle.std.specs.Prelude.{◌≡◌, ◌↔◌, ◌++◌, length, map, take, IsTrue};
+ghost use Rattle.std.specs.Prelude.{◌≡◌, ◌↔◌, ◌++◌, length, map, take, IfOk, IsTrue, OnOk};
 ghost use Rattle.token_places.specs.Cursors.{spelled};
 ghost use Rattle.token_places.specs.Places.{stretch};
 
 use crate::place::Place;
+use gcl_model::Bytes;
+use std::alloc::{AllocError, Global};
 use std::marker::Model;
 use word_tokens::is_spelled;
 
@@ -103,6 +105,42 @@ impl<'a> PlacedToken<'a> {
             TokenKind::CloseTag => is_front(prefix, b"</", self.name, b">"),
         }
     }
+
+    /// The token by itself, a word in lower case or a tag such as `<b>`. Err comes for want of memory alone.
+    pub fn to_bytes(&self, alloc: Global) -> Result<Bytes, AllocError>
+        ensures { IfOk result (λ bytes. bytes ≡ self.now.token) }
+    {
+        match self.kind {
+            TokenKind::Word => spelled_out(alloc, b"", self.name, b""),
+            TokenKind::OpenTag => spelled_out(alloc, b"<", self.name, b">"),
+            TokenKind::CloseTag => spelled_out(alloc, b"</", self.name, b">"),
+        }
+    }
+}
+
+/// The name in lower case, between these bytes.
+fn spelled_out(
+    alloc: Global,
+    opening: &[u8],
+    name: &[u8],
+    closing: &[u8],
+) -> Result<Bytes, AllocError>
+    ensures { IfOk result (λ bytes. bytes ≡ opening.now ++ map to_ascii_lowercase name.now ++ closing.now) }
+{
+    let mut bytes = Vec::new(alloc);
+    bytes.extend_from_slice(opening)?;
+    append_lower_case(&mut bytes, name)?;
+    bytes.extend_from_slice(closing)?;
+    Ok(Bytes::of(bytes))
+}
+
+fn append_lower_case(bytes: &mut Vec<u8>, name: &[u8]) -> Result<(), AllocError>
+    ensures { OnOk result (bytes.new.items ≡ bytes.old.items ++ map to_ascii_lowercase name.now) }
+{
+    for b in name {
+        bytes.push(b.to_ascii_lowercase())?;
+    }
+    Ok(())
 }
 
 /// Whether the bytes are the first of the name in lower case, between these.

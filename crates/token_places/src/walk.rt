@@ -41,6 +41,23 @@ impl<'a> PlaceWalk<'a> {
         }
     }
 
+    /// A walk of its own, which is at the same address.
+    pub fn copy(&self) -> Self
+        ensures { result ≡ self.now }
+    {
+        PlaceWalk {
+            bytes: self.bytes,
+            address: self.address,
+            place: self.place,
+            cursor: self.cursor.copy(),
+        }
+    }
+
+    /// The address that was asked for last, or 0; behind the last address of the file it stays at that.
+    pub fn reached(&self) -> u64 {
+        self.address
+    }
+
     /// The place of an address: of `to be` that of 2 is 3 to 5. An address behind the last one has the empty place at the end. Where the
     /// address is below the one that was asked for last, the walk begins again.
     pub fn place_at(&mut self, address: u64) -> Place

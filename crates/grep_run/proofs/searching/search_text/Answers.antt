@@ -6,10 +6,10 @@ use Rattle.grep_run.proofs.searching.search_text.Goals as goal
 
 pub returns-in-Err-Query-clause-ends : goal.returns-in-Err-Query-clause-ends
 returns-in-Err-Query-clause-ends g c =
-    rw c.in-Err-Query.field-0-is ((c.in-Err-Query.ensures.query c.in-Err-Query.fault).0 (ap (λ f. Err f) c.in-Err-Query.field-0-is))
+    (c.in-Err-Query.ensures.query c.in-Err-Query.fault).0 (ap (λ f. Err f) c.in-Err-Query.field-0-is)
 
 pub returns-clause-ends : goal.returns-clause-ends
 returns-clause-ends g c =
-    text_ends (g.F.Files.held c.args.files.now) c.args.asked.now c.args.text.now (form_of c.in-Ok.expr) c.search_for.result (g.K.Sink.written c.args.sink.now) (g.K.Sink.written c.search_for.new.sink)
-    (g.F.Files.faults c.args.files.now) (g.F.Files.faults c.search_for.new.files) c.args.steps.now c.search_for.new.steps
-    ((query_forms_are_of_queries c.args.text.now (form_of c.in-Ok.expr)).1 c.in-Ok.ensures.ok) c.search_for.ensures.ends
+    text_ends (g.F.Files.held c.args.files.now) c.args.asked.now c.args.text.now (form_of c.in-Ok.expr) c.search_expr.result (g.K.Sink.written c.args.sink.now) (g.K.Sink.written c.search_expr.new.sink)
+    (g.F.Files.faults c.args.files.now) (g.F.Files.faults c.search_expr.new.files) c.args.steps.now c.search_expr.new.steps
+    ((query_forms_are_of_queries c.args.text.now (form_of c.in-Ok.expr)).1 c.in-Ok.ensures.ok) c.search_expr.ensures.ends

@@ -1,0 +1,8 @@
+use Rattle.std.proofs.Common.{◌≡◌, ◌∙◌, ap, subst, sym, Ok, Err}
+use Rattle.grep_run.specs.Definitions.{define_next, defined_by_all}
+use Rattle.grep_run.proofs.DefineLemmas.{stops_first}
+use Rattle.grep_run.proofs.running.define_both.Goals as goal
+
+pub returns-in-Err-clause-cause : goal.returns-in-Err-clause-cause
+returns-in-Err-clause-cause g c =
+    stops_first (λ d. defined_by_all d c.args.more.now) (defined_by_all c.args.definitions.now c.args.texts.now) c.in-Err.stop c.in-Err.ensures.cause
