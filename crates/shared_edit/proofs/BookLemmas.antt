@@ -1,5 +1,5 @@
 -- What stays true of a book when an entry was filed.
-use Rattle.std.proofs.Common.{◌≡◌, ℕ, ◌+◌, ◌-◌, ◌*◌, ◌<◌, ◌≤◌, Bool, true, false, List, [], ◌∷◌, ◌++◌, length, filter, take, map, Option, None, Some, IsSome, cond, refl, sym, ap, ◌∙◌, subst, arith, length-append, nat_le}
+use Rattle.std.proofs.Common.{◌≡◌, ℕ, ◌+◌, ◌-◌, ◌<◌, ◌≤◌, Bool, true, false, List, [], ◌∷◌, ◌++◌, length, filter, take, Option, None, IsSome, cond, refl, sym, ap, ◌∙◌, subst, arith, length-append}
 use Rattle.std.proofs.lemmas.Bool.{le-leb, lt-leb}
 use Rattle.std.proofs.lemmas.List.{length-map, length-take}
 use Rattle.gcl_model.specs.Collections.{Collection, empty_from, has_file, width_of, with_file, without_file}
@@ -8,13 +8,12 @@ use Rattle.gcl_model.specs.Names.{is_name}
 use Rattle.gcl_model.specs.Tokens.{tokens_of}
 use Rattle.address_space.specs.Runs.{FileEntry}
 use Rattle.live_version.specs.Changes.{file_with_id}
-use Rattle.live_version.specs.Contents.{SlotContent, VersionContent, ranges_of, files_of}
+use Rattle.live_version.specs.Contents.{SlotContent, VersionContent, files_of}
 use Rattle.live_version.specs.StandsFor.{StandsFor}
 use Rattle.live_version.proofs.PartLaws.{has_files}
 use Rattle.collection.specs.Changes.{IsAdd, DeletesFileFrom, EndsInOneSlot}
-use Rattle.collection.specs.Engines.{EngineContent, engine_content}
+use Rattle.collection.specs.Engines.{EngineContent}
 use Rattle.collection.specs.declared.engine.Added.{Added}
-use Rattle.logbook.specs.Pages.{Book as Name}
 use Rattle.shared_edit.specs.declared.entry.Edit.{Edit}
 use Rattle.shared_edit.specs.declared.entry.Edit.TheVariants.{Add, Del}
 use Rattle.shared_edit.specs.declared.entry.EditReply.{EditReply}

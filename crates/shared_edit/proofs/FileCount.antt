@@ -1,6 +1,5 @@
 -- How many files a history of edits leaves.
-use Rattle.std.proofs.Common.{◌≡◌, ◌⊎◌, ⊎_elim, ℕ, ◌+◌, ◌<◌, ◌≤◌, Bool, true, false, not, ◌||◌, ◌==◌, cond, List, [], ◌∷◌, ◌++◌, length, map, filter, refl, sym, ap, ◌∙◌, subst, arith, length-append, eqb-true}
-use Rattle.std.proofs.lemmas.Bool.{or_parts}
+use Rattle.std.proofs.Common.{◌≡◌, ℕ, ◌+◌, ◌<◌, ◌≤◌, Bool, true, false, not, ◌||◌, ◌==◌, cond, List, [], ◌∷◌, ◌++◌, length, filter, refl, sym, ap, ◌∙◌, subst, arith, length-append, eqb-true}
 use Rattle.std.proofs.lemmas.List.{length-map}
 use Rattle.std.specs.List.{list_any}
 use Rattle.gcl_model.specs.Collections.{Collection, File, empty_from, has_file, with_file, without_file}
@@ -14,7 +13,7 @@ use Rattle.shared_edit.specs.declared.entry.EditReply.{EditReply}
 use Rattle.shared_edit.specs.declared.entry.EditReply.TheVariants.{Added, Spent, Gone, NotLive}
 use Rattle.shared_edit.specs.declared.entry.Entry.{Entry}
 use Rattle.shared_edit.specs.Histories.{IsHistory, after_edit, add_reply, count_of, del_reply, end_of, fits, is_added, is_gone, is_refused, reply_to}
-use Rattle.shared_edit.specs.Books.{ClosedContent, IsClosed, IsJournalOf, closed_content}
+use Rattle.shared_edit.specs.Books.{IsClosed, IsJournalOf, closed_content}
 use Rattle.shared_edit.proofs.BookLemmas.{added_ids, count-cons, gone_dels}
 
 -- the ids rise, at or above the low bound and below the high one

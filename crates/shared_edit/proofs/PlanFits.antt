@@ -1,10 +1,9 @@
 -- A plan whose slots are all in their places may be put.
-use Rattle.std.proofs.Common.{◌≡◌, ℕ, zero, suc, ◌+◌, ◌<◌, ◌≤◌, List, [], ◌∷◌, ◌++◌, length, map, take, Some, slice_get, refl, sym, ap, ◌∙◌, subst, arith}
+use Rattle.std.proofs.Common.{◌≡◌, ℕ, zero, suc, List, [], ◌∷◌, ◌++◌, length, take, Some, slice_get, refl, sym, ap, ◌∙◌, subst, arith}
 use Rattle.std.proofs.lemmas.List.{length-map, length-take}
 use mathlib.Core.List.{IsPrefix}
-use Rattle.gcl_model.specs.Slots.{SlotRange}
-use Rattle.live_version.specs.Changes.{IsSameLive, slots_at, whole_range}
-use Rattle.live_version.specs.Contents.{SlotContent, VersionContent, IsVersion, files_of, live_of, live_words, ranges_of}
+use Rattle.live_version.specs.Changes.{whole_range}
+use Rattle.live_version.specs.Contents.{SlotContent, VersionContent, IsVersion, files_of, live_of, ranges_of}
 use Rattle.manifest_publish.specs.Accounts.{EndsWith}
 use Rattle.manifest_publish.specs.Histories.{IsLatest, IsLawful}
 use Rattle.shared_edit.specs.declared.plan.SlotName.{SlotName}

@@ -1,14 +1,13 @@
 -- Plans, and the slots that they name.
-use Rattle.std.proofs.Common.{◌≡◌, ℕ, ◌+◌, ◌<◌, ◌≤◌, List, [], ◌∷◌, length, map, take, Some, refl, sym, ap, ◌∙◌, subst, arith}
+use Rattle.std.proofs.Common.{◌≡◌, ℕ, ◌≤◌, List, [], ◌∷◌, length, take, Some, sym, ap, ◌∙◌, subst}
 use Rattle.std.proofs.lemmas.List.{length-map, length-take-le, take-map}
 use Rattle.logbook.specs.Pages.{Book as Name}
 use Rattle.live_version.specs.Changes.{IsSameLive, slots_at, whole_range}
 use Rattle.live_version.specs.Contents.{SlotContent, VersionContent, IsVersion, ranges_of}
 use Rattle.manifest_publish.specs.Accounts.{EndsWith}
-use Rattle.manifest_publish.specs.Histories.{IsLatest}
 use Rattle.manifest_publish.proofs.HistoryLemmas.{latest-one}
 use Rattle.shared_edit.specs.declared.plan.SlotName.{SlotName}
-use Rattle.shared_edit.specs.Plans.{HasSlots, IsPlan, MergesFirst, PlanContent, name_of, names_of, plan_content}
+use Rattle.shared_edit.specs.Plans.{HasSlots, IsPlan, MergesFirst, name_of, names_of, plan_content}
 
 -- the names of the first `count` slots
 named_first : (count : ℕ) (slots : List SlotContent) (names : List SlotName) → count ≤ length slots → names ≡ names_of (take count slots) → (length names ≡ count) × (names ≡ take (length names) (names_of slots))

@@ -1,5 +1,5 @@
 -- A reader that enters, and slots that are looked for by their names.
-use Rattle.std.proofs.Common.{◌≡◌, ℕ, zero, suc, ◌+◌, ◌<◌, ◌≤◌, List, [], ◌∷◌, ◌++◌, length, map, take, get_or, Some, slice_get, false, not, ◌&&◌, eqb, refl, sym, ap, ◌∙◌, subst, arith}
+use Rattle.std.proofs.Common.{◌≡◌, ℕ, zero, suc, ◌+◌, ◌<◌, ◌≤◌, List, [], ◌∷◌, ◌++◌, length, take, get_or, false, not, ◌&&◌, eqb, refl, sym, ap, ◌∙◌, subst, arith}
 use Rattle.std.proofs.lemmas.List.{length-map, take_more_same, get_or_default}
 use Rattle.std.proofs.lemmas.Bool.{not-false, and_parts, eqb-true}
 use mathlib.Core.List.{IsPrefix}
@@ -10,7 +10,7 @@ use Rattle.manifest_publish.proofs.Prefixes.{prefix_whole, all_last}
 use Rattle.collection.specs.Engines.{EngineContent, published}
 use Rattle.shared_edit.specs.declared.plan.SlotName.{SlotName}
 use Rattle.shared_edit.specs.Plans.{name_of, names_of}
-use Rattle.shared_edit.specs.Settling.{HasSeenAll, learnt}
+use Rattle.shared_edit.specs.Settling.{HasSeenAll}
 
 -- of two histories, the one that begins the other and whose last number isn't less is the other
 pub same-history : (h p : List VersionContent) (v w : VersionContent) → EndsWith h v → EndsWith p w → IsPrefix h p → w.number ≤ v.number → h ≡ p

@@ -1,12 +1,10 @@
 -- What the receipts and passes of a book's calls show.
-use Rattle.std.proofs.Common.{◌≡◌, ℕ, ◌+◌, ◌≤◌, List, [], ◌∷◌, ◌++◌, None, refl, sym, ap, ◌∙◌, subst, arith, append_assoc}
-use Rattle.gcl_model.specs.Collections.{width_of}
+use Rattle.std.proofs.Common.{◌≡◌, ℕ, ◌≤◌, List, [], ◌∷◌, ◌++◌, sym, ap, ◌∙◌, subst, arith, append_assoc}
 use Rattle.gcl_model.specs.Tokens.{tokens_of}
 use Rattle.live_version.specs.Contents.{VersionContent}
 use Rattle.manifest_publish.specs.Accounts.{Account, EndsWith, ReceiptContent}
 use Rattle.manifest_publish.specs.Histories.{IsLatest}
-use Rattle.collection.specs.Changes.{IsAdd, IsDelete}
-use Rattle.collection.specs.Engines.{EngineContent, IsPublication, published}
+use Rattle.collection.specs.Engines.{EngineContent, IsPublication}
 use Rattle.collection.specs.declared.engine.Added.{Added}
 use Rattle.shared_edit.specs.Books.{BookContent, IsBook, FilesAdd, FilesSpent, FilesGone, FilesNotLive}
 use Rattle.shared_edit.specs.Editors.{EditorContent}

@@ -4,7 +4,7 @@ use Rattle.gcl_model.specs.Collections.{empty_from}
 use Rattle.shared_edit.specs.declared.entry.Edit.TheVariants.{Add, Del}
 use Rattle.shared_edit.specs.declared.entry.EditReply.TheVariants.{Added, Gone, NotLive}
 use Rattle.shared_edit.specs.declared.entry.Entry.{Entry}
-use Rattle.shared_edit.specs.Histories.{after_edit, count_of, end_of, is_added, is_gone, is_refused, reply_to}
+use Rattle.shared_edit.specs.Histories.{count_of, end_of, is_refused, reply_to}
 
 -- editor 1 adds a file of one word, editor 0 deletes it, and editor 1 comes too late
 abbrev added : Entry

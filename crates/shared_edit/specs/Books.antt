@@ -1,5 +1,5 @@
 -- What contracts see of the value under the lock, what is always true of it, and what each call makes of it.
-use Rattle.std.specs.Prelude.{◌≡◌, ℕ, ◌+◌, ◌-◌, ◌*◌, ◌<◌, ◌≤◌, true, false, List, [], ◌∷◌, ◌++◌, length, None}
+use Rattle.std.specs.Prelude.{◌≡◌, ℕ, ◌+◌, ◌*◌, ◌<◌, ◌≤◌, List, [], ◌∷◌, ◌++◌, length, None}
 use Rattle.gcl_model.specs.Collections.{empty_from, width_of}
 use Rattle.gcl_model.specs.Limits.{address_end}
 use Rattle.gcl_model.specs.Tokens.{tokens_of}

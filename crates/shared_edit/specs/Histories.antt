@@ -1,6 +1,6 @@
 -- Histories of edits by several editors.
 use Rattle.std.specs.Prelude.{◌≡◌, ℕ, ◌+◌, ◌-◌, Bool, true, false, nat_le, List, [], ◌∷◌, length, filter, if◌then◌else◌}
-use Rattle.gcl_model.specs.Collections.{Collection, empty_from, has_file, width_of, with_file, without_file}
+use Rattle.gcl_model.specs.Collections.{Collection, has_file, width_of, with_file, without_file}
 use Rattle.gcl_model.specs.Limits.{address_end}
 use Rattle.gcl_model.specs.Names.{is_name}
 use Rattle.gcl_model.specs.Tokens.{tokens_of}

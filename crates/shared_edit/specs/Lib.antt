@@ -4,3 +4,4 @@ pub mod Books
 pub mod Shared
 pub mod Plans
 pub mod Settling
+pub mod Drafts

@@ -1,5 +1,5 @@
 -- Plans of merges, and when their slots are still there.
-use Rattle.std.specs.Prelude.{◌≡◌, ◌≢◌, ℕ, ◌+◌, ◌<◌, ◌≤◌, List, [], ◌∷◌, length, map, take, slice_get, Some}
+use Rattle.std.specs.Prelude.{◌≡◌, ℕ, ◌≤◌, List, [], ◌∷◌, length, map, take, Some}
 use Rattle.logbook.specs.Pages.{Book}
 use Rattle.live_version.specs.Changes.{IsSameLive, slots_at, whole_range}
 use Rattle.live_version.specs.Contents.{SlotContent, VersionContent, IsVersion, ranges_of}

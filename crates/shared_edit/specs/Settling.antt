@@ -1,11 +1,7 @@
 -- What a settling makes of the engine and of its reader.
-use Rattle.std.specs.Prelude.{◌≡◌, ◌≢◌, ℕ, ◌+◌, ◌<◌, ◌≤◌, List, [], ◌∷◌, ◌++◌, ◌⊎◌, length, take, drop, slice_get, Some}
-use mathlib.Core.List.{IsPrefix}
-use Rattle.logbook.specs.Pages.{Book}
+use Rattle.std.specs.Prelude.{◌≡◌, ◌≢◌, ℕ, ◌<◌, List, [], ◌∷◌, ◌++◌, ◌⊎◌, length, take, slice_get, Some}
 use Rattle.live_version.specs.Contents.{SlotContent, VersionContent}
-use Rattle.live_version.specs.StandsFor.{Keeps}
-use Rattle.manifest_publish.specs.Accounts.{Account, account, ReaderContent, ReceiptContent, VouchesFor, MayEnter, with_pass, reached}
-use Rattle.manifest_publish.specs.Histories.{IsLatest}
+use Rattle.manifest_publish.specs.Accounts.{Account, ReaderContent, ReceiptContent, VouchesFor, MayEnter, with_pass, reached}
 use Rattle.collection.specs.Changes.{IsFrontMerge}
 use Rattle.collection.specs.Engines.{EngineContent, published}
 use Rattle.shared_edit.specs.declared.faults.StaleSlot.{StaleSlot}

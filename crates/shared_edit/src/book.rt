@@ -12,21 +12,23 @@ ghost use Rattle.live_version.specs.Changes.{file_with_id};
 ghost use Rattle.live_version.specs.Contents.{files_of};
 ghost use Rattle.manifest_publish.specs.Accounts.{Account, EndsWith};
 ghost use Rattle.collection.specs.Changes.{IsAdd, IsDelete};
+ghost use Rattle.collection.specs.declared.faults.AddFault.TheVariants.{AddressesSpent as NoRoom};
 ghost use Rattle.collection.specs.Engines.{engine_content, published};
 ghost use Rattle.live_version.specs.Changes.{empty_version};
 ghost use Rattle.shared_edit.specs.Books.{BookContent, IsBook, IsJournalOf, book_content, FilesAdd, FilesGone, FilesNotLive, FilesSpent, added_entry, gone_entry, not_live_entry, spent_entry};
+ghost use Rattle.shared_edit.specs.Drafts.{IsDraft};
 ghost use Rattle.shared_edit.specs.Histories.{count_of, is_added, is_gone, is_refused};
 ghost use Rattle.shared_edit.specs.declared.faults.FiledAddFault.TheVariants.{AddressesSpent as Spent, NoMemory as AddNoMemory};
 ghost use Rattle.shared_edit.specs.declared.faults.FiledDeleteFault.TheVariants.{NotLive, NoMemory as DeleteNoMemory};
 
+use crate::draft::Draft;
 use crate::editor::{Editor, Shares};
 use crate::entry::{Edit, EditReply, Entry};
 use crate::faults::{FiledAddFault, FiledDeleteFault, SettleFault};
 use crate::plan::Plan;
 use crate::settle::settle_in;
 use address_space::FileId;
-use collection::{AddFault, Added, DeleteFault, Engine};
-use gcl_model::Bytes;
+use collection::{AddFault, Added, DeleteFault, Engine, TextIndex};
 use manifest_publish::{Reader, Receipt};
 use std::alloc::AllocError;
 use std::marker::Model;
@@ -66,33 +68,55 @@ fn file(journal: &mut Vec<Entry>, entry: Entry)
     }
 }
 
+/// Adds a file, by the index that was made ahead where there is one.
+fn place<R: Wait>(
+    rt: &R,
+    engine: &mut Engine,
+    name: &[u8],
+    bytes: &[u8],
+    index: Option<TextIndex>,
+) -> Result<Added, AddFault>
+    requires name { is_name name.now ≡ true }
+    requires index { IsDraft bytes.now index }
+    ensures ok { IfOk result (IsAdd engine.old engine.new name.now (tokens_of bytes.now)) }
+    ensures fits { OnOk result (engine.old.version.next + width_of (tokens_of bytes.now) ≤ address_end) }
+    ensures spent { (next : ℕ) → (need : ℕ) → IsErrOf result (NoRoom next need) → (next ≡ engine.old.version.next) ×
+        (need ≡ width_of (tokens_of bytes.now)) × (address_end < next + need) }
+    ensures err { OnErr result (engine.new ≡ engine.old) }
+{
+    match index {
+        Some(index) => engine.add_indexed(rt, name, index),
+        None => engine.add(rt, name, bytes),
+    }
+}
+
 /// Adds a file, and files the entry that says so. At `NoMemory` nothing changes.
 fn add_to<R: Wait>(
     rt: &R,
     engine: &mut Engine,
     journal: &mut Vec<Entry>,
     editor: u64,
-    name: &[u8],
-    bytes: &[u8],
+    draft: Draft,
 ) -> Result<Added, FiledAddFault>
-    requires { is_name name.now ≡ true }
-    ensures ok { IfOk result (IsAdd engine.old engine.new name.now (tokens_of bytes.now)) }
-    ensures fits { OnOk result (engine.old.version.next + width_of (tokens_of bytes.now) ≤ address_end) }
-    ensures added { IfOk result (λ added. journal.new.items ≡ journal.old.items ++ added_entry editor name.now bytes.now added ∷ []) }
+    requires { is_name draft.name ≡ true }
+    ensures ok { IfOk result (IsAdd engine.old engine.new draft.name (tokens_of draft.bytes)) }
+    ensures fits { OnOk result (engine.old.version.next + width_of (tokens_of draft.bytes) ≤ address_end) }
+    ensures added { IfOk result (λ added. journal.new.items ≡ journal.old.items ++ added_entry editor draft.name draft.bytes added ∷ []) }
     ensures few { OnOk result (length journal.old.items + 1 < 2 ^ 64) }
-    ensures spent { (need : ℕ) → (seen : Account) → IsErrOf result (Spent need seen) → (need ≡ width_of (tokens_of bytes.now)) ×
+    ensures spent { (need : ℕ) → (seen : Account) → IsErrOf result (Spent need seen) → (need ≡ width_of (tokens_of draft.bytes)) ×
         (seen ≡ published engine.old) ×
         (address_end < engine.old.version.next + need) × (engine.new ≡ engine.old) ×
-        (journal.new.items ≡ journal.old.items ++ spent_entry editor name.now bytes.now engine.old.version.next ∷ []) ×
+        (journal.new.items ≡ journal.old.items ++ spent_entry editor draft.name draft.bytes engine.old.version.next ∷ []) ×
         (length journal.old.items + 1 < 2 ^ 64) }
     ensures no_memory { IsErrOf result AddNoMemory → (engine.new ≡ engine.old) × (journal.new.items ≡ journal.old.items) }
     ensures ends { EndsWith engine.old.history engine.old.version }
 {
     let seen = engine.pass()?;
-    let alloc = *journal.allocator();
-    let edit = Edit::Add(Bytes::copy_of(alloc, name)?, Bytes::copy_of(alloc, bytes)?);
     journal.reserve(1)?;
-    match engine.add(rt, name, bytes) {
+    let Draft { name, bytes, index } = draft;
+    let answer = place(rt, engine, name.as_slice(), bytes.as_slice(), index);
+    let edit = Edit::Add(name, bytes);
+    match answer {
         Ok(added) => {
             let reply = EditReply::Added(added.id.0, added.first, added.last);
             file(
@@ -243,6 +267,54 @@ impl<A: Ledger, G: Ledger, S: Ledger> Book<A, G, S> {
         ensures book { IsBook self.new }
         ensures ends { EndsWith self.old.engine.history self.old.engine.version }
     {
+        match editor.draft(name, bytes) {
+            Ok(draft) => self.add_drafted(rt, editor, draft),
+            Err(_) => {
+                self.audit(editor);
+                Err(FiledAddFault::NoMemory)
+            }
+        }
+    }
+
+    /// Nothing changes: an editor's numbers are no more than the totals.
+    fn audit(&mut self, editor: &mut Editor<A, G, S>)
+        ensures same { (self.new ≡ self.old) × (editor.new ≡ editor.old) }
+        ensures bounds { (editor.new.added ≤ self.new.added) × (editor.new.gone ≤ self.new.gone) }
+        ensures book { IsBook self.new }
+        ensures ends { EndsWith self.old.engine.history self.old.engine.version }
+    {
+        let Book {
+            engine,
+            journal: _journal,
+            added,
+            gone,
+            refused: _refused,
+        } = self;
+        // by it the history is known to end with the version
+        let _version = engine.version();
+        editor.audit(added, gone);
+    }
+
+    /// The same of a draft, with all that was made of the file before.
+    pub(crate) fn add_drafted<R: Wait>(
+        &mut self,
+        rt: &R,
+        editor: &mut Editor<A, G, S>,
+        draft: Draft,
+    ) -> Result<Added, FiledAddFault>
+        requires { is_name draft.name ≡ true }
+        ensures ok { IfOk result (FilesAdd self.old self.new editor.old.number draft.name draft.bytes) }
+        ensures fits { OnOk result (self.old.engine.version.next + width_of (tokens_of draft.bytes) ≤ address_end) }
+        ensures added { OnOk result (editor.new ≡ record editor.old { added = editor.old.added + 1 }) }
+        ensures spent { (need : ℕ) → (seen : Account) → IsErrOf result (Spent need seen) →
+            FilesSpent self.old self.new editor.old.number draft.name draft.bytes need seen }
+        ensures refused { (need : ℕ) → (seen : Account) → IsErrOf result (Spent need seen) →
+            editor.new ≡ record editor.old { refused = editor.old.refused + 1 } }
+        ensures no_memory { IsErrOf result AddNoMemory → (self.new ≡ self.old) × (editor.new ≡ editor.old) }
+        ensures bounds { (editor.new.added ≤ self.new.added) × (editor.new.gone ≤ self.new.gone) }
+        ensures book { IsBook self.new }
+        ensures ends { EndsWith self.old.engine.history self.old.engine.version }
+    {
         let Book {
             engine,
             journal,
@@ -251,7 +323,7 @@ impl<A: Ledger, G: Ledger, S: Ledger> Book<A, G, S> {
             refused,
         } = self;
         editor.audit(added, gone);
-        match add_to(rt, engine, journal, editor.number(), name, bytes) {
+        match add_to(rt, engine, journal, editor.number(), draft) {
             Ok(answer) => {
                 editor.rise_added(added);
                 Ok(answer)

@@ -1,7 +1,11 @@
-ghost use Rattle.std.specs.Prelude.{◌≡◌, ◌+◌, ◌<◌, ◌≤◌, ◌^◌, length};
+ghost use Rattle.std.specs.Prelude.{◌≡◌, ◌+◌, ◌<◌, ◌≤◌, ◌^◌, length, IfOk};
 ghost use Rattle.std.specs.List.{sum_by};
+ghost use Rattle.shared_edit.specs.Drafts.{draft_content};
 ghost use Rattle.shared_edit.specs.Editors.{editor_content};
 
+use crate::draft::Draft;
+use collection::Names;
+use std::alloc::{AllocError, Global};
 use std::marker::Model;
 use std::sync::ledger::{Book, Ledger, Share};
 
@@ -77,6 +81,9 @@ impl<L: Ledger> Counted<L> {
 #[derive(Drop)]
 pub struct Editor<A: Ledger, G: Ledger, S: Ledger> {
     number: u64,
+    alloc: Global,
+    // The words of the texts that it added, which the index of the next text begins with.
+    names: Names,
     pub(crate) added: Counted<A>,
     pub(crate) gone: Counted<G>,
     pub(crate) refused: Counted<S>,
@@ -93,6 +100,7 @@ impl<A: Ledger, G: Ledger, S: Ledger> Model for Editor<A, G, S> {
 impl<A: Ledger, G: Ledger, S: Ledger> Editor<A, G, S> {
     pub(crate) fn new(
         number: u64,
+        alloc: Global,
         added: Counted<A>,
         gone: Counted<G>,
         refused: Counted<S>,
@@ -101,6 +109,8 @@ impl<A: Ledger, G: Ledger, S: Ledger> Editor<A, G, S> {
     {
         Editor {
             number,
+            alloc,
+            names: Names::new(alloc),
             added,
             gone,
             refused,
@@ -133,6 +143,14 @@ impl<A: Ledger, G: Ledger, S: Ledger> Editor<A, G, S> {
         ensures { result ≡ self.now.refused }
     {
         self.refused.get()
+    }
+
+    /// All that can be made of a file before the lock is taken.
+    pub(crate) fn draft(&mut self, name: &[u8], bytes: &[u8]) -> Result<Draft, AllocError>
+        ensures draft { IfOk result (λ draft. draft ≡ draft_content name.now bytes.now) }
+        ensures editor { self.new ≡ self.old }
+    {
+        Draft::of(self.alloc, &mut self.names, name, bytes)
     }
 
     /// Its numbers of accepted edits are no more than the totals.
@@ -190,6 +208,8 @@ impl<A: Ledger, G: Ledger, S: Ledger> Editor<A, G, S> {
     {
         let Editor {
             number: _,
+            alloc: _,
+            names: _,
             added,
             gone,
             refused,

@@ -14,6 +14,7 @@
 
 mod book;
 mod closed;
+mod draft;
 mod editor;
 mod entry;
 mod faults;

@@ -13,6 +13,7 @@ ghost use Rattle.shared_edit.specs.declared.faults.FiledAddFault.TheVariants.{Ad
 ghost use Rattle.shared_edit.specs.declared.faults.FiledDeleteFault.TheVariants.{NotLive, NoMemory as DeleteNoMemory};
 
 use crate::book::Book;
+use crate::draft::Draft;
 use crate::editor::Editor;
 use crate::faults::{FiledAddFault, FiledDeleteFault, SettleFault};
 use crate::naming::Naming;
@@ -57,21 +58,20 @@ impl<A: Ledger, G: Ledger, S: Ledger, J: Naming> Kept<A, G, S, J> {
         &mut self,
         rt: &R,
         editor: &mut Editor<A, G, S>,
-        name: &[u8],
-        bytes: &[u8],
+        draft: Draft,
     ) -> Result<Added, FiledAddFault>
-        requires { is_name name.now ≡ true }
+        requires { is_name draft.name ≡ true }
         ensures receipt { IfOk result (λ added. (added.receipt.publisher ≡ J.publisher) ×
-            EndsInAdd added.receipt.history name.now (tokens_of bytes.now) added) }
+            EndsInAdd added.receipt.history draft.name (tokens_of draft.bytes) added) }
         ensures counts { IfOk result (λ added. HasCounts added.receipt.history editor.new) }
         ensures added { OnOk result (editor.new ≡ record editor.old { added = editor.old.added + 1 }) }
         ensures spent { (need : ℕ) → (seen : Account) → IsErrOf result (Spent need seen) → (seen.publisher ≡ J.publisher) ×
-            ShowsSpent (tokens_of bytes.now) need seen.history }
+            ShowsSpent (tokens_of draft.bytes) need seen.history }
         ensures refused { (need : ℕ) → (seen : Account) → IsErrOf result (Spent need seen) →
             editor.new ≡ record editor.old { refused = editor.old.refused + 1 } }
         ensures no_memory { IsErrOf result AddNoMemory → editor.new ≡ editor.old }
     {
-        self.book.add(rt, editor, name, bytes)
+        self.book.add_drafted(rt, editor, draft)
     }
 
     fn delete<R: Wait>(
@@ -139,7 +139,7 @@ impl<A: Ledger, G: Ledger, S: Ledger, J: Naming> SharedEngine<A, G, S, J> {
         lock.into_inner().into_book()
     }
 
-    /// Adds a file for an editor.
+    /// Adds a file for an editor. Its index is made before the lock is taken, and under the lock it is only placed, published and filed.
     pub fn add<R: Wait>(
         &self,
         rt: &R,
@@ -158,7 +158,8 @@ impl<A: Ledger, G: Ledger, S: Ledger, J: Naming> SharedEngine<A, G, S, J> {
             editor.new ≡ record editor.old { refused = editor.old.refused + 1 } }
         ensures no_memory { IsErrOf result AddNoMemory → editor.new ≡ editor.old }
     {
-        self.lock.lock(rt).add(rt, editor, name, bytes)
+        let draft = editor.draft(name, bytes)?;
+        self.lock.lock(rt).add(rt, editor, draft)
     }
 
     /// Deletes a file for an editor.

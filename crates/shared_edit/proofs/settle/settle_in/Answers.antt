@@ -1,4 +1,4 @@
-use Rattle.std.proofs.Common.{◌≡◌, List, [], ◌∷◌, Some, length, take, Option, IfSome, sym, refl, ap, ◌∙◌, subst}
+use Rattle.std.proofs.Common.{◌≡◌, List, [], ◌∷◌, Some, length, Option, IfSome, sym, ap, ◌∙◌, subst}
 use mathlib.Core.List.{IsPrefix}
 use Rattle.live_version.specs.Changes.{IsSameLive, slots_at, whole_range}
 use Rattle.live_version.specs.Contents.{SlotContent, VersionContent, IsVersion, ranges_of}
@@ -6,7 +6,7 @@ use Rattle.manifest_publish.specs.Accounts.{Account}
 use Rattle.manifest_publish.proofs.Prefixes.{prefix_trans}
 use Rattle.collection.specs.Engines.{published}
 use Rattle.shared_edit.specs.declared.plan.SlotName.{SlotName}
-use Rattle.shared_edit.specs.Plans.{MergesFirst, names_of}
+use Rattle.shared_edit.specs.Plans.{MergesFirst}
 use Rattle.shared_edit.specs.Settling.{AreInPlace, HasSeenAll}
 use Rattle.shared_edit.proofs.PlanFits.{plan-fits}
 use Rattle.shared_edit.proofs.settle.settle_in.Goals as goal

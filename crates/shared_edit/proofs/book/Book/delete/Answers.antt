@@ -1,6 +1,6 @@
-use Rattle.std.proofs.Common.{◌≡◌, ◌<◌, ◌≤◌, ◌+◌, length, rules, arith, subst, sym, refl, ap, ◌∙◌}
-use Rattle.shared_edit.specs.Books.{IsBook, book_content, BookContent, gone_entry, not_live_entry}
-use Rattle.shared_edit.specs.Histories.{count_of, is_gone, is_refused}
+use Rattle.std.proofs.Common.{◌+◌, rules, arith, ap, ◌∙◌}
+use Rattle.shared_edit.specs.Books.{book_content}
+use Rattle.shared_edit.specs.Histories.{is_gone, is_refused}
 use Rattle.shared_edit.proofs.JournalLemmas.{count-le}
 use Rattle.shared_edit.proofs.BookLemmas.{book-gone, book-not_live, book-same}
 use Rattle.shared_edit.proofs.book.Book.delete.Goals as goal

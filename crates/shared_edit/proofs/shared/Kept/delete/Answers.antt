@@ -1,4 +1,4 @@
-use Rattle.std.proofs.Common.{◌≡◌, sym, refl, ap, ◌∙◌}
+use Rattle.std.proofs.Common.{ap, ◌∙◌}
 use Rattle.std.proofs.lemmas.Result.{IfOk-weaker}
 use Rattle.manifest_publish.specs.Accounts.{Account}
 use Rattle.shared_edit.proofs.SharedLemmas.{ends-in-delete, has-counts, published-latest, shows-not_live, not_live-latest}
