@@ -5,7 +5,7 @@ ghost use Rattle.outside.specs.Contents.{IsKept};
 
 use crate::streams::SlowSource;
 use crate::trials::{
-    NAMES, ends, failing_call, holds, mem_files, mem_sink, one_file, ran, run_over, says,
+    NAMES, counts, ends, failing_call, holds, mem_files, mem_sink, one_file, ran, run_over, says,
     served_over, serves, sure_files, sure_source, writes,
 };
 use outside::{
@@ -15,6 +15,7 @@ use outside::{
 use query_run::{Limits, Status, run};
 use std::alloc::{AllocError, Global};
 use std::process::Abort;
+use std::random::RandomSource;
 use std::sync::Wait;
 use std::test::Fail;
 use std::thread::Threads;
@@ -68,7 +69,7 @@ fn are_same(files: &MemFiles) -> bool {
 }
 
 /// Runs the script where one object fails at one call.
-fn failing<R: Threads + Wait + Sync + AllocGlobal>(
+fn failing<R: Threads + Wait + Sync + RandomSource + AllocGlobal>(
     rt: &R,
     part: Part,
     call: u64,
@@ -97,7 +98,7 @@ fn lines_before(call: u64) -> &'static [u8] {
 }
 
 /// The lines before this call of the source are answered where it fails, and no more.
-fn fails_at_read<R: Threads + Wait + Sync + AllocGlobal + Abort>(
+fn fails_at_read<R: Threads + Wait + Sync + RandomSource + AllocGlobal + Abort>(
     rt: &R,
     call: u64,
 ) -> Result<(), AllocError> {
@@ -147,7 +148,7 @@ fn is_whole<R: Abort>(rt: &R, call: u64, ended: &Ended, want: Status, bytes: usi
 }
 
 /// How many calls an object gets: each fails in turn, and none in the last run.
-fn calls_that_fail<R: Threads + Wait + Sync + AllocGlobal + Abort>(
+fn calls_that_fail<R: Threads + Wait + Sync + RandomSource + AllocGlobal + Abort>(
     rt: &R,
     part: Part,
     want: Status,
@@ -263,7 +264,7 @@ fn are_sure_same(files: &SureFiles) -> bool {
 }
 
 /// Runs the script where one object is out of memory at one call.
-fn hungry<R: Threads + Wait + Sync + AllocGlobal>(
+fn hungry<R: Threads + Wait + Sync + RandomSource + AllocGlobal>(
     rt: &R,
     part: Part,
     call: u64,
@@ -290,7 +291,7 @@ fn hungry<R: Threads + Wait + Sync + AllocGlobal>(
 }
 
 /// How many calls an object gets: each is out of memory in turn, and none in the last run.
-fn calls_that_want<R: Threads + Wait + Sync + AllocGlobal + Abort>(
+fn calls_that_want<R: Threads + Wait + Sync + RandomSource + AllocGlobal + Abort>(
     rt: &R,
     part: Part,
 ) -> Result<u64, AllocError> {
@@ -321,7 +322,7 @@ fn whichever_call_is_out_of_memory_a_beginning_is_written_and_no_other_name_is_c
 }
 
 /// A run over objects that never fail. It is proved that none is ever said to have failed.
-fn sure_run<R: Threads + Wait + Sync>(
+fn sure_run<R: Threads + Wait + Sync + RandomSource>(
     rt: &R,
     alloc: Global,
     files: &mut SureFiles,
@@ -332,7 +333,69 @@ fn sure_run<R: Threads + Wait + Sync>(
     ensures write { ¬ (result ≡ Status.WriteFault) }
     ensures file { ¬ (result ≡ Status.FileFault) }
 {
-    run(rt, alloc, &[], files, source, sink, &FreeGate)
+    let mut completed = 0;
+    run(
+        rt,
+        alloc,
+        &[],
+        files,
+        source,
+        sink,
+        &FreeGate,
+        &mut completed,
+    )
+}
+
+// The image of no file from address 0, with 2^64 - 1 in the place of its number of files.
+const MANY_FILES: &[u8] =
+    b"GCLIMG02\0\0\0\0\0\0\0\0\0\0\0\0\0\0\0\0\0\0\0\0\0\0\0\0\xff\xff\xff\xff\xff\xff\xff\xff\0\0\0\0\0\0\0\0";
+
+#[test]
+fn an_image_of_more_files_than_it_has_bytes_is_none(rt: HostRuntime) -> Result<(), Fail> {
+    let mut files = MemFiles::new(
+        rt.alloc(),
+        one_file(rt.alloc(), b"i", MANY_FILES)?,
+        Vec::new(rt.alloc()),
+    );
+    let (status, written) = run_over(&rt, &[], &mut files, b"open i\nfiles\n", &FreeGate)?;
+    let want = (
+        Status::DoneWithRefusals,
+        b"! not an image\n= 0\n".as_slice(),
+    );
+    ends(&rt, &"an image", (status, written.as_slice()), want);
+    Ok(())
+}
+
+#[test]
+fn the_line_that_names_a_missing_file_comes_after_the_completed_ones(
+    rt: HostRuntime,
+) -> Result<(), Fail> {
+    let scripts: [(&[u8], u64); 5] = [
+        (b"add missing\n", 0),
+        (b"add a\ncount \"to\"\n\nadd missing\nadd a\n", 3),
+        (b"count \"to\"\ncount \"be\"\nopen missing", 2),
+        (b"merge\nadd missing\n", 1),
+        (b"del 9\nnone\nadd missing\n", 2),
+    ];
+    for (script, lines) in scripts {
+        let mut files = mem_files(rt.alloc(), 0)?;
+        let mut source = sure_source(rt.alloc(), script)?;
+        let mut sink = SureSink::new(rt.alloc());
+        let mut completed = 7;
+        let status = run(
+            &rt,
+            rt.alloc(),
+            &[],
+            &mut files,
+            &mut source,
+            &mut sink,
+            &FreeGate,
+            &mut completed,
+        );
+        says(&rt, &script, status, Status::FileFault);
+        counts(&rt, &script, completed, lines);
+    }
+    Ok(())
 }
 
 #[test]
@@ -379,14 +442,16 @@ fn with_image(alloc: Global, image: &[u8]) -> Result<MemFiles, AllocError> {
 }
 
 /// The image of the file `a`.
-fn saved_image<R: Threads + Wait + Sync + AllocGlobal>(rt: &R) -> Result<Vec<u8>, AllocError> {
+fn saved_image<R: Threads + Wait + Sync + RandomSource + AllocGlobal>(
+    rt: &R,
+) -> Result<Vec<u8>, AllocError> {
     let mut files = mem_files(rt.alloc(), 0)?;
     let (_, _) = run_over(rt, &[], &mut files, b"add a\nsave i\n", &FreeGate)?;
     files.content(b"i").unwrap_or(b"").to_vec(rt.alloc())
 }
 
 /// These bytes are not opened.
-fn is_no_image<R: Threads + Wait + Sync + AllocGlobal + Abort>(
+fn is_no_image<R: Threads + Wait + Sync + RandomSource + AllocGlobal + Abort>(
     rt: &R,
     image: &[u8],
 ) -> Result<(), AllocError> {
@@ -409,7 +474,7 @@ fn a_front_part_of_an_image_is_not_opened(rt: HostRuntime) -> Result<(), Fail> {
 }
 
 /// Whether this image is opened, and then it is saved again as it is. The byte at this place was changed.
-fn is_opened<R: Threads + Wait + Sync + AllocGlobal + Abort>(
+fn is_opened<R: Threads + Wait + Sync + RandomSource + AllocGlobal + Abort>(
     rt: &R,
     image: &[u8],
     at: usize,

@@ -6,12 +6,13 @@ use made_corpus::{MadeFiles, SummarySink, made_script};
 use outside::{FreeGate, Sink, SureFiles};
 use query_run::Status;
 use std::alloc::{AllocError, Global};
+use std::random::RandomSource;
 use std::sync::Wait;
 use std::test::Fail;
 use std::thread::Threads;
 
 /// The status of a run with these words over no files and an empty script, and what was written.
-fn summary_run<R: Threads + Wait + Sync + AllocGlobal>(
+fn summary_run<R: Threads + Wait + Sync + RandomSource + AllocGlobal>(
     rt: &R,
     words: &[&[u8]],
 ) -> Result<(Status, Vec<u8>), AllocError> {
@@ -37,7 +38,7 @@ fn summary_of(
 }
 
 /// The summary of the whole output that a plain run over the made files and the made script writes.
-fn summed<R: Threads + Wait + Sync + AllocGlobal>(
+fn summed<R: Threads + Wait + Sync + RandomSource + AllocGlobal>(
     rt: &R,
     words: &[&[u8]],
     start: u64,

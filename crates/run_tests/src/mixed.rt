@@ -9,6 +9,7 @@ use query_run::{Limits, Status};
 use script_lang::{put_file, put_interval, put_total};
 use std::alloc::{AllocError, Global};
 use std::process::Abort;
+use std::random::RandomSource;
 use std::sync::Wait;
 use std::test::Fail;
 use std::thread::Threads;
@@ -49,7 +50,7 @@ const MIXED: [(&str, &[u8], (Status, u64, &[u8])); 3] = [
 
 /// Each script is answered so with this number of readers, with at most this number of queries in a batch, and with at most `most` bytes from
 /// each call of the source.
-fn each_is_answered_in_order<R: Threads + Wait + Sync + AllocGlobal + Abort>(
+fn each_is_answered_in_order<R: Threads + Wait + Sync + RandomSource + AllocGlobal + Abort>(
     rt: &R,
     readers: usize,
     batch: u64,
@@ -108,7 +109,7 @@ const FAULTS: [(u64, u64, Status, u64, usize, bool); 13] = [
 ];
 
 /// How `serve` ends where these calls of the sink and of the files fail, and whether the image was kept.
-fn failing<R: Threads + Wait + Sync + AllocGlobal + Abort>(
+fn failing<R: Threads + Wait + Sync + RandomSource + AllocGlobal + Abort>(
     rt: &R,
     sink: u64,
     files: u64,

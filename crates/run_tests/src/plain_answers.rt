@@ -8,6 +8,7 @@ use query_run::Status;
 use script_lang::{put_file, put_interval, put_total};
 use std::alloc::{AllocError, Global};
 use std::process::Abort;
+use std::random::RandomSource;
 use std::sync::Wait;
 use std::test::Fail;
 use std::thread::Threads;
@@ -235,7 +236,7 @@ fn content_of(alloc: Global, tokens: &[&str]) -> Result<Vec<u8>, AllocError> {
 }
 
 /// What a run over the file of a sample writes.
-fn written<R: Threads + Wait + Sync + AllocGlobal>(
+fn written<R: Threads + Wait + Sync + RandomSource + AllocGlobal>(
     rt: &R,
     sample: Sample,
     script: &[u8],
@@ -281,7 +282,7 @@ impl Play {
 }
 
 /// The script is answered as it is to be, over the file of a sample.
-fn is_played<R: Threads + Wait + Sync + AllocGlobal + Abort>(
+fn is_played<R: Threads + Wait + Sync + RandomSource + AllocGlobal + Abort>(
     rt: &R,
     sample: Sample,
     play: &Play,
@@ -293,7 +294,7 @@ fn is_played<R: Threads + Wait + Sync + AllocGlobal + Abort>(
 }
 
 /// Each query is answered over a text as by the plain program.
-fn each_is_answered_plainly<R: Threads + Wait + Sync + AllocGlobal + Abort>(
+fn each_is_answered_plainly<R: Threads + Wait + Sync + RandomSource + AllocGlobal + Abort>(
     rt: &R,
     sample: Sample,
 ) -> Result<(), AllocError> {
@@ -327,7 +328,7 @@ fn has<R: Abort>(rt: &R, query: &str, list: &IntervalList, intervals: &[(u64, u6
 }
 
 /// Each query of a table denotes its intervals, by the plain program and by a run.
-fn each_denotes<R: Threads + Wait + Sync + AllocGlobal + Abort>(
+fn each_denotes<R: Threads + Wait + Sync + RandomSource + AllocGlobal + Abort>(
     rt: &R,
     sample: Sample,
     rows: &[Row],

@@ -8,6 +8,7 @@ use query_run::{Limits, Status};
 use script_lang::{put_file, put_gone};
 use std::alloc::{AllocError, Global};
 use std::process::Abort;
+use std::random::RandomSource;
 use std::sync::Wait;
 use std::test::Fail;
 use std::thread::Threads;
@@ -55,7 +56,7 @@ pub(crate) const SCRIPTS: [Row; 10] = [
 ];
 
 /// Each script has its output, and its run ends with this status.
-fn each_is_answered<R: Threads + Wait + Sync + AllocGlobal + Abort>(
+fn each_is_answered<R: Threads + Wait + Sync + RandomSource + AllocGlobal + Abort>(
     rt: &R,
     rows: &[Row],
     status: Status,
@@ -73,7 +74,7 @@ fn files_are_added_listed_and_deleted(rt: HostRuntime) -> Result<(), Fail> {
 }
 
 /// Each script has its output, with this number of readers, and with at most this number of queries in a batch.
-fn each_is_shared<R: Threads + Wait + Sync + AllocGlobal + Abort>(
+fn each_is_shared<R: Threads + Wait + Sync + RandomSource + AllocGlobal + Abort>(
     rt: &R,
     readers: usize,
     batch: u64,
@@ -114,6 +115,71 @@ fn merges_all_along_give_the_same_bytes_with_any_readers(rt: HostRuntime) -> Res
     for readers in [1, 2, 4, 16, 1, 2, 4, 16, 16, 4] {
         let got = served(&rt, readers, &limits, script.as_slice())?;
         serves(&rt, &readers, &got, (Status::Done, 500, want.as_slice()));
+    }
+    Ok(())
+}
+
+// Prefix terms, each of which stands for all words that begin so.
+const PREFIXES: [Row; 6] = [
+    (
+        "each word that begins so is found",
+        b"add a\nfind \"TO\"*\nfind \"b\"* .. \"t\"*\n",
+        b"file 0 0 7\n1 1\n5 5\n= 2\n2 5\n= 1\n",
+    ),
+    (
+        "a prefix is an operand as any other",
+        b"add a\ncount \"o\"* + \"n\"*\ntop 1 \"t\"*\nfind \"not\"* < (\"b\"*..\"t\"*)\nfind \"z\"*\nfind \"z\"* + \"or\"*\n",
+        b"file 0 0 7\n= 2\n1 1\n= 1\n4 4\n= 1\n= 0\n3 3\n= 1\n",
+    ),
+    (
+        "words of several slots are found, and none that is deleted",
+        b"add p\nadd b\nadd a\ncount \"t\"*\ndel 0\nfind \"t\"*\ndel 2\ncount \"t\"*\n",
+        b"file 0 0 14\nfile 1 15 16\nfile 2 17 24\n= 4\ngone 0\n18 18\n22 22\n= 2\ngone 2\n= 0\n",
+    ),
+    (
+        "words that are deleted alone are no match",
+        b"add a\nadd p\ndel 1\nfind \"h\"*\nmerge\nfind \"h\"*\ncount \"o\"*\n",
+        b"file 0 0 7\nfile 1 8 22\ngone 1\n= 0\nmerging\n= 0\n= 1\n",
+    ),
+    (
+        "a merge between changes no answer",
+        b"add a\nadd p\nfind \"t\"* ^ \"h\"*\nmerge\nfind \"t\"* ^ \"h\"*\nfind \"t\"*\n",
+        b"file 0 0 7\nfile 1 8 22\n5 11\n11 14\n= 2\nmerging\n5 11\n11 14\n= 2\n1 1\n5 5\n14 14\n18 18\n= 4\n",
+    ),
+    (
+        "a prefix that is a word itself finds it too",
+        b"add a\nfind \"be\"*\nfind \"be\"\n",
+        b"file 0 0 7\n2 2\n6 6\n= 2\n2 2\n6 6\n= 2\n",
+    ),
+];
+
+#[test]
+fn a_prefix_stands_for_each_word_that_begins_so(rt: HostRuntime) -> Result<(), Fail> {
+    each_is_answered(&rt, &PREFIXES, Status::Done)?;
+    Ok(())
+}
+
+#[test]
+fn what_is_no_prefix_is_refused_at_its_place(rt: HostRuntime) -> Result<(), Fail> {
+    let script =
+        b"add a\nfind \"t\"*\nfind \"n\"* ^ \"o\"*\nfind \"z\"*\nfind \"to be\"*\nfind \"to\" *\nfind \"<t>\"*\ncount \"\"*\ntop 1 \"t\"**\n";
+    let want =
+        b"file 0 0 7\n1 1\n5 5\n= 2\n3 4\n= 1\n= 0\n! query at 0: bad prefix\n! query at 5: character\n! query at 0: bad prefix\n! query at 0: empty term\n! query at 4: character\n";
+    let want = (Status::DoneWithRefusals, want.as_slice());
+    answers(&rt, &"prefixes", &[], script, want)?;
+    Ok(())
+}
+
+#[test]
+fn seventy_queries_beside_a_merge_are_cut_into_batches(rt: HostRuntime) -> Result<(), Fail> {
+    let queries = repeated(rt.alloc(), b"find \"to\"\n", 70)?;
+    let script = joined(rt.alloc(), &[b"add a\nmerge\n", queries.as_slice()])?;
+    let lists = repeated(rt.alloc(), b"1 1\n5 5\n= 2\n", 70)?;
+    let want = joined(rt.alloc(), &[b"file 0 0 7\nmerging\n", lists.as_slice()])?;
+    for readers in [b"1".as_slice(), b"16"] {
+        let words = [b"--readers".as_slice(), readers];
+        let want = (Status::Done, want.as_slice());
+        answers(&rt, &readers, &words, script.as_slice(), want)?;
     }
     Ok(())
 }
@@ -218,7 +284,7 @@ pub(crate) const QUERIES: [(&[u8], &[u8]); 15] = [
 ];
 
 /// A line after `add a`, in two parts, has this answer.
-fn is_answered_over_a<R: Threads + Wait + Sync + AllocGlobal + Abort>(
+fn is_answered_over_a<R: Threads + Wait + Sync + RandomSource + AllocGlobal + Abort>(
     rt: &R,
     line: (&[u8], &[u8]),
     want: (Status, &[u8]),
@@ -312,7 +378,7 @@ const FAULTS: [(&[u8], &[u8]); 12] = [
 ];
 
 /// A text after `find` is refused so.
-fn is_no_query<R: Threads + Wait + Sync + AllocGlobal + Abort>(
+fn is_no_query<R: Threads + Wait + Sync + RandomSource + AllocGlobal + Abort>(
     rt: &R,
     query: &[u8],
     fault: &[u8],
@@ -470,7 +536,7 @@ const ENDS: [(&str, &[u8], [u64; 3], Status, &[u8]); 10] = [
 ];
 
 /// How a run ends whose objects fail at these calls.
-fn ends_at<R: Threads + Wait + Sync + AllocGlobal + Abort>(
+fn ends_at<R: Threads + Wait + Sync + RandomSource + AllocGlobal + Abort>(
     rt: &R,
     name: &str,
     script: &[u8],
@@ -494,7 +560,7 @@ fn a_run_ends_at_the_first_fault_of_each_object(rt: HostRuntime) -> Result<(), F
     Ok(())
 }
 
-const MERGES: [Row; 7] = [
+const MERGES: [Row; 8] = [
     (
         "a merge behind each command changes no answer",
         b"add a\nmerge\nadd b\nmerge\ndel 0\nmerge\nadd a\nmerge\nfind \"to\"\nmerge\nfiles\nmerge\n",
@@ -519,6 +585,11 @@ const MERGES: [Row; 7] = [
         "two merges in a row come before the next add",
         b"add p\nadd b\nmerge\nmerge\nadd b\nshards\n",
         b"file 0 0 14\nfile 1 15 16\nmerging\nmerging\nfile 2 17 18\nshards 2\n",
+    ),
+    (
+        "five small files share a slot, and the sixth has one of its own",
+        b"add b\nadd b\nadd b\nadd b\nadd b\nshards\nadd b\nshards\n",
+        b"file 0 0 1\nfile 1 2 3\nfile 2 4 5\nfile 3 6 7\nfile 4 8 9\nshards 1\nfile 5 10 11\nshards 2\n",
     ),
     (
         "a slot of deleted files goes at a merge",

@@ -9,6 +9,7 @@ use query_run::{Limits, Status};
 use script_lang::{put_file, put_interval, put_total};
 use std::alloc::{AllocError, Global};
 use std::process::Abort;
+use std::random::RandomSource;
 use std::sync::Wait;
 use std::sync::atomic::{AtomicU64, Ordering};
 use std::test::Fail;
@@ -101,7 +102,7 @@ fn limited(script: u64) -> Limits {
 
 /// How `serve` ends with this number of readers and by these limits, where `x` has `words` words and the source hands over at most `most`
 /// bytes a call.
-pub(crate) fn in_pieces<R: Threads + Wait + Sync + AllocGlobal + Abort>(
+pub(crate) fn in_pieces<R: Threads + Wait + Sync + RandomSource + AllocGlobal + Abort>(
     rt: &R,
     readers: usize,
     limits: &Limits,
@@ -124,7 +125,7 @@ const ANSWERS: &[u8] =
     b"file 0 0 7\nfile 1 8 9\n1 1\n5 5\n= 2\n= 2\n1 2\n= 1\n! long line\nmerging\n= 1\n! command\nshards 1\n= 1\n";
 
 /// Each script has its output where the source hands over at most `most` bytes a call.
-fn each_is_answered_in_pieces<R: Threads + Wait + Sync + AllocGlobal + Abort>(
+fn each_is_answered_in_pieces<R: Threads + Wait + Sync + RandomSource + AllocGlobal + Abort>(
     rt: &R,
     most: usize,
 ) -> Result<(), AllocError> {
@@ -244,7 +245,7 @@ const PARTS: [(&[u8], &[u8]); 20] = [
 ];
 
 /// The parts are answered in turns with this number of readers.
-fn is_answered_in_turns<R: Threads + Wait + Sync + AllocGlobal + Abort>(
+fn is_answered_in_turns<R: Threads + Wait + Sync + RandomSource + AllocGlobal + Abort>(
     rt: &R,
     readers: usize,
     want: &[u8],
@@ -320,7 +321,7 @@ fn lists_longer_than_a_page_are_written_to_their_ends(rt: HostRuntime) -> Result
 }
 
 /// This is written where the sink takes at most `most` bytes a call, and no call gets more than a piece.
-fn is_written_in_pieces<R: Threads + Wait + Sync + AllocGlobal + Abort>(
+fn is_written_in_pieces<R: Threads + Wait + Sync + RandomSource + AllocGlobal + Abort>(
     rt: &R,
     script: &[u8],
     want: &[u8],

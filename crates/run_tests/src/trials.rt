@@ -11,6 +11,7 @@ use query_run::{Limits, Status, run, serve};
 use std::alloc::{AllocError, Global};
 use std::fmt::Debug;
 use std::process::Abort;
+use std::random::RandomSource;
 use std::sync::Wait;
 use std::thread::Threads;
 
@@ -187,7 +188,7 @@ pub(crate) fn serves<R: Abort, C: Debug>(
 
 /// The status of a run with these words over these objects.
 pub(crate) fn ran<
-    R: Threads + Wait + Sync + AllocGlobal,
+    R: Threads + Wait + Sync + RandomSource + AllocGlobal,
     F: Files,
     S: Source,
     K: Sink,
@@ -202,11 +203,25 @@ pub(crate) fn ran<
 ) -> Result<Status, AllocError> {
     let alloc = rt.alloc();
     let words = list(alloc, words)?;
-    Ok(run(rt, alloc, words.as_slice(), files, source, sink, gate))
+    let mut completed = 0;
+    Ok(run(
+        rt,
+        alloc,
+        words.as_slice(),
+        files,
+        source,
+        sink,
+        gate,
+        &mut completed,
+    ))
 }
 
 /// The status of a run of this script over these files, which it may change, and what was written.
-pub(crate) fn run_over<R: Threads + Wait + Sync + AllocGlobal, F: Files, G: Gate + Sync>(
+pub(crate) fn run_over<
+    R: Threads + Wait + Sync + RandomSource + AllocGlobal,
+    F: Files,
+    G: Gate + Sync,
+>(
     rt: &R,
     words: &[&[u8]],
     files: &mut F,
@@ -220,7 +235,7 @@ pub(crate) fn run_over<R: Threads + Wait + Sync + AllocGlobal, F: Files, G: Gate
 }
 
 /// A run with these words of this script, over the files that are held, ends so.
-pub(crate) fn answers<R: Threads + Wait + Sync + AllocGlobal + Abort, C: Debug>(
+pub(crate) fn answers<R: Threads + Wait + Sync + RandomSource + AllocGlobal + Abort, C: Debug>(
     rt: &R,
     case: &C,
     words: &[&[u8]],
@@ -235,7 +250,7 @@ pub(crate) fn answers<R: Threads + Wait + Sync + AllocGlobal + Abort, C: Debug>(
 
 /// The status of `serve` with this number of readers and by these limits, and the number of lines that it completed.
 pub(crate) fn served_from<
-    R: Threads + Wait + Sync + AllocGlobal + Abort,
+    R: Threads + Wait + Sync + RandomSource + AllocGlobal + Abort,
     F: Files,
     S: Source,
     K: Sink,
@@ -271,7 +286,7 @@ pub(crate) fn served_from<
 }
 
 /// How `serve` ends over these files, which it may change.
-pub(crate) fn served_over<R: Threads + Wait + Sync + AllocGlobal + Abort, F: Files>(
+pub(crate) fn served_over<R: Threads + Wait + Sync + RandomSource + AllocGlobal + Abort, F: Files>(
     rt: &R,
     readers: usize,
     limits: &Limits,
@@ -285,7 +300,7 @@ pub(crate) fn served_over<R: Threads + Wait + Sync + AllocGlobal + Abort, F: Fil
 }
 
 /// How `serve` ends over the files that are held.
-pub(crate) fn served<R: Threads + Wait + Sync + AllocGlobal + Abort>(
+pub(crate) fn served<R: Threads + Wait + Sync + RandomSource + AllocGlobal + Abort>(
     rt: &R,
     readers: usize,
     limits: &Limits,

@@ -6,7 +6,8 @@ use address_space::is_name;
 use collection::{Engine, Opened};
 use gcl_model::IntervalList;
 use outside::FreeGate;
-use query_lanes::{Ask, Asked, Context, Found, Listing, Search, answer_batch};
+use query_lanes::{Ask, Asked, Context, Found, answer_batch};
+use query_search::{Listing, Search};
 use std::alloc::{AllocError, Global};
 use std::sync::Wait;
 use std::test::Fail;
@@ -145,7 +146,7 @@ fn pages_searched(
     let Ok(expr) = query(alloc, b"\"x\"")? else {
         return Err(AllocError);
     };
-    let mut search = Search::of(pass, expr);
+    let mut search = Search::of(alloc, pass, expr)?;
     for most in sizes {
         let left = search.count();
         let page = search.page(alloc, *most)?;

@@ -1,7 +1,8 @@
 //! Tests of the public calls of the crates that read scripts and words, make a corpus and answer batches.
 //!
 //! They stand apart from those crates, since a crate that has tests is proved twice. `script` is of `script_lang`,
-//! `corpus` of `made_corpus`, `options` of `command_words`, and `batches` and `batch_pages` are of `query_lanes`.
+//! `corpus` of `made_corpus`, `options` of `command_words`, `batches` and `batch_pages` of `query_lanes`, and `readers` of
+//! `query_search`.
 //!
 //! Beside them there are `fixtures`: what several tests begin with. Of an engine of no file with four readers each
 //! reader is of that engine.
@@ -16,5 +17,7 @@ mod corpus;
 pub mod fixtures;
 #[cfg(test)]
 mod options;
+#[cfg(test)]
+mod readers;
 #[cfg(test)]
 mod script;
