@@ -12,7 +12,7 @@ ln -s "$gclq" gclq
 gclgrep=${GCLGREP:-$here/crates/gclgrep/out/gclgrep}
 [ -n "${GCLGREP:-}" ] || "$here/gclgrep" --version > /dev/null
 ln -s "$gclgrep" gclgrep
-[ $# -gt 0 ] || set -- README.md docs/SCRIPT.md docs/QUERY.md docs/GALLERY.md docs/GREP.md
+[ $# -gt 0 ] || set -- README.md docs/SCRIPT.md docs/QUERY.md docs/GALLERY.md docs/LIMITS.md docs/GREP.md
 python3 - "$here" "$@" <<'P'
 import difflib, re, subprocess, sys
 

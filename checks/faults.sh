@@ -38,10 +38,10 @@ says() { printf '%s\n' "$@" > script; }
 
 skips() { echo "skipped: $1" >&2; }
 
-# what is said of a file that was to be read, or saved: its name, and why
-cannot_read() { echo "gclq: cannot read \"$1\": $2"; }
+# what is said of a file that was to be read, or saved: its name, why, and in which line of the script, the first one unless that is given
+cannot_read() { echo "gclq: line ${3:-1}: cannot read \"$1\": $2"; }
 
-cannot_save() { echo "gclq: cannot save \"$1\": $2"; }
+cannot_save() { echo "gclq: line ${3:-1}: cannot save \"$1\": $2"; }
 
 no_file='there is no such file: give its path from the folder where gclq runs'
 no_folder='there is no such folder: make it first'
@@ -121,19 +121,21 @@ compares 'answers that fill a disk' 4 "$got" '' "$output"
 
 # names
 says 'add a' 'add missing' 'add a'
-expects 'a name that is not there' 5 "$added" "$(cannot_read missing "$no_file")" "$gclq"
+expects 'a name that is not there' 5 "$added" "$(cannot_read missing "$no_file" 2)" "$gclq"
+says '' 'add a' 'count "to"' 'del 9' '' 'add missing'
+expects 'the line that names it, after others' 5 $'file 0 0 7\n= 2\n! no file 9' "$(cannot_read missing "$no_file" 6)" "$gclq"
 mkdir folder
 says 'add a' 'add folder'
-expects 'a folder' 5 "$added" "$(cannot_read folder "$a_folder")" "$gclq"
+expects 'a folder' 5 "$added" "$(cannot_read folder "$a_folder" 2)" "$gclq"
 says 'open folder'
 expects 'a folder as an image' 5 '' "$(cannot_read folder "$a_folder")" "$gclq"
 says 'open missing'
 expects 'an image that is not there' 5 '' "$(cannot_read missing "$no_file")" "$gclq"
 says 'add a' 'add /proc/self/mem'
-expects 'a file of which a read fails' 5 "$added" "$(cannot_read /proc/self/mem "$no_read")" "$gclq"
+expects 'a file of which a read fails' 5 "$added" "$(cannot_read /proc/self/mem "$no_read" 2)" "$gclq"
 ln -s loop loop
 says 'add a' 'add loop'
-expects 'a link to itself' 5 "$added" "$(cannot_read loop "$a_circle")" "$gclq"
+expects 'a link to itself' 5 "$added" "$(cannot_read loop "$a_circle" 2)" "$gclq"
 : > told
 got=0; "$gclq" < script > written 2>&- || got=$?
 compares 'no standard error' 5 "$got" "$added" "$none"
@@ -161,11 +163,11 @@ if as_nobody "$gclq" < /dev/null > /dev/null 2>&1; then
   printf 'old' > shut/i
   chmod 555 shut
   says 'add a' 'add hidden'
-  expects 'a file that may not be read' 5 "$added" "$(cannot_read hidden "$not_read")" as_nobody "$gclq"
+  expects 'a file that may not be read' 5 "$added" "$(cannot_read hidden "$not_read" 2)" as_nobody "$gclq"
   says 'open hidden'
   expects 'an image that may not be read' 5 '' "$(cannot_read hidden "$not_read")" as_nobody "$gclq"
   says 'add a' 'save shut/i'
-  expects 'a folder that may not be written' 5 "$added" "$(cannot_save shut/i "$not_written")" as_nobody "$gclq"
+  expects 'a folder that may not be written' 5 "$added" "$(cannot_save shut/i "$not_written" 2)" as_nobody "$gclq"
   [ "$(cat shut/i)" = old ]
   chmod 755 shut
 else
@@ -185,7 +187,7 @@ wait
 
 # saving: the old image stands until the new one takes its name
 says 'add a' 'save i' 'save /dev/null'
-expects 'a device' 5 $'file 0 0 7\nsaved 97' "$(cannot_save /dev/null "$a_device")" "$gclq"
+expects 'a device' 5 $'file 0 0 7\nsaved 97' "$(cannot_save /dev/null "$a_device" 3)" "$gclq"
 cp i old
 says 'save folder'
 expects 'a folder to save as' 5 '' "$(cannot_save folder "$a_folder")" "$gclq"
@@ -194,7 +196,7 @@ expects 'a folder that is not there' 5 '' "$(cannot_save nowhere/i "$no_folder")
 for ((n = 0; n < 20000; n++)); do echo "w$n"; done > big
 says 'add big' 'save i' 'add a'
 fills() { (trap '' XFSZ; ulimit -f 8; "$gclq"); }
-expects 'a disk that fills up' 5 'file 0 0 20001' "$(cannot_save i "$no_room")" fills
+expects 'a disk that fills up' 5 'file 0 0 20001' "$(cannot_save i "$no_room" 2)" fills
 cmp i old
 [ "$(find . -name '.gclq-*' | wc -l)" = 0 ]
 killed() { (ulimit -c 0; ulimit -f 8; exec "$gclq"); }
@@ -212,7 +214,7 @@ mkdir full
 on_full() { unshare -m sh -c "mount -t tmpfs -o size=64k none $full && cp $work/old $full/i && { $gclq; got=\$?; cmp $full/i $work/old && exit \$got; }"; }
 if unshare -m sh -c "mount -t tmpfs -o size=64k none $full" 2> /dev/null; then
   says 'add big' 'save full/i'
-  expects 'a full disk' 5 'file 0 0 20001' "$(cannot_save full/i "$no_room")" on_full
+  expects 'a full disk' 5 'file 0 0 20001' "$(cannot_save full/i "$no_room" 2)" on_full
 else
   skips 'a full disk of its own: nothing may be mounted'
 fi

@@ -63,6 +63,23 @@ else
   skips 'the order of the calls: there is no strace'
 fi
 
+# an image above 1 MiB is kept and opened as any other
+seq -f 'w%.0f' 1 150000 > words
+is 'a long image' "$(runs 'add words\nsave long\n' | tr -d 0-9)" $'file   \nsaved \nstatus '
+[ "$(stat -c %s long)" -gt 1048576 ] || fails 'a long image is short'
+is 'a long image is opened' "$(runs 'open long\ncount "w77777"\n')" $'opened 1\n= 1\nstatus 0'
+rm long
+
+# the hashes of a run begin with random bytes, and where there are none a run answers the same
+if command -v strace > /dev/null && strace -o /dev/null true 2> /dev/null; then
+  printf 'add a\n' | strace -f -o calls -e trace=getrandom "$gclq" > /dev/null
+  is 'random bytes' "$(grep -c ', 16, ' calls)" 1
+  got=$(printf 'add a\ncount "to"\n' | strace -f -o calls -e trace=getrandom -e inject=getrandom:error=EIO "$gclq")
+  is 'no random bytes' "$got" $'file 0 0 7\n= 2'
+else
+  skips 'random bytes: there is no strace'
+fi
+
 # what 1,000 killed saves left is in nobody's way, and is left as it is
 mkdir left
 for ((n = 0; n < 1000; n++)); do echo "$n" > left/.gclq-$n.new; done
@@ -109,9 +126,9 @@ fi
 
 # names go to standard error with escapes, and are taken as they are
 runs $'add to\xc2\x9bbe\n' > /dev/null
-is 'a control character of eight bits' "$(cut -d: -f2 told)" ' cannot read "to\u{9b}be"'
+is 'a control character of eight bits' "$(cut -d: -f2-3 told)" ' line 1: cannot read "to\u{9b}be"'
 runs $'add to\xe2\x80\xaebe\n' > /dev/null
-is 'a name from right to left' "$(cut -d: -f2 told)" ' cannot read "to\u{202e}be"'
+is 'a name from right to left' "$(cut -d: -f2-3 told)" ' line 1: cannot read "to\u{202e}be"'
 for name in '~/a' '"a"' "'a'" '*.txt'; do
   runs "add $name\\n" > /dev/null
   is 'a name for a shell' "$(grep -c 'a name is taken as it is' told)" 1

@@ -1,0 +1,71 @@
+#!/usr/bin/env bash
+# Queries in which a containment asks an operand that holds another one: bench/nested.sh [FOLDER]. Over texts of one word, 500 to 4,000 times,
+# ("a" + ("a" /< [1])) /< [1] and the like to depth 8, by both "not" operators: milliseconds, how they grow from half the words (target 2.3),
+# and those of depth 8 over 4,000 words (target 20). Over the files of a folder, by default none, such as the King James Bible with the
+# elements book, chapter and verse: milliseconds of queries that somebody may write, beside a count of the verses.
+. "$(dirname "$0")/common.sh"
+need_gclq
+python3 - "$program" "$work" "${1:-}" <<'P'
+import os, subprocess, sys
+from asking import ask
+program, work, folder = sys.argv[1:]
+
+def best(run, line):
+    """The answer, and the least milliseconds of some askings."""
+    end, took = ask(run, line)
+    for _ in range(20 if took < 0.2 else 2):
+        took = min(took, ask(run, line)[1])
+    return end, took * 1e3
+
+def nested(operator, depth):
+    query = f'"a" {operator} [1]'
+    for _ in range(depth - 1):
+        query = f'("a" + ({query})) {operator} [1]'
+    return query
+
+sizes = [500, 1000, 2000, 4000]
+took = {}
+for size in sizes:
+    with open(os.path.join(work, f"t{size}"), "w") as out:
+        out.write("a " * size)
+    run = subprocess.Popen([program], cwd=work, stdin=subprocess.PIPE, stdout=subprocess.PIPE)
+    ask(run, f"add t{size}")
+    empty = best(run, 'count "zzxqq"')[1]
+    for operator in ["/<", "/>"]:
+        for depth in range(2, 9):
+            took[operator, depth, size] = max(0.001, best(run, f"count {nested(operator, depth)}")[1] - empty)
+    run.stdin.close()
+    run.wait()
+for operator in ["/<", "/>"]:
+    for depth in range(2, 9):
+        times = [took[operator, depth, size] for size in sizes]
+        grown = ", ".join(f"{after / before:.2f}" for before, after in zip(times, times[1:]))
+        print(f"{operator} depth {depth}: {times[0]:.2f} ms over {sizes[0]} words, and at twice as many each time {grown} times as long (target 2.3); {times[-1]:.2f} ms over {sizes[-1]}")
+print(f"depth 8 over {sizes[-1]} words: {max(took[operator, 8, sizes[-1]] for operator in ['/<', '/>']):.2f} ms (target 20)")
+
+if folder:
+    verse = '("<verse>".."</verse>")'
+    chosen = os.path.join(folder, "LIST.txt")
+    names = open(chosen).read().split() if os.path.exists(chosen) else sorted(os.listdir(folder))
+    run = subprocess.Popen([program], cwd=folder, stdin=subprocess.PIPE, stdout=subprocess.PIPE)
+    for name in names:
+        ask(run, f"add {name}")
+    queries = [
+        f'count {verse}',
+        f'count {verse} > ("the" + ("and" /< {verse}))',
+        f'count ("the" + ("and" /< {verse})) /< {verse}',
+        f'count {verse} > (("the" + ("and" /< {verse})) /< {verse})',
+        f'count ("lord" + ({verse} /> [1])) > "the"',
+        f'count ("lord" + ("god" /< {verse})) /< {verse}',
+        f'find (("the" + ("and" /< {verse})) < {verse}) > "moses"',
+        f'count "the" /< ("and" /< {verse})',
+        f'count "the" < ("and" < {verse})',
+        f'count {verse} > (("moses" ^ ("the" < {verse})) < [20])',
+        f'count "manna" ^ ("the" < {verse})',
+    ]
+    for query in queries:
+        end, milliseconds = best(run, query)
+        print(f"{milliseconds:10.2f} ms  {end:>10}  {query}")
+    run.stdin.close()
+    run.wait()
+P
