@@ -2,7 +2,8 @@
 //!
 //! They stand apart from those crates, since a crate that has tests is proved twice. `model` is of `gcl_model`, `addresses` of
 //! `address_space`, `tokens` of `word_tokens`, `queries` of `gcl_parser`, `order`, `combine` and `contain` of the operators, `widths` of
-//! `fixed_width`, `phrases` of `phrase_walk` and `readers` of `gcl_readers`. Over `to be or not to be` the query `"to be"` has two members.
+//! `fixed_width`, `phrases` of `phrase_walk` and `readers` of `gcl_readers`. `fixtures` is what several
+//! begin with. Over `to be or not to be` the query `"to be"` has two members.
 #![tactic(auto)]
 
 #[cfg(test)]
@@ -11,6 +12,7 @@ mod addresses;
 mod combine;
 #[cfg(test)]
 mod contain;
+pub mod fixtures;
 #[cfg(test)]
 mod model;
 #[cfg(test)]

@@ -1,12 +1,7 @@
-ghost use Rattle.std.specs.Prelude.{◌<◌, ◌≤◌, IfSome};
-ghost use Rattle.gcl_model.specs.Limits.{far};
-ghost use Rattle.gcl_model.specs.FormOf.{form_of};
-ghost use Rattle.gcl_model.specs.WellFormed.{IsWellFormed};
+ghost use Rattle.std.specs.Prelude.{◌<◌, ◌≤◌};
 
-use gcl_model::{
-    ADDRESS_END, Bytes, Expr, Interval, IntervalList, Ledger, Question, Steps, TokenList, counted,
-};
-use gcl_parser::parse;
+use crate::fixtures::{behind, expression};
+use gcl_model::{Bytes, Expr, Interval, IntervalList, Ledger, Question, Steps, TokenList, counted};
 use gcl_readers::{Readers, read_count, read_list_from};
 use plain_text::{PlainText, of_tokens, slow_list};
 use std::alloc::{AllocError, Global};
@@ -64,24 +59,6 @@ fn push_all(all: &mut IntervalList, page: &[Interval]) -> Result<(), AllocError>
         all.push(*member)?;
     }
     Ok(())
-}
-
-/// Behind the start of the last member, or k.
-fn behind(members: &[Interval], k: u64) -> u64
-    requires { k < far }
-    ensures { result < far }
-{
-    match members.last() {
-        Some(member) => member.start.min(ADDRESS_END) + 1,
-        None => k,
-    }
-}
-
-/// The expression of a query.
-fn expression(alloc: Global, query: &[u8]) -> Option<Expr>
-    ensures { IfSome result (λ expr. IsWellFormed (form_of expr)) }
-{
-    parse(alloc, query).ok()
 }
 
 /// How many members there are.

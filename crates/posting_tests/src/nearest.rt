@@ -1,6 +1,4 @@
-ghost use Rattle.std.specs.Prelude.{IfOk};
-ghost use Rattle.posting_code.specs.Postings.{ArePostings};
-
+use crate::fixtures::addresses;
 use gcl_model::{Ledger, Question, Steps, counted};
 use posting_access::{at_or_after, at_or_before, rank};
 use posting_code::{ADDRESS_END, Postings, encode};
@@ -63,23 +61,6 @@ impl Question for Rank<'_> {
     }
 }
 
-/// Some addresses from 3 on, each `gap` above the one before, and no more than fit.
-fn addresses(alloc: Global, count: u16, gap: u64) -> Result<Vec<u64>, AllocError>
-    ensures { IfOk result (λ numbers. ArePostings numbers.items) }
-{
-    let mut numbers = Vec::new(alloc);
-    let mut next = 3;
-    for i in 0..count {
-        let _ = i;
-        if gap == 0 || ADDRESS_END <= gap || ADDRESS_END <= next {
-            return Ok(numbers);
-        }
-        numbers.push(next)?;
-        next += gap;
-    }
-    Ok(numbers)
-}
-
 /// Both look-ups at `k`, and how many probes each took.
 fn look_up(list: &Postings<'_>, k: u64) -> ((Option<u64>, Option<u64>), (u64, u64)) {
     let (least, forward) = counted(&Nearest {
@@ -112,7 +93,7 @@ fn look_ups_are_those_of_a_look_at_each_address_within_the_digits_of_the_length(
     ];
     for (count, digits) in counts {
         for gap in [1, 127, 128, 1 << 14, 1 << 46, 1 << 55] {
-            let addresses = addresses(rt.alloc(), count, gap)?;
+            let addresses = addresses(rt.alloc(), 3, count, gap)?;
             let list = encode(rt.alloc(), &addresses)?;
             let list = list.as_postings();
             for member in &addresses {
@@ -147,7 +128,7 @@ fn a_rank_is_the_number_of_addresses_below_within_the_digits_of_the_length(
         (1000, 5),
     ] {
         for gap in [1, 1 << 14, 1 << 46] {
-            let addresses = addresses(rt.alloc(), count, gap)?;
+            let addresses = addresses(rt.alloc(), 3, count, gap)?;
             let list = encode(rt.alloc(), &addresses)?;
             let list = list.as_postings();
             for member in &addresses {
@@ -194,7 +175,7 @@ fn each_reading_of_a_first_address_is_a_probe(rt: HostRuntime) -> Result<(), All
     let none = none.as_postings();
     assert_eq!(rt; look_up(&none, 3).1, (0, 0));
     // two blocks: behind the first one and before the second, the first address of the second is read once more
-    let two = addresses(rt.alloc(), 65, 10)?;
+    let two = addresses(rt.alloc(), 3, 65, 10)?;
     let two = encode(rt.alloc(), &two)?;
     let two = two.as_postings();
     assert_eq!(rt; look_up(&two, 640), ((Some(643), Some(633)), (3, 2)));

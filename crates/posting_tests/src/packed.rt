@@ -1,28 +1,12 @@
-ghost use Rattle.std.specs.Prelude.{◌≡◌, ◌<◌, ◌++◌, length, IfOk};
+ghost use Rattle.std.specs.Prelude.{◌≡◌, ◌<◌, ◌++◌, length};
 ghost use Rattle.posting_code.specs.Postings.{ArePostings};
 
+use crate::fixtures::addresses;
 use posting_code::{
     ADDRESS_END, BLOCK, Number, PostingList, PostingMaker, PostingRows, Postings, encode,
     get_number, put_number,
 };
 use std::alloc::{AllocError, Global};
-
-/// Some addresses from `first` on, each `gap` above the one before, and no more than fit.
-fn addresses(alloc: Global, first: u64, count: u16, gap: u64) -> Result<Vec<u64>, AllocError>
-    ensures { IfOk result (λ numbers. ArePostings numbers.items) }
-{
-    let mut numbers = Vec::new(alloc);
-    let mut next = first;
-    for i in 0..count {
-        let _ = i;
-        if gap == 0 || ADDRESS_END <= gap || ADDRESS_END <= next {
-            return Ok(numbers);
-        }
-        numbers.push(next)?;
-        next += gap;
-    }
-    Ok(numbers)
-}
 
 /// The greatest member before `k`, and the least from `k` on, by a look at each.
 fn plain_around(members: &[u64], k: u64) -> (Option<u64>, Option<u64>) {

@@ -69,6 +69,8 @@ fn parts<'a>(command: &'a Command) -> (&'static str, u64, &'a [u8]) {
         Command::Shards => ("shards", 0, &[]),
         Command::Save(name) => ("save", 0, name.as_slice()),
         Command::Load(name) => ("open", 0, name.as_slice()),
+        Command::Watch(query) => ("watch", 0, query.as_slice()),
+        Command::Unwatch(number) => ("unwatch", *number, &[]),
         Command::Wrong => ("wrong", 0, &[]),
     }
 }
@@ -87,8 +89,12 @@ fn is_command<R: Abort>(
 
 #[test]
 fn each_command_takes_its_argument_and_no_other(rt: HostRuntime) -> Result<(), Fail> {
-    let cases: [(&[u8], &str, u64, &[u8]); 32] = [
+    let cases: [(&[u8], &str, u64, &[u8]); 36] = [
         (b"", "blank", 0, b""),
+        (b"watch \"a\"", "watch", 0, b"\"a\""),
+        (b"watch", "watch", 0, b""),
+        (b"unwatch 015", "unwatch", 15, b""),
+        (b"unwatch x", "wrong", 0, b""),
         (b"add a.txt", "add", 0, b"a.txt"),
         (b"add\t a b", "add", 0, b"a b"),
         (b"add", "wrong", 0, b""),
