@@ -1,4 +1,6 @@
 ghost use Rattle.std.specs.Prelude.{◌≡◌, IfOk};
+ghost use Rattle.std.specs.List.{fold};
+ghost use Rattle.std.specs.Hash as fed;
 ghost use Rattle.shard_build.specs.Met.{HasHead};
 
 use gcl_model::Bytes;
@@ -53,6 +55,15 @@ impl Name {
     }
 }
 
+/// Hashes bytes as a text is hashed.
+// The byte after them mixes once more what they gave, so that it takes the seed to know which of them share a place in a table.
+fn hash_bytes<H: Hasher>(bytes: &[u8], state: &mut H)
+    ensures { state.new ≡ fold H.write state.old (fed.str bytes.now) }
+{
+    state.write(bytes);
+    state.write_u8(0xff);
+}
+
 impl PartialEq for Name {
     ghost use Rattle.std.specs.Cmp.{partial_equiv_from_equiv};
     ghost use Rattle.std.specs.Cmp.Lexicographic.{nat_list_eq_equiv};
@@ -78,28 +89,66 @@ impl Hash for Name {
     ghost use Rattle.std.specs.Hash as fed;
     ghost use Rattle.std.proofs.Common.{ap};
 
-    ghost hash_input = { λ x. fed.slice fed.u8 x };
+    ghost hash_input = { λ x. fed.str x };
 
-    ghost respects_eq = { λ x y h. ap (fed.slice fed.u8) ((bytes_decides x y).0 h) };
+    ghost respects_eq = { λ x y h. ap fed.str ((bytes_decides x y).0 h) };
 
     fn hash<H: Hasher>(&self, state: &mut H) {
-        self.as_slice().hash(state);
+        hash_bytes(self.as_slice(), state);
     }
 }
 
-impl Equivalent<Name> for &[u8] {
+/// The bytes by which a name is looked up. They are hashed as the name is.
+#[derive(Clone, Copy)]
+pub(crate) struct Spelling<'a>(pub(crate) &'a [u8]);
+
+impl PartialEq for Spelling<'_> {
+    ghost use Rattle.std.specs.Cmp.{partial_equiv_from_equiv};
+    ghost use Rattle.std.specs.Cmp.Lexicographic.{on_texts_equal};
+    ghost use Rattle.std.specs.Str.{bytes_eq};
+
+    ghost eq = { λ x y. bytes_eq x.0.now y.0.now };
+
+    ghost laws = { partial_equiv_from_equiv (on_texts_equal (λ s. s.0.now)) };
+
+    fn eq(&self, other: &Self) -> bool {
+        self.0 == other.0
+    }
+}
+
+impl Eq for Spelling<'_> {
+    ghost use Rattle.std.specs.Cmp.Lexicographic.{on_texts_equal};
+
+    ghost laws = { on_texts_equal (λ s. s.0.now) };
+}
+
+impl Hash for Spelling<'_> {
+    ghost use Rattle.std.specs.Cmp.Lexicographic.{bytes_decides};
+    ghost use Rattle.std.specs.Hash as fed;
+    ghost use Rattle.std.proofs.Common.{ap};
+
+    ghost hash_input = { λ s. fed.str s.0.now };
+
+    ghost respects_eq = { λ x y h. ap fed.str ((bytes_decides x.0.now y.0.now).0 h) };
+
+    fn hash<H: Hasher>(&self, state: &mut H) {
+        hash_bytes(self.0, state);
+    }
+}
+
+impl Equivalent<Name> for Spelling<'_> {
     ghost use Rattle.std.specs.Cmp.Lexicographic.{bytes_decides, nat_list_eq_equiv};
     ghost use Rattle.std.specs.Hash as fed;
     ghost use Rattle.std.specs.Str.{bytes_eq};
     ghost use Rattle.std.proofs.Common.{ap};
 
-    ghost equivalent = { λ q k. bytes_eq q.now k };
+    ghost equivalent = { λ q k. bytes_eq q.0.now k };
 
-    ghost respects_hash = { λ q k h. ap (fed.slice fed.u8) ((bytes_decides q.now k).0 h) };
+    ghost respects_hash = { λ q k h. ap fed.str ((bytes_decides q.0.now k).0 h) };
 
-    ghost respects_eq = { λ q x y. nat_list_eq_equiv.congr q.now x y };
+    ghost respects_eq = { λ q x y. nat_list_eq_equiv.congr q.0.now x y };
 
     fn equivalent(&self, key: &Name) -> bool {
-        *self == key.as_slice()
+        self.0 == key.as_slice()
     }
 }

@@ -10,7 +10,7 @@ ghost use Rattle.shard_build.specs.Met.{HaveTokens, addresses_of, list_at, name_
 
 use crate::hint::Hint;
 use crate::lists::{clear_all, hand_over, push_at, seen_at};
-use crate::name::Name;
+use crate::name::{Name, Spelling};
 use crate::order::{sort_names, sort_seen};
 use crate::seeded::{NameLists, Seeded};
 use crate::seen::Seen;
@@ -107,7 +107,7 @@ impl Names {
         ensures list { IfOk result (λ number. list_at self.new.entries number ≡ unwrap_or (addresses_of self.old token.now) []) }
         ensures lists { OnOk result ((cs : List ℕ) → addresses_of self.new cs ≡ addresses_of self.old cs) }
     {
-        if let Some(number) = self.lists.get_index_of(token) {
+        if let Some(number) = self.lists.get_index_of(Spelling(token)) {
             return Ok(number);
         }
         let alloc = *self.seen.allocator();

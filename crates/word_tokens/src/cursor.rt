@@ -1,4 +1,4 @@
-ghost use Rattle.gcl_model.specs.Tokens.{tokens_of};
+ghost use Rattle.gcl_model.specs.Tokens.{close_token, open_token, tokens_of};
 ghost use Rattle.std.specs.Char.{to_ascii_lowercase};
 ghost use Rattle.std.specs.Prelude.{◌≡◌, ◌<◌, [], ◌∷◌, ◌++◌, length, map, true, false, IfOk, OnOk};
 ghost use Rattle.word_tokens.specs.Lexemes.{lexeme_tokens};
@@ -44,18 +44,18 @@ impl<'a> TokenCursor<'a> {
     {
         if let Some(name) = self.unclosed {
             self.unclosed = None;
-            put_token(token, b"</", name, b">")?;
+            put_closing(token, name)?;
             return Ok(true);
         }
         let (lexeme, rest) = next_lexeme(self.rest);
         self.rest = rest;
         match lexeme {
-            Lexeme::Word(word) => put_token(token, b"", word, b"")?,
-            Lexeme::OpenTag(name) => put_token(token, b"<", name, b">")?,
-            Lexeme::CloseTag(name) => put_token(token, b"</", name, b">")?,
+            Lexeme::Word(word) => put_word(token, word)?,
+            Lexeme::OpenTag(name) => put_opening(token, name)?,
+            Lexeme::CloseTag(name) => put_closing(token, name)?,
             Lexeme::EmptyTag(name) => {
                 self.unclosed = Some(name);
-                put_token(token, b"<", name, b">")?;
+                put_opening(token, name)?;
             }
             Lexeme::Separator => return Ok(false),
         }
@@ -80,7 +80,32 @@ fn next_lexeme(bytes: &[u8]) -> (Lexeme<'_>, &[u8])
     (Lexeme::Separator, rest)
 }
 
+/// Puts the word in lower case in place of what the buffer has.
+fn put_word(token: &mut Vec<u8>, word: &[u8]) -> Result<(), AllocError>
+    ensures { OnOk result (token.new.items ≡ map to_ascii_lowercase word.now) }
+{
+    token.clear();
+    append_lower_case(token, word)?;
+    Ok(())
+}
+
+/// Puts `<name>` in place of what the buffer has.
+fn put_opening(token: &mut Vec<u8>, name: &[u8]) -> Result<(), AllocError>
+    ensures { OnOk result (token.new.items ≡ open_token (map to_ascii_lowercase name.now)) }
+{
+    put_token(token, b"<", name, b">")
+}
+
+/// Puts `</name>` in place of what the buffer has.
+fn put_closing(token: &mut Vec<u8>, name: &[u8]) -> Result<(), AllocError>
+    ensures { OnOk result (token.new.items ≡ close_token (map to_ascii_lowercase name.now)) }
+{
+    put_token(token, b"</", name, b">")
+}
+
 /// Puts the name in lower case between these bytes in place of what the buffer has.
+// A part of its callers, where what stands around the name is known.
+#[inline(always)]
 fn put_token(
     token: &mut Vec<u8>,
     opening: &[u8],

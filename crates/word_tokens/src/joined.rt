@@ -1,6 +1,6 @@
 ghost use Rattle.std.specs.Char.{to_ascii_lowercase};
 ghost use Rattle.std.specs.List.{concat};
-ghost use Rattle.std.specs.Prelude.{◌≡◌, ◌<◌, ◌≤◌, [], ◌∷◌, ◌++◌, length, map, take, slice_index_or, OnOk, vec_len};
+ghost use Rattle.std.specs.Prelude.{◌≡◌, ◌↔◌, ◌<◌, ◌≤◌, [], ◌∷◌, ◌++◌, length, map, take, slice_index_or, IsTrue, OnOk, vec_len};
 ghost use Rattle.word_tokens.specs.Joined.{ends_from};
 ghost use Rattle.word_tokens.specs.Lexemes.{lexeme_tokens};
 
@@ -61,12 +61,23 @@ impl TokenText {
     }
 }
 
+/// Whether the name is in lower case as it stands.
+fn is_lower_case(name: &[u8]) -> bool
+    ensures { IsTrue result ↔ map to_ascii_lowercase name.now ≡ name.now }
+{
+    !name.iter().any(|b| b.is_ascii_uppercase())
+}
+
+/// Puts the name in lower case after the bytes.
+// Most names of a text are in lower case, and are copied as they stand.
 pub(crate) fn append_lower_case(bytes: &mut Vec<u8>, name: &[u8]) -> Result<(), AllocError>
     ensures { OnOk result (bytes.new.items ≡ bytes.old.items ++ map to_ascii_lowercase name.now) }
 {
     let start = bytes.len();
     bytes.extend_from_slice(name)?;
-    bytes[start..].make_ascii_lowercase();
+    if !is_lower_case(name) {
+        bytes[start..].make_ascii_lowercase();
+    }
     Ok(())
 }
 

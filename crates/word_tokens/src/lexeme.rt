@@ -12,6 +12,7 @@ ghost use Rattle.std.specs.Option.{option_map};
 ghost use Rattle.std.specs.Prelude.{◌≡◌, ◌+◌, ◌<◌, ◌≤◌, ◌++◌, length, take_while, if◌then◌else◌};
 ghost use Rattle.word_tokens.specs.Lexemes.{as_part, lexeme_tokens, part_of, tag_end};
 
+use crate::classes::{CLASSES, NAME, WORD};
 use memchr::memchr2;
 
 /// What a text begins with. The bytes stand as in the text, in either case.
@@ -32,18 +33,13 @@ pub enum Lexeme<'a> {
 fn is_word_byte(b: u8) -> bool
     ensures { result ≡ is_word_byte b }
 {
-    b.is_ascii_alphabetic() || b.is_ascii_digit() || b >= 128
+    CLASSES[b as usize] & WORD != 0
 }
 
 fn is_name_byte(b: u8) -> bool
     ensures { result ≡ is_name_byte b }
 {
-    b.is_ascii_alphabetic()
-        || b.is_ascii_digit()
-        || b == b'_'
-        || b == b'.'
-        || b == b':'
-        || b == b'-'
+    CLASSES[b as usize] & NAME != 0
 }
 
 /// How many bytes of a word the text begins with.

@@ -11,6 +11,7 @@
 //! these take.
 #![tactic(auto)]
 
+mod classes;
 mod cursor;
 mod cut;
 mod joined;
