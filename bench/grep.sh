@@ -42,9 +42,19 @@ def seconds(command):
     return best
 
 def kilobytes(command):
-    """The most memory of one run, told by a process of its own."""
-    tell = "import resource,subprocess,sys;subprocess.run(sys.argv[1:],stdout=subprocess.DEVNULL,stderr=subprocess.DEVNULL);print(resource.getrusage(resource.RUSAGE_CHILDREN).ru_maxrss)"
-    return int(subprocess.run([sys.executable, "-c", tell, *command], cwd=folder, capture_output=True, text=True).stdout)
+    """The most memory of one run, as the system has it just before its end: what is told of a child that has ended counts this process too."""
+    most = 0
+    with subprocess.Popen(command, cwd=folder, stdout=subprocess.DEVNULL, stderr=subprocess.DEVNULL) as run:
+        while run.poll() is None:
+            try:
+                with open(f"/proc/{run.pid}/status") as status, open(f"/proc/{run.pid}/comm") as name:
+                    peak = re.search(r"VmHWM:\s*(\d+)", status.read())
+                    if peak and name.read().startswith(os.path.basename(command[0])[:15]):
+                        most = max(most, int(peak[1]))
+            except OSError:
+                pass
+            time.sleep(0.001)
+    return most
 
 def cut():
     """The time of cutting all bytes into tokens, in pieces of whole files below 60 MB."""
@@ -83,7 +93,7 @@ for kind, query in queries.items():
     one = seconds([gclgrep, "-s", "-t", "1", query, *names])
     four = seconds([gclgrep, "-s", "-t", "4", query, *names])
     print(f"{kind}, lines: 1 thread {one:.3f} s, {one / counted:.2f} of cutting (target 2.5); 4 threads {four:.3f} s, {four / one:.2f} of one (target 0.4)")
-for threads in (1, 4, 16):
+for threads in (1, 2, 4, 16):
     took = kilobytes([gclgrep, "-s", "-t", str(threads), queries["elements"], *names])
     print(f"memory, {threads} threads: {took / 1e3:.1f} MB (target {(2 * largest * threads) / 1e6 + 8:.1f} MB)")
 print(f"grep -c -w {words[0]}: {seconds(['grep', '-c', '-w', words[0], *names]):.3f} s")

@@ -1,13 +1,8 @@
 #!/usr/bin/env bash
 # Runs gclgrep from outside: what is written of files and of standard input, each refusal with its message and status, and that nothing is
-# written where the query is refused. GCLGREP names a program to run in place of that of this checkout.
-set -eu
-here=$(cd "$(dirname "${BASH_SOURCE[0]}")/.." && pwd)
-gclgrep=${GCLGREP:-$here/crates/gclgrep/out/gclgrep}
-[ -n "${GCLGREP:-}" ] || "$here/gclgrep" --version > /dev/null
-work=$(mktemp -d)
-trap 'rm -rf "$work"' EXIT
-cd "$work"
+# written where the query is refused.
+program=gclgrep
+. "$(dirname "$0")/common.sh"
 printf 'to be or not to be' > a
 printf '' > e
 printf '<p>One two</p>\n<p>three\nfour <br/> five</p>\n' > t

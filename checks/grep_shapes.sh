@@ -1,14 +1,9 @@
 #!/usr/bin/env bash
 # Runs gclgrep over small files of every shape of lines and passages, in each mode, with and without -h, -N and -m. The table has each file's
 # bytes, a query, and by hand the first byte of each answer and the one behind its last; what must be written of these is said once more in
-# `text_of`, in a few lines that know nothing of the program. GCLGREP names a program to run in place of that of this checkout.
-set -eu
-here=$(cd "$(dirname "${BASH_SOURCE[0]}")/.." && pwd)
-gclgrep=${GCLGREP:-$here/crates/gclgrep/out/gclgrep}
-[ -n "${GCLGREP:-}" ] || "$here/gclgrep" --version > /dev/null
-work=$(mktemp -d)
-trap 'rm -rf "$work"' EXIT
-cd "$work"
+# `text_of`, in a few lines that know nothing of the program.
+program=gclgrep
+. "$(dirname "$0")/common.sh"
 python3 - "$gclgrep" <<'P'
 import itertools, subprocess, sys
 

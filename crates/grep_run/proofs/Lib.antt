@@ -1,5 +1,6 @@
 pub mod VisitLemmas
 pub mod WorkLemmas
+pub mod AheadLemmas
 pub mod FileLemmas
 pub mod DefineLemmas
 pub mod EndLemmas

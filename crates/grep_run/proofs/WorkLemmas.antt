@@ -18,10 +18,8 @@ use Rattle.grep_run.specs.Visits.{Fate, Visit, searched, too_long, failed, IsFat
 use Rattle.grep_run.specs.declared.outcome.Outcome.{Outcome}
 use Rattle.grep_run.specs.declared.outcome.Summary.{Summary}
 use Rattle.gcl_model.specs.Limits.{most_file}
-use Rattle.grep_run.specs.declared.work.Gone.{Gone}
-use Rattle.grep_run.specs.declared.work.Gone.TheVariants.{Loaded, TooLong, Failed}
 use Rattle.grep_run.specs.declared.work.Work.{Work}
-use Rattle.grep_run.specs.inner.Works.{AreAnswered, AreGone, AreShort, AreWritten, IsAnswered, IsShort, fate_of, visit_at, visits_at}
+use Rattle.grep_run.specs.inner.Works.{AreFresh, AreGone, AreSound, AreWritten, IsFresh, IsSound, fate_of, visit_at, visits_at}
 use Rattle.grep_run.proofs.VisitLemmas.{SoFar, are_more, calm_more, count_by-snoc, fails_more, visit_of}
 
 -- ---- what was written of a batch
@@ -76,19 +74,19 @@ visits_snoc works w = map-append visit_at works (w ∷ [])
 
 -- no file yet
 pub none_gone : (told : Option Contents) (names : List (List ℕ)) (f : ℕ) → AreGone told names [] f f
-none_gone told names f = record { are = record { within = omega arith; named = refl; fates = tt }; short = tt; failed_are = omega arith; calm = λ _. refl }
+none_gone told names f = record { are = record { within = omega arith; named = refl; fates = tt }; fresh = tt; failed_are = omega arith; calm = λ _. refl }
 
 -- one file more
 pub one_gone : (told : Option Contents) (names : List (List ℕ)) (works : List Work) (w : Work) (i : ℕ) (faults f f' : ℕ) → AreGone told names works faults f → length works ≡ i → i < length names →
-    get_or names i w.name ≡ w.name → IsFate told w.name (fate_of w.gone) → IsShort w.gone → MatchBool (is_failed (fate_of w.gone)) (min (f + 1) (2 ^ 64 - 1) ≤ f') (f' ≡ f) →
+    get_or names i w.name ≡ w.name → IsFate told w.name (fate_of w.gone) → IsFresh w.gone → MatchBool (is_failed (fate_of w.gone)) (min (f + 1) (2 ^ 64 - 1) ≤ f') (f' ≡ f) →
     AreGone told names (works ++ w ∷ []) faults f'
-one_gone told names works w i faults f f' gone count inside here fate short now =
+one_gone told names works w i faults f f' gone count inside here fate fresh now =
     let vs : List Visit = visits_at works in
     let many : length vs ≡ i = length-map works visit_at ∙ count in
     let total : failures (visits_at (works ++ w ∷ [])) ≡ failures vs + cond (is_failed (fate_of w.gone)) 1 0 = ap failures (visits_snoc works w) ∙ count_by-snoc (λ v. is_failed v.fate) vs (visit_at w) in
     record {
       are = subst (AreVisits told names) (sym (visits_snoc works w)) (are_more told names vs i w.name (fate_of w.gone) gone.are many inside here fate);
-      short = all_append (λ (x : Work). IsShort x.gone) works (w ∷ []) gone.short (short, tt);
+      fresh = all_append (λ (x : Work). IsFresh x.gone) works (w ∷ []) gone.fresh (fresh, tt);
       failed_are = rw total (fails_more (is_failed (fate_of w.gone)) (failures vs) faults f f' gone.failed_are now);
       calm = λ none. calm_more (is_failed (fate_of w.gone)) (failures vs) faults f f' gone.calm now (sym total ∙ none);
     }
@@ -177,48 +175,6 @@ same_at_each f (x ∷ xs) (y ∷ ys) len each = ap₂ (λ a b. a ∷ b) (each 0 
 -- what a sink that was empty holds is what was written
 pub held_is : (old new : Option (List ℕ)) (text bytes : List ℕ) → old ≡ Some [] → Appends old new text → new ≡ Some bytes → bytes ≡ text
 held_is old new text bytes empty written holds = subst (λ (o : Option (List ℕ)). Appends (Some []) o text) holds (subst (λ (o : Option (List ℕ)). Appends o new text) empty written)
-
--- ---- what is so of files is so of files that were gone to alike
-
-IsShortFate : Fate → Type 0
-IsShortFate (searched bytes) = length bytes ≤ most_file
-IsShortFate too_long = ⊤
-IsShortFate failed = ⊤
-
-to_fate : (gone : Gone) → IsShort gone → IsShortFate (fate_of gone)
-unfolding IsShortFate
-to_fate (Loaded bytes) h = h
-to_fate TooLong h = tt
-to_fate Failed h = tt
-
-of_fate : (gone : Gone) → IsShortFate (fate_of gone) → IsShort gone
-unfolding IsShortFate
-of_fate (Loaded bytes) h = h
-of_fate TooLong h = tt
-of_fate Failed h = tt
-
-to_visits : (works : List Work) → AreShort works → AllByRecursion (λ v. IsShortFate v.fate) (visits_at works)
-to_visits [] h = tt
-to_visits (w ∷ works) h = (to_fate w.gone h.0, to_visits works h.1)
-
-of_visits : (works : List Work) → AllByRecursion (λ v. IsShortFate v.fate) (visits_at works) → AreShort works
-of_visits [] h = tt
-of_visits (w ∷ works) h = (of_fate w.gone h.0, of_visits works h.1)
-
-pub short_alike : (xs ys : List Work) → visits_at ys ≡ visits_at xs → AreShort xs → AreShort ys
-short_alike xs ys same h = of_visits ys (subst (λ (vs : List Visit). AllByRecursion (λ v. IsShortFate v.fate) vs) (sym same) (to_visits xs h))
-
-pub gone_alike : (told : Option Contents) (names : List (List ℕ)) (xs ys : List Work) (f f' : ℕ) → visits_at ys ≡ visits_at xs → AreGone told names xs f f' → AreGone told names ys f f'
-gone_alike told names xs ys f f' same gone = record {
-  are = subst (AreVisits told names) (sym same) gone.are;
-  short = short_alike xs ys same gone.short;
-  failed_are = subst (λ (vs : List Visit). min (f + failures vs) (2 ^ 64 - 1) ≤ f') (sym same) gone.failed_are;
-  calm = λ none. gone.calm (ap failures (sym same) ∙ none);
-}
-
--- files of one name that were gone to alike are one visit
-pub visit_is : (x y : Work) → x.name ≡ y.name → x.gone ≡ y.gone → visit_at x ≡ visit_at y
-visit_is x y name gone = ap₂ (λ (n : List ℕ) (g : Gone). visit_of n (fate_of g)) name gone
 
 -- the files in front, this one, and those behind it
 pub visits_split : (works : List Work) (i : ℕ) (w : Work) → i < length works → get_or works i w ≡ w → visits_at (take i works) ++ visit_at w ∷ visits_at (drop (i + 1) works) ≡ visits_at works

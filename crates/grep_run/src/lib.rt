@@ -6,17 +6,20 @@
 
 mod asked;
 mod batch;
+mod buffer;
 mod context;
 mod defining;
 mod definitions_file;
 mod fault;
 mod files;
+mod loading;
 mod one_file;
 mod outcome;
 mod remarks;
 mod room_sink;
 mod running;
 mod searching;
+mod sharing;
 mod status;
 mod tally;
 mod wish;

@@ -1,5 +1,6 @@
 ghost use Rattle.std.specs.Prelude.{◌≡◌, Some, []};
 
+use crate::buffer::buffer_for;
 use gcl_model::Bytes;
 use outside::{Sink, WriteError};
 use std::alloc::Global;
@@ -17,7 +18,7 @@ impl RoomSink {
         ensures { ⟦<RoomSink as Sink>⟧.written result ≡ Some [] }
     {
         RoomSink {
-            taken: Vec::new(alloc),
+            taken: buffer_for(alloc, room),
             room,
         }
     }

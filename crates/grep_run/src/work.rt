@@ -3,24 +3,17 @@ ghost use Rattle.gcl_model.specs.Cost.{cost};
 ghost use Rattle.gcl_model.specs.FormOf.{form_of};
 ghost use Rattle.gcl_model.specs.WellFormed.{IsWellFormed};
 ghost use Rattle.grep_run.specs.Requests.{request_of};
-ghost use Rattle.grep_run.specs.inner.Works.{IsAnswered, IsShort};
+ghost use Rattle.grep_run.specs.inner.Works.{IsFresh, IsSound, visit_at};
 
 use crate::one_file::search_bytes;
 use crate::room_sink::RoomSink;
 use crate::wish::Wish;
 use gcl_model::{Bytes, Ledger, Question, Steps, uncounted};
 use std::alloc::Global;
+use std::snapshot::Snapshot;
 
-/// How many bytes more than its file a text may have to be held until it is written.
+/// How many bytes more than two times its file a text may have to be held until it is written.
 const ROOM: usize = 4_096;
-
-/// A file that was gone to: its bytes, or why it is left out.
-#[derive(Drop)]
-pub(crate) enum Gone {
-    Loaded(Bytes),
-    TooLong,
-    Failed,
-}
 
 /// What a file's search gave: whether there is an answer, and what is written.
 #[derive(Drop)]
@@ -29,12 +22,32 @@ pub(crate) struct Answered {
     pub(crate) text: Bytes,
 }
 
-/// A file that is searched beside others. `answer` is None before, and where its text is too long to be held.
+/// A file that was gone to.
+#[derive(Drop)]
+pub(crate) enum Gone {
+    /// Its bytes. Behind its search its text is too long to be held, and is made as it is written.
+    Loaded(Bytes),
+    /// What its search gave. Its bytes were let go, and stand in clauses alone.
+    Searched(Snapshot<Bytes>, Answered),
+    TooLong,
+    Failed,
+}
+
+impl Gone {
+    /// How many bytes of it are held to be searched.
+    pub(crate) fn size(&self) -> usize {
+        match self {
+            Gone::Loaded(bytes) => bytes.len(),
+            Gone::Searched(_, _) | Gone::TooLong | Gone::Failed => 0,
+        }
+    }
+}
+
+/// A file that is searched beside others.
 #[derive(Drop)]
 pub(crate) struct Work {
     pub(crate) name: Bytes,
     pub(crate) gone: Gone,
-    pub(crate) answer: Option<Answered>,
 }
 
 /// What is the text of a file?
@@ -64,7 +77,7 @@ impl Question for TextOf<'_> {
     ghost most = { λ q _. look_ups (request_of q.wish.now) (searched q.bytes.now) };
 
     fn ask<S: Ledger>(&self, steps: &mut Steps<S>) -> Option<Answered> {
-        let room = self.bytes.len() + ROOM;
+        let room = 2 * self.bytes.len() + ROOM;
         let mut sink = RoomSink::new(self.alloc, room);
         match search_bytes(
             self.alloc, &mut sink, steps, self.wish, self.name, self.bytes,
@@ -81,18 +94,20 @@ impl Question for TextOf<'_> {
 /// Searches a file that was loaded.
 pub(crate) fn answer(alloc: Global, wish: &Wish<'_>, work: &mut Work)
     requires well_formed { IsWellFormed (form_of wish.now.asking.expr.now) }
-    requires short { IsShort work.old.gone }
-    ensures name { work.new.name ≡ work.old.name }
-    ensures gone { work.new.gone ≡ work.old.gone }
-    ensures answered { IsAnswered (request_of wish.now) work.new }
+    requires fresh { IsFresh work.old.gone }
+    ensures visit { visit_at work.new ≡ visit_at work.old }
+    ensures sound { IsSound (request_of wish.now) work.new }
 {
-    work.answer = match &work.gone {
-        Gone::Loaded(bytes) => uncounted(&TextOf {
-            alloc,
-            wish,
-            name: work.name.as_slice(),
-            bytes: bytes.as_slice(),
-        }),
-        Gone::TooLong | Gone::Failed => None,
+    let Gone::Loaded(bytes) = &work.gone else {
+        return;
     };
+    let answer = uncounted(&TextOf {
+        alloc,
+        wish,
+        name: work.name.as_slice(),
+        bytes: bytes.as_slice(),
+    });
+    if let Some(answered) = answer {
+        work.gone = Gone::Searched(Snapshot::of(bytes), answered);
+    }
 }

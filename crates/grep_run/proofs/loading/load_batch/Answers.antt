@@ -2,7 +2,7 @@ use Rattle.std.proofs.Common.{◌≡◌, ap, length, List, rules, subst}
 use Rattle.grep_run.specs.inner.Works.{AreGone}
 use Rattle.grep_run.specs.declared.work.Work.{Work}
 use Rattle.grep_run.proofs.WorkLemmas.{none_gone, one_gone}
-use Rattle.grep_run.proofs.batch.load_batch.Goals as goal
+use Rattle.grep_run.proofs.loading.load_batch.Goals as goal
 
 pub loop-name-init : goal.loop-name-init
 loop-name-init g c =

@@ -1,6 +1,6 @@
 use Rattle.std.proofs.Common.{◌≡◌, length}
 use Rattle.grep_run.specs.inner.Works.{AreGone}
-use Rattle.grep_run.proofs.batch.load_batch.Given as goal
+use Rattle.grep_run.proofs.loading.load_batch.Given as goal
 
 -- the files in front of this one were gone to
 abbrev pub invariant-loop-name : goal.invariant-loop-name
