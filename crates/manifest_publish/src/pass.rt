@@ -52,7 +52,8 @@ impl Pass {
         &self.mark
     }
 
-    pub(crate) fn again(&self) -> Result<Pass, AllocError>
+    /// Another pass of the same version. `Err` is out of memory.
+    pub fn again(&self) -> Result<Pass, AllocError>
         ensures { IfOk result (λ pass. pass ≡ self.now) }
     {
         let version = Arc::try_clone(&self.version)?;

@@ -1,13 +1,13 @@
 -- What begins with an exclamation mark: each refusal, and no other line of an answer.
-use Rattle.std.proofs.Common.{◌≡◌, ℕ, zero, suc, ◌+◌, ◌-◌, ◌/◌, ◌%◌, true, false, List, [], ◌∷◌, ◌++◌, refl, sym, subst, append_assoc, arith, cond, codes}
+use Rattle.std.proofs.Common.{◌≡◌, ℕ, zero, suc, ◌+◌, ◌-◌, ◌/◌, ◌%◌, Bool, true, false, List, [], ◌∷◌, ◌++◌, refl, sym, subst, append_assoc, arith, cond, codes}
 use Rattle.std.specs.Prelude.{◌==◌, decimal}
 use Rattle.std.specs.Fmt.{digits, digits_onto, digit_glyph}
 use Rattle.std.proofs.lemmas.Bool.Decides.{nat_tests}
 use Rattle.gcl_model.specs.Extents.{Extent}
 use Rattle.address_space.specs.Runs.{FileEntry}
 use Rattle.script_lang.specs.declared.refusals.Refusal.{Refusal}
-use Rattle.script_lang.specs.declared.refusals.Refusal.TheVariants.{Command, LongLine, Query, NoFile, TooLong, NoAddresses, NotEmpty, NotImage}
-use Rattle.script_lang.specs.Answers.{file_line, gone_line, interval_line, total_line, record_line, merging_line, shards_line, saved_line, opened_line, refusal_line, is_refusal}
+use Rattle.script_lang.specs.declared.refusals.Refusal.TheVariants.{Command, LongLine, Query, NoFile, TooLong, NoAddresses, NotEmpty, NotImage, NoWatch, TooManyWatches}
+use Rattle.script_lang.specs.Answers.{file_line, gone_line, interval_line, total_line, record_line, merging_line, shards_line, saved_line, opened_line, watch_line, unwatched_line, change_line, refusal_line, is_refusal}
 
 -- a digit is no exclamation mark
 digit_glyph-plain : (d : ℕ) → (digit_glyph false d == 33) ≡ false
@@ -66,6 +66,13 @@ saved_line-plain bytes = refl
 pub opened_line-plain : (files : ℕ) → is_refusal (opened_line files) ≡ false
 opened_line-plain files = refl
 
+pub watch_lines-plain : (number : ℕ) → (is_refusal (watch_line number) ≡ false) × (is_refusal (unwatched_line number) ≡ false)
+watch_lines-plain number = (refl, refl)
+
+pub change_line-plain : (number : ℕ) (came : Bool) (interval : Extent) → is_refusal (change_line number came interval) ≡ false
+change_line-plain number true interval = refl
+change_line-plain number false interval = refl
+
 pub refusal_line-marked : (refusal : Refusal) → is_refusal (refusal_line refusal) ≡ true
 refusal_line-marked Command = refl
 refusal_line-marked LongLine = refl
@@ -75,3 +82,5 @@ refusal_line-marked TooLong = refl
 refusal_line-marked NoAddresses = refl
 refusal_line-marked NotEmpty = refl
 refusal_line-marked NotImage = refl
+refusal_line-marked (NoWatch number) = refl
+refusal_line-marked TooManyWatches = refl

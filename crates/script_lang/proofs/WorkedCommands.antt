@@ -2,7 +2,7 @@
 use Rattle.std.proofs.Common.{◌≡◌, [], ◌∷◌, ◌++◌, refl, codes, Some, None}
 use Rattle.script_lang.specs.Numbers.{number_of}
 use Rattle.script_lang.specs.Commands.{command_of}
-use Rattle.script_lang.specs.declared.commands.Command.TheVariants.{Blank, Del, Find, Count, Top, Files, Merge, Shards, Wrong}
+use Rattle.script_lang.specs.declared.commands.Command.TheVariants.{Blank, Del, Find, Count, Top, Files, Merge, Shards, Watch, Unwatch, Wrong}
 
 number-leading_zeros : number_of (codes "007") ≡ Some 7
 number-leading_zeros = refl
@@ -55,6 +55,18 @@ merge = refl
 
 shards : command_of (codes "shards") ≡ Shards
 shards = refl
+
+watch-query : command_of (codes "watch \"or\"") ≡ Watch (codes "\"or\"")
+watch-query = refl
+
+watch-nothing : command_of (codes "watch") ≡ Watch []
+watch-nothing = refl
+
+unwatch : command_of (codes "unwatch 007") ≡ Unwatch 7
+unwatch = refl
+
+unwatch-no_number : command_of (codes "unwatch x") ≡ Wrong
+unwatch-no_number = refl
 
 -- a command is in lower case
 upper_case : command_of (codes "FILES") ≡ Wrong

@@ -1,5 +1,5 @@
 -- The lines of answers, each without its newline.
-use Rattle.std.specs.Prelude.{ℕ, ◌+◌, ◌-◌, ◌≡◌, Bool, List, ◌++◌, codes, decimal}
+use Rattle.std.specs.Prelude.{ℕ, ◌+◌, ◌-◌, ◌≡◌, Bool, List, ◌++◌, codes, decimal, if◌then◌else◌}
 use Rattle.gcl_model.specs.Tokens.{starts_with_byte}
 use Rattle.gcl_model.specs.Extents.{Extent}
 use Rattle.address_space.specs.Runs.{FileEntry}
@@ -7,7 +7,7 @@ use Rattle.gcl_parser.specs.declared.fault.QueryFault.{QueryFault}
 use Rattle.gcl_parser.specs.declared.fault.QueryKind.{QueryKind}
 use Rattle.gcl_parser.specs.declared.fault.QueryKind.TheVariants.{OperandExpected, OperatorOrCloseExpected, EmptyTerm, BadPrefix, BadWidth, OpenQuote, Character, TooLarge, TooDeep}
 use Rattle.script_lang.specs.declared.refusals.Refusal.{Refusal}
-use Rattle.script_lang.specs.declared.refusals.Refusal.TheVariants.{Command, LongLine, Query, NoFile, TooLong, NoAddresses, NotEmpty, NotImage}
+use Rattle.script_lang.specs.declared.refusals.Refusal.TheVariants.{Command, LongLine, Query, NoFile, TooLong, NoAddresses, NotEmpty, NotImage, NoWatch, TooManyWatches}
 
 -- "file ID FIRST LAST" of a file that was added
 abbrev pub file_line : ℕ → ℕ → ℕ → List ℕ
@@ -45,6 +45,22 @@ saved_line bytes = codes "saved " ++ decimal bytes
 abbrev pub opened_line : ℕ → List ℕ
 opened_line files = codes "opened " ++ decimal files
 
+-- "watch W" of the number that a watch was given
+abbrev pub watch_line : ℕ → List ℕ
+watch_line number = codes "watch " ++ decimal number
+
+-- "unwatched W" of a watch that was ended
+abbrev pub unwatched_line : ℕ → List ℕ
+unwatched_line number = codes "unwatched " ++ decimal number
+
+-- what stands before an interval that came, and before one that went
+abbrev pub change_mark : Bool → List ℕ
+change_mark came = if came then codes "+ " else codes "- "
+
+-- "+ W P Q" of an interval that came, and "- W P Q" of one that went, by the number of the watch
+abbrev pub change_line : ℕ → Bool → Extent → List ℕ
+change_line number came interval = change_mark came ++ decimal number ++ codes " " ++ interval_line interval
+
 -- what is wrong with a query, in words
 abbrev pub kind_text : QueryKind → List ℕ
 kind_text OperandExpected = codes "operand expected"
@@ -71,6 +87,8 @@ refusal_line TooLong = codes "! file too long"
 refusal_line NoAddresses = codes "! no addresses"
 refusal_line NotEmpty = codes "! not empty"
 refusal_line NotImage = codes "! not an image"
+refusal_line (NoWatch number) = codes "! no watch " ++ decimal number
+refusal_line TooManyWatches = codes "! too many watches"
 
 -- the line begins with an exclamation mark: "! command" does, and "= 2" does not
 abbrev pub is_refusal : List ℕ → Bool

@@ -7,7 +7,7 @@ use Rattle.gcl_model.specs.Tokens.{is_blank}
 use Rattle.script_lang.specs.Blanks.{behind_word}
 use Rattle.script_lang.specs.Numbers.{number_of}
 use Rattle.script_lang.specs.declared.commands.Command.{Command}
-use Rattle.script_lang.specs.declared.commands.Command.TheVariants.{Blank, Add, Del, Find, Count, Top, Files, Merge, Shards, Save, Load, Wrong}
+use Rattle.script_lang.specs.declared.commands.Command.TheVariants.{Blank, Add, Del, Find, Count, Top, Files, Merge, Shards, Save, Load, Watch, Unwatch, Wrong}
 
 -- a name that a command carries is one
 abbrev pub IsNamed : Command → Type 0
@@ -48,7 +48,9 @@ table =
     (codes "merge", alone Merge) ∷
     (codes "shards", alone Shards) ∷
     (codes "save", named Save) ∷
-    (codes "open", named Load) ∷ []
+    (codes "open", named Load) ∷
+    (codes "watch", Watch) ∷
+    (codes "unwatch", numbered Unwatch) ∷ []
 
 -- by the entry of the word, and Wrong where it has none
 abbrev pub by_table : List (List ℕ × (List ℕ → Command)) → List ℕ → List ℕ → Command

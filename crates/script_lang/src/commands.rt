@@ -25,6 +25,10 @@ pub enum Command {
     Save(Bytes),
     /// `open NAME` takes the image of this name.
     Load(Bytes),
+    /// `watch QUERY` tells from now on what each edit changes of the query's intervals. Its text is not read here, and may be empty.
+    Watch(Bytes),
+    /// `unwatch W` ends the watch with this number.
+    Unwatch(u64),
     /// Every other line.
     Wrong,
 }

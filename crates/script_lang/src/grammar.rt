@@ -1,6 +1,6 @@
 ghost use Rattle.std.specs.Prelude.{◌≡◌, IfOk};
 ghost use Rattle.script_lang.specs.Commands.{IsNamed, command_of, name_of, numbered, top_of, alone};
-ghost use Rattle.script_lang.specs.declared.commands.Command.TheVariants.{Del};
+ghost use Rattle.script_lang.specs.declared.commands.Command.TheVariants.{Del, Unwatch};
 
 use crate::blanks::{behind_word, first_word};
 use crate::commands::Command;
@@ -25,6 +25,16 @@ fn del(argument: &[u8]) -> Command
 {
     match number_of(argument) {
         Some(id) => Command::Del(id),
+        None => Command::Wrong,
+    }
+}
+
+fn unwatch(argument: &[u8]) -> Command
+    ensures value { result ≡ numbered Unwatch argument.now }
+    ensures named { IsNamed result }
+{
+    match number_of(argument) {
+        Some(number) => Command::Unwatch(number),
         None => Command::Wrong,
     }
 }
@@ -82,6 +92,10 @@ pub fn command(alloc: Global, line: &[u8]) -> Result<Command, AllocError>
         Ok(name_of(alloc, argument)?.map_or(Command::Wrong, Command::Save))
     } else if word == b"open".as_slice() {
         Ok(name_of(alloc, argument)?.map_or(Command::Wrong, Command::Load))
+    } else if word == b"watch".as_slice() {
+        Ok(Command::Watch(Bytes::copy_of(alloc, argument)?))
+    } else if word == b"unwatch".as_slice() {
+        Ok(unwatch(argument))
     } else {
         Ok(Command::Wrong)
     }

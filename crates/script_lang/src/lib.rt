@@ -29,8 +29,8 @@ pub use line_cut::LineCut;
 pub use lines::line_at;
 pub use numbers::number_of;
 pub use put::{
-    put_file, put_gone, put_interval, put_merging, put_opened, put_record, put_refusal, put_saved,
-    put_shards, put_total,
+    put_change, put_file, put_gone, put_interval, put_merging, put_opened, put_record, put_refusal,
+    put_saved, put_shards, put_total, put_unwatched, put_watch,
 };
 pub use refusals::Refusal;
 pub use taken::Taken;

@@ -1,5 +1,5 @@
 ghost use Rattle.std.specs.Prelude.{◌≡◌, [], ◌∷◌, ◌++◌, OnOk, decimal, codes};
-ghost use Rattle.script_lang.specs.Answers.{file_line, gone_line, interval_line, total_line, record_line, merging_line, shards_line, saved_line, opened_line, refusal_line, kind_text, query_line, Grows};
+ghost use Rattle.script_lang.specs.Answers.{file_line, gone_line, interval_line, total_line, record_line, merging_line, shards_line, saved_line, opened_line, watch_line, unwatched_line, change_mark, change_line, refusal_line, kind_text, query_line, Grows};
 
 use crate::refusals::Refusal;
 use address_space::FileRecord;
@@ -134,6 +134,46 @@ pub fn put_opened(out: &mut Vec<u8>, files: u64) -> Result<(), AllocError>
     put_last(out, files)
 }
 
+/// Appends the answer to an accepted `watch`, as `watch 0`: its number.
+pub fn put_watch(out: &mut Vec<u8>, number: u64) -> Result<(), AllocError>
+    ensures ok { OnOk result (out.new.items ≡ out.old.items ++ watch_line number ++ 10 ∷ []) }
+    ensures grown { Grows out.old.items out.new.items }
+{
+    put_text(out, b"watch ")?;
+    put_last(out, number)
+}
+
+/// Appends the answer to an accepted `unwatch`, as `unwatched 0`.
+pub fn put_unwatched(out: &mut Vec<u8>, number: u64) -> Result<(), AllocError>
+    ensures ok { OnOk result (out.new.items ≡ out.old.items ++ unwatched_line number ++ 10 ∷ []) }
+    ensures grown { Grows out.old.items out.new.items }
+{
+    put_text(out, b"unwatched ")?;
+    put_last(out, number)
+}
+
+/// What an interval begins with that came or that went.
+fn change_mark(came: bool) -> &'static [u8]
+    ensures { result.now ≡ change_mark came }
+{
+    if came { b"+ " } else { b"- " }
+}
+
+/// Appends the line of an interval that came or went, by the number of its watch: `+ 0 1 2`, and `- 0 1 2`.
+pub fn put_change(
+    out: &mut Vec<u8>,
+    number: u64,
+    came: bool,
+    interval: Interval,
+) -> Result<(), AllocError>
+    ensures ok { OnOk result (out.new.items ≡ out.old.items ++ change_line number came interval ++ 10 ∷ []) }
+    ensures grown { Grows out.old.items out.new.items }
+{
+    put_text(out, change_mark(came))?;
+    put_field(out, number)?;
+    put_interval(out, interval)
+}
+
 /// What is wrong with a query, in words.
 fn kind_text(kind: QueryKind) -> &'static [u8]
     ensures { result.now ≡ kind_text kind }
@@ -178,5 +218,10 @@ pub fn put_refusal(out: &mut Vec<u8>, refusal: &Refusal) -> Result<(), AllocErro
         Refusal::NoAddresses => put_end(out, b"! no addresses"),
         Refusal::NotEmpty => put_end(out, b"! not empty"),
         Refusal::NotImage => put_end(out, b"! not an image"),
+        Refusal::NoWatch(number) => {
+            put_text(out, b"! no watch ")?;
+            put_last(out, *number)
+        }
+        Refusal::TooManyWatches => put_end(out, b"! too many watches"),
     }
 }

@@ -19,4 +19,8 @@ pub enum Refusal {
     NotEmpty,
     /// The bytes to open are no image.
     NotImage,
+    /// No live watch has this number.
+    NoWatch(u64),
+    /// As many watches are live as may be.
+    TooManyWatches,
 }
