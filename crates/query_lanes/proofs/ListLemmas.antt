@@ -1,5 +1,5 @@
 -- The members of lists that are put together.
-use Rattle.std.proofs.Common.{◌≡◌, ℕ, zero, suc, ◌+◌, ◌-◌, ◌≤◌, ◌<◌, ◌⊎◌, inl, inr, List, [], ◌∷◌, ◌++◌, length, map, take, slice_get, Some, refl, ap, subst, arith}
+use Rattle.std.proofs.Common.{◌≡◌, ℕ, zero, suc, ◌+◌, ◌-◌, ◌≤◌, ◌<◌, ◌⊎◌, inl, inr, List, [], ◌∷◌, ◌++◌, length, map, take, set, slice_get, Option, None, Some, refl, sym, ap, ◌∙◌, subst, arith}
 
 -- the member after some others
 pub get_behind : {A : Type 0} (xs : List A) (y : A) → slice_get (xs ++ y ∷ []) (length xs) ≡ Some y
@@ -39,3 +39,14 @@ pub map-take_more : {A B : Type 0} (f : A → B) (xs : List A) (k : ℕ) (y : B)
 map-take_more f xs k y lt is =
     let next : suc k ≡ k + 1 = omega arith in
     subst (λ (n : ℕ). map f (take k xs) ++ y ∷ [] ≡ map f (take n xs)) next (map-take_one f xs k y lt is)
+
+-- what is still there once one was taken was there before
+none_some : {A : Type 0} (v : Option A) (x : A) → v ≡ None → v ≡ Some x → ⊥
+none_some v x none some = cc
+
+pub get_untaken : {A : Type 0} (xs : List (Option A)) (k i : ℕ) (v : Option A) (x : A) → v ≡ None → slice_get (set xs k v) i ≡ Some (Some x) → slice_get xs i ≡ Some (Some x)
+get_untaken [] k i v x none got = got
+get_untaken (y ∷ xs) zero zero v x none got = let taken : v ≡ Some x = cc got in absurd (none_some v x none taken)
+get_untaken (y ∷ xs) zero (suc i) v x none got = got
+get_untaken (y ∷ xs) (suc k) zero v x none got = got
+get_untaken (y ∷ xs) (suc k) (suc i) v x none got = get_untaken xs k i v x none got

@@ -1,6 +1,6 @@
 -- The members of a rising list from an address on, and what is left of them after a page.
-use Rattle.std.proofs.Common.{◌≡◌, ℕ, zero, suc, ◌+◌, ◌-◌, ◌<◌, ◌≤◌, leb, List, [], ◌∷◌, ◌++◌, length, take, drop, inl, inr, refl, sym, ap, ◌∙◌, subst, arith, append_assoc, length-append}
-use Rattle.std.proofs.lemmas.Bool.{cases_Bool, cases_lt, lt-leb, le-leb, leb-true, leb-false}
+use Rattle.std.proofs.Common.{◌≡◌, ℕ, zero, suc, ◌+◌, ◌-◌, ◌<◌, ◌≤◌, min, leb, List, [], ◌∷◌, ◌++◌, length, take, drop, inl, inr, refl, sym, ap, ◌∙◌, subst, arith, append_assoc}
+use Rattle.std.proofs.lemmas.Bool.{cases_Bool, cases_lt, lt-leb, le-leb, leb-true}
 use Rattle.std.proofs.lemmas.List.{take_all, drop_all, take-append-drop, length-take-le}
 use Rattle.std.specs.List.{AllByRecursion}
 use Rattle.gcl_model.specs.Extents.{Extent, IsAhead, IsRising}
@@ -132,6 +132,18 @@ pub none_at_end : (text : Text) (form : Form) (end : ℕ) → end ≡ text.next 
 none_at_end text form end is =
     none_from end (concordance text form) (subst (λ (n : ℕ). AllByRecursion (λ (a : Extent). a.start < n) (concordance text form)) (sym is) (start_before text form))
 
+-- none starts past the end, so those from an address on are those from there or from the end on
+pub from_end : (text : Text) (form : Form) (k end from : ℕ) → end ≡ text.next → from ≡ min k end → members_from (concordance text form) from ≡ members_from (concordance text form) k
+from_end text form k end from is_end is =
+    elim (cases_lt k end) [
+      | inl lt ↦ let same : from ≡ k = omega arith in ap (λ (n : ℕ). members_from (concordance text form) n) same
+      | inr ge ↦
+          let same : from ≡ end = omega arith in
+          let before : AllByRecursion (λ (a : Extent). a.start < k) (concordance text form) =
+          all_weaker (λ (a : Extent). a.start < text.next) (λ (a : Extent). a.start < k) (λ a lt. omega arith) (concordance text form) (start_before text form) in
+          ap (λ (n : ℕ). members_from (concordance text form) n) same ∙ none_at_end text form end is_end ∙ sym (none_from k (concordance text form) before)
+    ]
+
 -- a page with fewer members than were asked for leaves none
 short_page : (all : List Extent) (k most end next : ℕ) (page : List Extent) → members_from all end ≡ [] → page ≡ take most (members_from all k)
     → IsStartAfter page most end next → length (members_from all k) < most → members_from all next ≡ drop most (members_from all k)
@@ -174,9 +186,3 @@ after_page text form k most end next page is_end some is after =
       | inl less ↦ short_page (concordance text form) k most end next page (none_at_end text form end is_end) is after less
       | inr enough ↦ full_page (concordance text form) k most end next page (concordance_rises text form) some is after enough
     ]
-
--- a page and what it leaves are all
-pub page_and_rest : (most : ℕ) (list page rest : List Extent) → page ≡ take most list → rest ≡ drop most list → length page + length rest ≡ length list
-page_and_rest most list page rest is left =
-    ap (λ (n : ℕ). n + length rest) (ap length is) ∙ ap (λ (n : ℕ). length (take most list) + n) (ap length left)
-    ∙ sym (length-append (take most list) (drop most list)) ∙ ap length (take-append-drop most list)

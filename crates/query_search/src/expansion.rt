@@ -32,8 +32,11 @@ pub fn expanded(alloc: Global, version: &Version, expr: Arc<Expr>) -> Result<Arc
     }
 }
 
-/// The expansion, whose look-ups nobody counts.
-fn expansion_of(alloc: Global, version: &Version, expr: &Expr) -> Result<Expr, AllocError>
+/// The expansion of an expression over a version, as a tree of its own: each prefix term is one of the live words that begin with its
+/// prefix. Its look-ups are not counted. `Err` is out of memory.
+///
+/// Over `to be or not to be`, that of `"t"*` is one of `"to"` alone.
+pub fn expansion_of(alloc: Global, version: &Version, expr: &Expr) -> Result<Expr, AllocError>
     requires { IsWellFormed (form_of expr.now) }
     ensures wide { IfOk result (λ expanded.
         concordance (version_text version.now) (form_of expanded) ≡ wide (version_text version.now) (form_of expr.now)) }

@@ -1,5 +1,5 @@
 //! Members by readers.
-ghost use Rattle.std.specs.Prelude.{◌≡◌, ◌<◌, ◌≤◌, List, length, IfOk, OnErr};
+ghost use Rattle.std.specs.Prelude.{◌≡◌, ◌<◌, ◌≤◌, ℕ, List, length, IfOk, OnErr};
 ghost use Rattle.gcl_model.specs.FormOf.{form_of};
 ghost use Rattle.gcl_model.specs.Limits.{far};
 ghost use Rattle.gcl_model.specs.WellFormed.{IsWellFormed};
@@ -23,9 +23,9 @@ use std::marker::Brand;
 use std::sync::ledger;
 use std::sync::ledger::Blank;
 
-/// Readers, where leaping may be slow and there is memory for them.
+/// Readers, where leaping may be slow and there is memory for them. They may begin at any address.
 pub fn readers_of(alloc: Global, version: &Version, expr: &Expr) -> Option<Readers>
-    ensures { (history : List VersionContent) → ReadFrom history (form_of expr.now) 0 result }
+    ensures { (history : List VersionContent) (from : ℕ) → ReadFrom history (form_of expr.now) from result }
 {
     if !may_search_again(version, expr) {
         return None;

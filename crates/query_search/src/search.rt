@@ -1,81 +1,39 @@
-ghost use Rattle.std.specs.Prelude.{◌≡◌, ◌+◌, ◌<◌, ◌≤◌, ℕ, List, [], ◌∷◌, ◌++◌, length, take, drop, IfOk, IfSome, OnOk, OnErr};
-ghost use Rattle.std.specs.List.{AllByRecursion};
-ghost use Rattle.gcl_model.specs.Extents.{Extent};
+ghost use Rattle.std.specs.Prelude.{◌≡◌, ◌≤◌, length, take, drop, IfOk, OnOk, OnErr};
 ghost use Rattle.gcl_model.specs.FormOf.{form_of};
 ghost use Rattle.gcl_model.specs.Limits.{address_end};
+ghost use Rattle.gcl_model.specs.Meaning.{concordance};
 ghost use Rattle.gcl_model.specs.WellFormed.{IsWellFormed};
 ghost use Rattle.gcl_model.specs.Wide.{wide};
 ghost use Rattle.live_version.specs.Contents.{version_text};
-ghost use Rattle.manifest_publish.specs.Accounts.{EndsWith};
 ghost use Rattle.collection.specs.Engines.{last_of};
-ghost use Rattle.query_search.specs.inner.Searches.{members_over};
 
 use crate::expansion::expanded;
-use crate::questions::MemberCount;
-use crate::reading::{count_from, page_from, readers_of};
-use gcl_model::{Expr, IntervalList, uncounted};
-use gcl_readers::Readers;
+use crate::pages::Pages;
+use gcl_model::{Expr, IntervalList};
 use manifest_publish::Pass;
-use reader_pass::pass_listed_count;
 use std::alloc::{AllocError, Global};
 use std::marker::Model;
 use std::sync::Arc;
 
-/// One query on one version. What it needs before it can be answered is made once, in `of`, and serves all its pages and its count.
+/// One query on one version. What it needs before it can be answered is made once, and serves all its pages and its count.
 /// Contracts see the members of its wide list that are still to come.
 #[derive(Drop)]
 pub struct Search {
-    pass: Pass,
-    expr: Arc<Expr>,
-    // Where leaping may be slow, they find the members; they passed none that is to come.
-    readers: Option<Readers>,
-    // The members to come start here or later, and before `end`.
-    from: u64,
-    end: u64,
+    pages: Pages,
     // How many members came.
     given: u64,
 }
 
 impl Model for Search {
-    ghost use Rattle.std.specs.Prelude.{List};
+    ghost use Rattle.std.specs.Prelude.{◌≡◌, ◌+◌, ◌≤◌, List, length};
     ghost use Rattle.gcl_model.specs.Extents.{Extent};
-    ghost use Rattle.gcl_model.specs.FormOf.{form_of};
-    ghost use Rattle.gcl_eval.specs.Members.{members_from};
-    ghost use Rattle.query_search.specs.inner.Searches.{members_over, GoesOnAt, ReadFrom};
+    ghost use Rattle.gcl_model.specs.Limits.{address_end};
 
     ghost Value = { List Extent };
 
-    ghost view = { λ s. members_from (members_over s.pass.history (form_of s.expr.value)) s.from };
+    ghost view = { λ s. s.pages.to_come };
 
-    ghost invariant = { λ s. GoesOnAt s.pass.history (form_of s.expr.value) s.from s.end s.given ×
-        ReadFrom s.pass.history (form_of s.expr.value) s.from s.readers };
-}
-
-/// Where the members after a page start at the earliest: after the start of its last one, or at the end where it has fewer than were
-/// asked for.
-fn start_after(page: &IntervalList, most: u64, end: u64) -> u64
-    requires below { AllByRecursion (λ (a : Extent). a.start < end) page.now }
-    requires in_range { end ≤ address_end }
-    ensures full { (before : List Extent) (last : Extent) → page.now ≡ before ++ last ∷ [] → most ≤ length page.now →
-        result ≡ last.start + 1 }
-    ensures short { length page.now < most → result ≡ end }
-    ensures within { result ≤ end }
-{
-    if (page.len() as u64) < most {
-        return end;
-    }
-    match page.as_slice() {
-        [.., last] => last.start + 1,
-        [] => end,
-    }
-}
-
-/// The number of all members, where it is known by the lengths of lists.
-fn listed_count(pass: &Pass, expr: &Expr) -> Option<u64>
-    requires { EndsWith pass.now.history (last_of pass.now.history) }
-    ensures { IfSome result (λ count. count ≡ length (members_over pass.now.history (form_of expr.now))) }
-{
-    pass_listed_count(pass, expr)
+    ghost invariant = { λ s. (s.given + length s.pages.to_come ≡ length s.pages.all) × (length s.pages.all ≤ address_end) };
 }
 
 impl Search {
@@ -87,18 +45,21 @@ impl Search {
         ensures members { IfOk result (λ search. search ≡ wide (version_text (last_of pass.history)) (form_of expr.value)) }
         ensures few { IfOk result (λ search. length search ≤ address_end) }
     {
-        let version = pass.version();
-        let end = version.next();
-        let expr = expanded(alloc, version, expr)?;
-        let readers = readers_of(alloc, version, &expr);
-        Ok(Search {
-            pass,
-            expr,
-            readers,
-            from: 0,
-            end,
+        let expr = expanded(alloc, pass.version(), expr)?;
+        Ok(Search::over(alloc, pass, expr))
+    }
+
+    /// The same of an expression without prefix terms, or of what `expansion_of` made of one over this version. It takes no memory that it
+    /// cannot do without, so it has no `Err`.
+    pub fn over(alloc: Global, pass: Pass, expr: Arc<Expr>) -> Search
+        requires { IsWellFormed (form_of expr.value) }
+        ensures members { result ≡ concordance (version_text (last_of pass.history)) (form_of expr.value) }
+        ensures few { length result ≤ address_end }
+    {
+        Search {
+            pages: Pages::from(alloc, pass, expr, 0),
             given: 0,
-        })
+        }
     }
 
     /// The next `most` members, or all where fewer are to come. They are found from where the last page ended: by leaping, so that a page
@@ -109,21 +70,7 @@ impl Search {
         ensures rest { OnOk result (self.new ≡ drop most self.old) }
         ensures err { OnErr result (self.new ≡ self.old) }
     {
-        if most == 0 {
-            return Ok(IntervalList::new(alloc));
-        }
-        if self.from == self.end {
-            return Ok(IntervalList::new(alloc));
-        }
-        let page = page_from(
-            alloc,
-            &self.pass,
-            &self.expr,
-            &mut self.readers,
-            self.from,
-            most,
-        )?;
-        self.from = start_after(&page, most, self.end);
+        let page = self.pages.page(alloc, most)?;
         self.given += page.len() as u64;
         Ok(page)
     }
@@ -134,16 +81,6 @@ impl Search {
         ensures value { result ≡ length self.old }
         ensures same { self.new ≡ self.old }
     {
-        if let Some(all) = listed_count(&self.pass, &self.expr) {
-            return all - self.given;
-        }
-        let Some(mut readers) = self.readers.take() else {
-            let all = uncounted(&MemberCount {
-                pass: &self.pass,
-                expr: &self.expr,
-            });
-            return all - self.given;
-        };
-        count_from(&self.pass, &self.expr, &mut readers, self.from)
+        self.pages.count(self.given)
     }
 }

@@ -1,11 +1,10 @@
--- What is always true of a search.
-use Rattle.std.specs.Prelude.{◌≡◌, ℕ, ◌+◌, ◌≤◌, List, length, Option, IfSome}
+-- What is always true of members that come page by page.
+use Rattle.std.specs.Prelude.{◌≡◌, ℕ, ◌≤◌, List, Option, IfSome}
 use Rattle.gcl_model.specs.Extents.{Extent}
 use Rattle.gcl_model.specs.Forms.{Form}
 use Rattle.gcl_model.specs.Limits.{address_end}
 use Rattle.gcl_model.specs.Meaning.{concordance}
 use Rattle.gcl_model.specs.WellFormed.{IsWellFormed}
-use Rattle.gcl_eval.specs.Members.{members_from}
 use Rattle.gcl_readers.specs.declared.front.Place.{Place}
 use Rattle.gcl_readers.specs.Standing.{Stands, start_at}
 use Rattle.live_version.specs.Contents.{VersionContent, version_text}
@@ -16,15 +15,13 @@ use Rattle.collection.specs.Engines.{last_of}
 abbrev pub members_over : List VersionContent → Form → List Extent
 members_over history form = concordance (version_text (last_of history)) form
 
--- A search over the last version of a history that goes on at an address, not past the end of the text, and that has given some members:
--- these and those that start at that address or later are all
-pub record GoesOnAt (history : List VersionContent) (form : Form) (from end given : ℕ) : Type 0 where
+-- members over the last version of a history that go on at an address, not past the end of the text
+pub record GoesOnAt (history : List VersionContent) (form : Form) (from end : ℕ) : Type 0 where
   pub last : EndsWith history (last_of history)
   pub well_formed : IsWellFormed form
   pub text_end : end ≡ (last_of history).next
   pub in_range : end ≤ address_end
   pub within : from ≤ end
-  pub whole : given + length (members_from (members_over history form) from) ≡ length (members_over history form)
 
 -- the readers of a form stand in their lists over the last version of a history, and passed no member that starts at an address or later
 pub record StandFrom (history : List VersionContent) (form : Form) (from : ℕ) (readers : List Place) : Type 0 where

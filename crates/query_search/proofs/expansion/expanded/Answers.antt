@@ -1,4 +1,4 @@
-use Rattle.std.proofs.Common.{◌≡◌, false, rules, sym, ◌∙◌}
+use Rattle.std.proofs.Common.{◌≡◌, false, rules, sym}
 use Rattle.gcl_model.specs.FormOf.{form_of}
 use Rattle.live_version.specs.Contents.{version_text}
 use Rattle.wide_terms.specs.Expansion.{has_prefix_term}

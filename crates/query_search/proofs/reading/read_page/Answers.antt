@@ -1,5 +1,4 @@
-use Rattle.std.proofs.Common.{◌≡◌, ◌≤◌, List, length, subst, sym}
-use Rattle.gcl_model.specs.Extents.{Extent}
+use Rattle.std.proofs.Common.{◌≡◌, ◌≤◌, length, subst}
 use Rattle.gcl_model.specs.FormOf.{form_of}
 use Rattle.gcl_readers.specs.Standing.{Stands, start_at}
 use Rattle.gcl_readers.specs.Reading.{behind_page}

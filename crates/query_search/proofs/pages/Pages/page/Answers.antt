@@ -1,10 +1,9 @@
-use Rattle.std.proofs.Common.{◌≡◌, ◌<◌, ◌≤◌, ◌+◌, ◌++◌, ◌∷◌, ℕ, List, [], Option, Some, None, min, length, take, drop, inl, inr, rules, refl, sym, ap, ◌∙◌, subst, arith}
+use Rattle.std.proofs.Common.{◌≡◌, ◌<◌, ◌≤◌, ℕ, List, [], Option, None, min, length, take, drop, inl, inr, rules, sym, ap, ◌∙◌, subst, arith}
 use Rattle.std.proofs.lemmas.Bool.{cases_lt}
 use Rattle.std.proofs.lemmas.List.{take_all, drop_all, length-take}
 use Rattle.gcl_model.specs.Extents.{Extent}
 use Rattle.gcl_model.specs.Forms.{Form}
 use Rattle.gcl_model.specs.FormOf.{form_of}
-use Rattle.gcl_model.specs.Limits.{address_end}
 use Rattle.gcl_model.specs.Texts.{Text}
 use Rattle.gcl_model.specs.declared.expr.Expr.{Expr}
 use Rattle.gcl_eval.specs.Members.{members_from}
@@ -13,44 +12,24 @@ use Rattle.gcl_readers.specs.declared.front.Place.{Place}
 use Rattle.live_version.specs.Contents.{VersionContent, version_text}
 use Rattle.reader_pass.specs.Members.{first_members_from}
 use Rattle.collection.specs.Engines.{last_of}
+use Rattle.query_search.specs.Pages.{PagesContent}
 use Rattle.query_search.specs.inner.Searches.{GoesOnAt, ReadFrom, members_over}
-use Rattle.query_search.proofs.SearchLemmas.{IsStartAfter, after_page, few_members, none_at_end, page_and_rest, page_before, start_behind}
-use Rattle.query_search.proofs.search.Search.page.Goals as goal
+use Rattle.query_search.proofs.SearchLemmas.{IsStartAfter, after_page, none_at_end, page_before, start_behind}
+use Rattle.query_search.proofs.pages.Pages.page.Goals as goal
 
 -- at the end nothing is left
-empty : (history : List VersionContent) (form : Form) (from end given : ℕ) → GoesOnAt history form from end given → from ≡ end → members_from (members_over history form) from ≡ []
-empty history form from end given is at = none_at_end (version_text (last_of history)) form from (at ∙ is.text_end)
+empty : (history : List VersionContent) (form : Form) (from end : ℕ) → GoesOnAt history form from end → from ≡ end → members_from (members_over history form) from ≡ []
+empty history form from end is at = none_at_end (version_text (last_of history)) form from (at ∙ is.text_end)
 
--- a page and the bound of its count
-counted : (history : List VersionContent) (form : Form) (from end given most count : ℕ) (page : List Extent) → GoesOnAt history form from end given
-    → page ≡ take most (members_from (members_over history form) from) → count ≡ length page → given + count ≤ address_end
-counted history form from end given most count page is taken counts =
-    let all : List Extent = members_over history form in
-    let list : List Extent = members_from all from in
-    let left : List Extent = drop most list in
-    let split : length page + length left ≡ length list = page_and_rest most list page left taken refl in
-    let whole : given + length list ≡ length all = is.whole in
-    let few : length all ≤ (last_of history).next = few_members (version_text (last_of history)) form in
-    let text_end : end ≡ (last_of history).next = is.text_end in
-    let in_range : end ≤ address_end = is.in_range in
-    omega arith
-
--- what is true of the search after the page
-goes_on : (history : List VersionContent) (form : Form) (from end given most count next : ℕ) (page : List Extent) → GoesOnAt history form from end given
-    → page ≡ take most (members_from (members_over history form) from) → count ≡ length page → next ≤ end
-    → members_from (members_over history form) next ≡ drop most (members_from (members_over history form) from) → GoesOnAt history form next end (given + count)
-goes_on history form from end given most count next page is taken counts within left =
-    let all : List Extent = members_over history form in
-    let split : length page + length (members_from all next) ≡ length (members_from all from) = page_and_rest most (members_from all from) page (members_from all next) taken left in
-    let whole : given + length (members_from all from) ≡ length all = is.whole in
-    record {
-      last = is.last;
-      well_formed = is.well_formed;
-      text_end = is.text_end;
-      in_range = is.in_range;
-      within = within;
-      whole = omega arith;
-    }
+-- what is true of the members after the page
+goes_on : (history : List VersionContent) (form : Form) (from end next : ℕ) → GoesOnAt history form from end → next ≤ end → GoesOnAt history form next end
+goes_on history form from end next is within = record {
+  last = is.last;
+  well_formed = is.well_formed;
+  text_end = is.text_end;
+  in_range = is.in_range;
+  within = within;
+}
 
 -- a page is no longer than was asked for
 is_page : (most : ℕ) (list page : List Extent) → page ≡ take most list → length page ≤ most
@@ -67,14 +46,14 @@ reads_on history form from most end next page readers le some after full short =
 
 pub returns-then-self-clause-ok : goal.returns-then-self-clause-ok
 returns-then-self-clause-ok c =
-    let none : c.args.self.now ≡ [] = sym c.self.view_is ∙ empty c.self.inside.pass.history (form_of c.self.inside.expr.value) c.self.inside.from c.self.inside.end c.self.inside.given c.self.invariant.0 c.if-self.true in
-    let taken : take c.args.most c.args.self.now ≡ [] = ap (λ (l : List Extent). take c.args.most l) none ∙ take_all c.args.most [] (omega arith) in
+    let none : c.args.self.now.to_come ≡ [] = ap (λ (p : PagesContent). p.to_come) (sym c.self.view_is) ∙ empty c.self.inside.pass.history (form_of c.self.inside.expr.value) c.self.inside.from c.self.inside.end c.self.invariant.0 c.if-self.true in
+    let taken : take c.args.most c.args.self.now.to_come ≡ [] = ap (λ (l : List Extent). take c.args.most l) none ∙ take_all c.args.most [] (omega arith) in
     cc
 
 pub returns-then-self-clause-rest : goal.returns-then-self-clause-rest
 returns-then-self-clause-rest c =
-    let none : c.args.self.now ≡ [] = sym c.self.view_is ∙ empty c.self.inside.pass.history (form_of c.self.inside.expr.value) c.self.inside.from c.self.inside.end c.self.inside.given c.self.invariant.0 c.if-self.true in
-    let left : drop c.args.most c.args.self.now ≡ [] = ap (λ (l : List Extent). drop c.args.most l) none ∙ drop_all c.args.most [] (omega arith) in
+    let none : c.args.self.now.to_come ≡ [] = ap (λ (p : PagesContent). p.to_come) (sym c.self.view_is) ∙ empty c.self.inside.pass.history (form_of c.self.inside.expr.value) c.self.inside.from c.self.inside.end c.self.invariant.0 c.if-self.true in
+    let left : drop c.args.most c.args.self.now.to_come ≡ [] = ap (λ (l : List Extent). drop c.args.most l) none ∙ drop_all c.args.most [] (omega arith) in
     cc
 
 pub start_after-self-inside-requires-clause-below : goal.start_after-self-inside-requires-clause-below
@@ -83,15 +62,6 @@ start_after-self-inside-requires-clause-below c =
     let text : Text = version_text (last_of c.self.inside.pass.history) in
     page_before text (form_of c.self.inside.expr.value) c.self.inside.from c.args.most c.self.inside.end c.in_ok-page.page c.self.invariant.0.text_end
     (c.in_ok-page.ensures.ok ∙ ap (λ (e : Expr). first_members_from text (form_of e) c.self.inside.from c.args.most) same)
-
-pub overflow_add-self : goal.overflow_add-self
-overflow_add-self c =
-    let same : c.deref.result.now ≡ c.self.inside.expr.value = search rules in
-    let text : Text = version_text (last_of c.self.inside.pass.history) in
-    let bound : c.self.inside.given + c.len.result ≤ address_end =
-    counted c.self.inside.pass.history (form_of c.self.inside.expr.value) c.self.inside.from c.self.inside.end c.self.inside.given c.args.most c.len.result c.in_ok-page.page c.self.invariant.0
-    (c.in_ok-page.ensures.ok ∙ ap (λ (e : Expr). first_members_from text (form_of e) c.self.inside.from c.args.most) same) c.len.ensures in
-    omega arith
 
 pub invariant_of-self-2 : goal.invariant_of-self-2
 invariant_of-self-2 c =
@@ -103,9 +73,7 @@ invariant_of-self-2 c =
     let some : 0 < c.args.most = omega arith in
     let after : IsStartAfter c.in_ok-page.page c.args.most c.self.inside.end c.start_after-self-inside.result =
     record { full = c.start_after-self-inside.ensures.full; short = c.start_after-self-inside.ensures.short } in (
-      goes_on c.self.inside.pass.history form c.self.inside.from c.self.inside.end c.self.inside.given c.args.most c.len.result c.start_after-self-inside.result c.in_ok-page.page c.self.invariant.0
-          is c.len.ensures c.start_after-self-inside.ensures.within
-          (after_page text form c.self.inside.from c.args.most c.self.inside.end c.start_after-self-inside.result c.in_ok-page.page c.self.invariant.0.text_end some is after),
+      goes_on c.self.inside.pass.history form c.self.inside.from c.self.inside.end c.start_after-self-inside.result c.self.invariant.0 c.start_after-self-inside.ensures.within,
       reads_on c.self.inside.pass.history form c.self.inside.from c.args.most c.self.inside.end c.start_after-self-inside.result c.in_ok-page.page c.page_from.new.readers
           (is_page c.args.most (members_from (members_over c.self.inside.pass.history form) c.self.inside.from) c.in_ok-page.page is) some after
           (λ full. subst (λ (e : Expr). ReadFrom c.self.inside.pass.history (form_of e) (behind_page c.self.inside.from c.in_ok-page.page) c.page_from.new.readers) same (c.in_ok-page.ensures.full full))
@@ -121,4 +89,4 @@ returns-clause-rest c =
     c.in_ok-page.ensures.ok ∙ ap (λ (e : Expr). first_members_from text (form_of e) c.self.inside.from c.args.most) same in
     after_page text form c.self.inside.from c.args.most c.self.inside.end c.start_after-self-inside.result c.in_ok-page.page c.self.invariant.0.text_end (omega arith) is
     (record { full = c.start_after-self-inside.ensures.full; short = c.start_after-self-inside.ensures.short })
-    ∙ ap (λ (l : List Extent). drop c.args.most l) c.self.view_is
+    ∙ ap (λ (p : PagesContent). drop c.args.most p.to_come) c.self.view_is

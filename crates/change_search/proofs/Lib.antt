@@ -1,0 +1,5 @@
+mod BoundLemmas
+mod EditLemmas
+mod LocalLemmas
+mod SideLemmas
+mod StepLemmas

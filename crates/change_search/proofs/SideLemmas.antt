@@ -1,0 +1,26 @@
+-- What is to come of a page and of what follows it.
+use Rattle.std.proofs.Common.{◌≡◌, ℕ, ◌+◌, ◌<◌, Bool, cond, List, [], ◌∷◌, ◌++◌, length, drop, take_while, inl, inr, sym, ap, ◌∙◌, arith}
+use Rattle.std.proofs.lemmas.Bool.{cases_Bool}
+use Rattle.std.proofs.lemmas.List.{drop_more}
+use Rattle.std.proofs.lemmas.List.Sums.{take_while-cons}
+use Rattle.gcl_model.specs.Extents.{Extent}
+
+-- past the member at a place of the page are the others
+past : (page rest : List Extent) (at : ℕ) → at < length page → drop (at + 1) page ++ rest ≡ drop 1 (drop at page ++ rest)
+past [] rest at lt = absurd (omega arith)
+past (x ∷ page) rest at lt = sym (ap (λ (l : List Extent). drop 1 (l ++ rest)) (drop_more (x ∷ page) at x lt))
+
+taken_past : (test : Extent → Bool) (list : List Extent) → 0 < length (take_while test list) → take_while test (drop 1 list) ≡ drop 1 (take_while test list)
+taken_past test [] some = absurd (omega arith)
+taken_past test (x ∷ list) some =
+    elim (cases_Bool (test x)) [
+      | inl t ↦ sym (ap (drop 1) (take_while-cons test x list ∙ ap (λ (b : Bool). cond b (x ∷ take_while test list) []) t))
+      | inr f ↦
+          let none : length (take_while test (x ∷ list)) ≡ length {A = Extent} [] = ap length (take_while-cons test x list ∙ ap (λ (b : Bool). cond b (x ∷ take_while test list) []) f) in
+          absurd (omega arith)
+    ]
+
+-- and so it is of those up to the first that fails a test
+pub past_first : (test : Extent → Bool) (page rest : List Extent) (at : ℕ) → at < length page → 0 < length (take_while test (drop at page ++ rest))
+    → take_while test (drop (at + 1) page ++ rest) ≡ drop 1 (take_while test (drop at page ++ rest))
+past_first test page rest at lt some = ap (λ (l : List Extent). take_while test l) (past page rest at lt) ∙ taken_past test (drop at page ++ rest) some

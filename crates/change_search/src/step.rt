@@ -1,0 +1,90 @@
+//! A step through the lists of two sides.
+ghost use Rattle.std.specs.Prelude.{◌≡◌, [], ◌∷◌, IfOk, IfSome, IsNone, OnErr};
+ghost use Rattle.gcl_model.specs.Extents.{IsRising};
+ghost use Rattle.standing_query.specs.Changes.{changes, comes_before};
+ghost use Rattle.change_search.specs.inner.Sides.{to_come};
+ghost use Rattle.change_search.specs.inner.Steps.{IsStep};
+
+use crate::side::Side;
+use gcl_model::Interval;
+use standing_query::Change;
+use std::alloc::{AllocError, Global};
+
+/// What is found where the first members of two sides are compared.
+#[derive(Drop)]
+pub enum Step {
+    /// The lesser one is in one list alone, and is passed.
+    Tells(Change),
+    /// They are the same, and are passed.
+    Skips,
+    /// There is none.
+    Ends,
+}
+
+/// Whether an interval comes before another: it starts before it, or starts there and ends before it.
+fn comes_before(a: Interval, b: Interval) -> bool
+    ensures { result ≡ comes_before a b }
+{
+    a.start < b.start || (a.start == b.start && a.end < b.end)
+}
+
+/// Goes past the lesser first member, or past both where they are the same.
+fn advance(alloc: Global, before: &mut Side, after: &mut Side) -> Result<Step, AllocError>
+    requires old { IsRising (to_come before.old) }
+    requires new { IsRising (to_come after.old) }
+    ensures ok { IfOk result (IsStep (to_come before.old) (to_come after.old) (to_come before.new) (to_come after.new)) }
+    ensures old { IsRising (to_come before.new) }
+    ensures new { IsRising (to_come after.new) }
+    ensures err { OnErr result ((to_come before.new ≡ to_come before.old) × (to_come after.new ≡ to_come after.old)) }
+{
+    let old = before.first(alloc)?;
+    let new = after.first(alloc)?;
+    match (old, new) {
+        (None, None) => Ok(Step::Ends),
+        (Some(went), None) => {
+            before.pass();
+            Ok(Step::Tells(Change::Went(went)))
+        }
+        (None, Some(came)) => {
+            after.pass();
+            Ok(Step::Tells(Change::Came(came)))
+        }
+        (Some(a), Some(b)) => {
+            if comes_before(a, b) {
+                before.pass();
+                return Ok(Step::Tells(Change::Went(a)));
+            }
+            if comes_before(b, a) {
+                after.pass();
+                return Ok(Step::Tells(Change::Came(b)));
+            }
+            before.pass();
+            after.pass();
+            Ok(Step::Skips)
+        }
+    }
+}
+
+/// The first change between what is to come of two sides. `Err` is out of memory.
+pub fn next_change(
+    alloc: Global,
+    before: &mut Side,
+    after: &mut Side,
+) -> Result<Option<Change>, AllocError>
+    requires old { IsRising (to_come before.old) }
+    requires new { IsRising (to_come after.old) }
+    ensures some { IfOk result (λ next. IfSome next (λ change.
+        changes (to_come before.old) (to_come after.old) ≡ change ∷ changes (to_come before.new) (to_come after.new))) }
+    ensures none { IfOk result (λ next. IsNone next → changes (to_come before.old) (to_come after.old) ≡ []) }
+    ensures err { OnErr result (changes (to_come before.new) (to_come after.new) ≡ changes (to_come before.old) (to_come after.old)) }
+    ensures old { IsRising (to_come before.new) }
+    ensures new { IsRising (to_come after.new) }
+{
+    loop {
+        match advance(alloc, before, after)? {
+            Step::Tells(change) => return Ok(Some(change)),
+            Step::Skips => continue,
+            Step::Ends => return Ok(None),
+        }
+    }
+}

@@ -1,0 +1,145 @@
+ghost use Rattle.std.specs.Prelude.{◌≡◌, ◌+◌, ◌<◌, ◌≤◌, List, [], ◌∷◌, ◌++◌, length, take, drop, IfOk, IfSome, OnOk, OnErr};
+ghost use Rattle.std.specs.List.{AllByRecursion};
+ghost use Rattle.gcl_model.specs.Extents.{Extent};
+ghost use Rattle.gcl_model.specs.FormOf.{form_of};
+ghost use Rattle.gcl_model.specs.Limits.{address_end};
+ghost use Rattle.gcl_model.specs.Meaning.{concordance};
+ghost use Rattle.gcl_model.specs.WellFormed.{IsWellFormed};
+ghost use Rattle.live_version.specs.Contents.{version_text};
+ghost use Rattle.manifest_publish.specs.Accounts.{EndsWith};
+ghost use Rattle.collection.specs.Engines.{last_of};
+ghost use Rattle.query_search.specs.Pages.{pages_from};
+ghost use Rattle.query_search.specs.inner.Searches.{members_over};
+
+use crate::questions::MemberCount;
+use crate::reading::{count_from, page_from, readers_of};
+use gcl_model::{Expr, IntervalList, uncounted};
+use gcl_readers::Readers;
+use manifest_publish::Pass;
+use reader_pass::pass_listed_count;
+use std::alloc::{AllocError, Global};
+use std::marker::Model;
+use std::sync::Arc;
+
+/// The members of an expression over a version that start at an address or later, page by page. Contracts see all members, and those that
+/// are still to come.
+#[derive(Drop)]
+pub struct Pages {
+    pass: Pass,
+    expr: Arc<Expr>,
+    // Where leaping may be slow, they find the members; they passed none that is to come.
+    readers: Option<Readers>,
+    // The members to come start here or later, and before `end`.
+    from: u64,
+    end: u64,
+}
+
+impl Model for Pages {
+    ghost use Rattle.gcl_model.specs.FormOf.{form_of};
+    ghost use Rattle.query_search.specs.Pages.{PagesContent, pages_from};
+    ghost use Rattle.query_search.specs.inner.Searches.{members_over, GoesOnAt, ReadFrom};
+
+    ghost Value = { PagesContent };
+
+    ghost view = { λ p. pages_from (members_over p.pass.history (form_of p.expr.value)) p.from };
+
+    ghost invariant = { λ p. GoesOnAt p.pass.history (form_of p.expr.value) p.from p.end ×
+        ReadFrom p.pass.history (form_of p.expr.value) p.from p.readers };
+}
+
+/// Where the members after a page start at the earliest: after the start of its last one, or at the end where it has fewer than were
+/// asked for.
+fn start_after(page: &IntervalList, most: u64, end: u64) -> u64
+    requires below { AllByRecursion (λ (a : Extent). a.start < end) page.now }
+    requires in_range { end ≤ address_end }
+    ensures full { (before : List Extent) (last : Extent) → page.now ≡ before ++ last ∷ [] → most ≤ length page.now →
+        result ≡ last.start + 1 }
+    ensures short { length page.now < most → result ≡ end }
+    ensures within { result ≤ end }
+{
+    if (page.len() as u64) < most {
+        return end;
+    }
+    match page.as_slice() {
+        [.., last] => last.start + 1,
+        [] => end,
+    }
+}
+
+/// The number of all members, where it is known by the lengths of lists.
+fn listed_count(pass: &Pass, expr: &Expr) -> Option<u64>
+    requires { EndsWith pass.now.history (last_of pass.now.history) }
+    ensures { IfSome result (λ count. count ≡ length (members_over pass.now.history (form_of expr.now))) }
+{
+    pass_listed_count(pass, expr)
+}
+
+impl Pages {
+    /// Those that start at `k` or later, of an expression without prefix terms, or of what `expansion_of` made of one over this version.
+    ///
+    /// Over `to be or not to be` from address 0, those of `"to"` from 2 on are 5 to 5 alone.
+    pub fn from(alloc: Global, pass: Pass, expr: Arc<Expr>, k: u64) -> Pages
+        requires { IsWellFormed (form_of expr.value) }
+        ensures members { result ≡ pages_from (concordance (version_text (last_of pass.history)) (form_of expr.value)) k }
+        ensures few { length result.all ≤ address_end }
+    {
+        let version = pass.version();
+        let end = version.next();
+        let from = k.min(end);
+        let readers = readers_of(alloc, version, &expr);
+        Pages {
+            pass,
+            expr,
+            readers,
+            from,
+            end,
+        }
+    }
+
+    /// The next `most` members, or all where fewer are to come. They are found from where the last page ended: by leaping, so that a page
+    /// takes the look-ups of its own members alone, or by readers, of which all pages together take those of one merge of whole lists.
+    /// `Err` is out of memory, and then the same page can be asked for again.
+    pub fn page(&mut self, alloc: Global, most: u64) -> Result<IntervalList, AllocError>
+        ensures ok { IfOk result (λ page. page ≡ take most self.old.to_come) }
+        ensures rest { OnOk result (self.new.to_come ≡ drop most self.old.to_come) }
+        ensures all { self.new.all ≡ self.old.all }
+        ensures err { OnErr result (self.new ≡ self.old) }
+    {
+        if most == 0 {
+            return Ok(IntervalList::new(alloc));
+        }
+        if self.from == self.end {
+            return Ok(IntervalList::new(alloc));
+        }
+        let page = page_from(
+            alloc,
+            &self.pass,
+            &self.expr,
+            &mut self.readers,
+            self.from,
+            most,
+        )?;
+        self.from = start_after(&page, most, self.end);
+        Ok(page)
+    }
+
+    /// How many members are to come, where this many came. No list is made: it is read off the lengths of lists where it can be, and else
+    /// counted. Where readers count, they go to the end, and pages after that are found by leaping.
+    pub(crate) fn count(&mut self, given: u64) -> u64
+        requires { given + length self.old.to_come ≡ length self.old.all }
+        ensures value { result ≡ length self.old.to_come }
+        ensures same { self.new ≡ self.old }
+    {
+        if let Some(all) = listed_count(&self.pass, &self.expr) {
+            return all - given;
+        }
+        let Some(mut readers) = self.readers.take() else {
+            let all = uncounted(&MemberCount {
+                pass: &self.pass,
+                expr: &self.expr,
+            });
+            return all - given;
+        };
+        count_from(&self.pass, &self.expr, &mut readers, self.from)
+    }
+}
