@@ -9,7 +9,8 @@ use Rattle.script_answers.specs.States.{State, Keeps, opening, IsFresh}
 use Rattle.script_answers.specs.Answers.{answers, output_by, state_after, AreRead}
 use Rattle.query_run.specs.Runs.{WhereTold, WhereMade, WhereMadeBy, HasAnswered, StopsAfter, IsLeftBy, within, made_opening, made_summary}
 use Rattle.script_answers.specs.Stopped.{Ending, GetsPart, IsOfFiles, IsStopped, begun}
-use Rattle.script_answers.specs.inner.Service.{Halts, IsAtStand, Serves, Stand}
+use Rattle.standing_query.specs.Watches.{watch_list}
+use Rattle.script_answers.specs.inner.Service.{Halts, IsAtStand, Serves, Stand, watching_of}
 use Rattle.script_answers.proofs.Stops.{stopped_after}
 use Rattle.query_run.specs.inner.Streams.{ServesWithin}
 use Rattle.live_version.specs.StandsFor.{StandsFor}
@@ -52,13 +53,14 @@ at_script : (left : Option (List ℕ)) (P : List ℕ → Type 0) (script : List 
 at_script None P script is p = absurd (cc is)
 at_script (Some other) P script is p = let same : other ≡ script = cc is in subst P same p
 
-module _ (limits : Limits) (before : Stand) (first : ℕ) (left : Option (List ℕ)) (fresh : IsFresh before.engine before.completed) (is_first : before.engine.version.first ≡ first) (idle : before.pending ≡ false) where
+module _ (limits : Limits) (before : Stand) (first : ℕ) (left : Option (List ℕ)) (fresh : IsFresh before.engine before.completed) (is_first : before.engine.version.first ≡ first) (idle : before.pending ≡ false) (unwatched : before.watches ≡ watch_list [] 0) where
   -- the run is at the state before the first line
   begins : (contents : Contents) (images : Images) → before.held ≡ Some contents → IsAtStand before (opening first contents images)
   begins contents images held = record {
     files = held;
     keeps = subst (λ (n : ℕ). Keeps before.engine before.pending (opening n contents images)) is_first
         (subst (λ (w : Bool). Keeps before.engine w (opening before.engine.version.first contents images)) (sym idle) (fresh_keeps before.engine before.completed contents images fresh));
+    watching = ap watching_of unwatched;
   }
 
   -- a run that ended among its lines has stopped there

@@ -2,6 +2,7 @@ ghost use Rattle.std.specs.Prelude.{◌≡◌, ◌≤◌, ◌<◌, [], Some, tru
 ghost use Rattle.gcl_model.specs.Limits.{most_readers, most_script};
 ghost use Rattle.outside.specs.Causes.{Rose};
 ghost use Rattle.script_lang.specs.Lines.{lines};
+ghost use Rattle.standing_query.specs.Watches.{watch_list};
 ghost use Rattle.query_lanes.specs.Readers.{AreOf};
 ghost use Rattle.script_answers.specs.Answers.{names_kept_of, names_of, output_by};
 ghost use Rattle.script_answers.specs.States.{AreLimits, IsFresh};
@@ -73,7 +74,8 @@ fn serve_all<R: Threads + Wait + Sync, F: Files, S: Source, K: Sink, G: Gate + S
 ) -> Result<(), StreamFault>
     requires opened { IsFresh opened.old.engine opened.old.lines }
     requires readers { AreOf opened.old.engine.publisher opened.old.readers.items × (length opened.old.readers.items ≤ most_readers) }
-    requires progress { (progress.old.asked ≡ 0) × (progress.old.refused ≡ false) × (progress.old.pending ≡ false) }
+    requires progress { (progress.old.asked ≡ 0) × (progress.old.refused ≡ false) × (progress.old.pending ≡ false) ×
+        (progress.old.watches ≡ watch_list [] 0) }
     ensures answered { OnOk result (
         WhereTold setting.now.limits (Some opened.old.engine.version.first) (S.left source.old) (F.held files.old) (λ start script.
         HasAnswered setting.now.limits start script progress.new.refused (F.held files.new) (K.written sink.old) (K.written sink.new))) }

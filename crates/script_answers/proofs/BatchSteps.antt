@@ -18,7 +18,7 @@ use Rattle.script_answers.specs.Answers.{answers, state_after}
 use Rattle.script_answers.specs.Stopped.{Ending, GetsPart, IsAllWritten, IsOfFiles, begun}
 use Rattle.script_answers.specs.inner.Asks.{AreAsked, found_lines}
 use Rattle.script_answers.specs.inner.Puts.{founds_text}
-use Rattle.script_answers.specs.inner.Service.{Halts, IsAtStand, Serves, Stand}
+use Rattle.script_answers.specs.inner.Service.{Halts, IsAtStand, Serves, Stand, watching_of}
 use Rattle.script_answers.specs.declared.limits.Limits.{Limits}
 use Rattle.script_answers.proofs.BatchLemmas.{asked_front, batch_answered, batch_length, batch_lines, batch_state, one_begun}
 use Rattle.script_answers.proofs.PageLemmas.{lines_of_founds}
@@ -32,7 +32,7 @@ found_first limits state asks batch founds n are is =
     batch_lines limits state (take n asks) (take n batch) (asked_front n asks batch are) ∙ sym (lines_of_founds (text_of state.collection) (take n asks))
     ∙ ap (flat_map found_lines) (sym (take-map (answer_in (text_of state.collection)) n asks) ∙ ap (take n) (sym is))
 
-module _ (limits : Limits) (asks : List Ask) (batch : List Line) (before after : Stand) (are : AreAsked asks batch) (held : after.held ≡ before.held) where
+module _ (limits : Limits) (asks : List Ask) (batch : List Line) (before after : Stand) (are : AreAsked asks batch) (held : after.held ≡ before.held) (watching : after.watches ≡ before.watches) where
   -- it was answered where the engine keeps each state of before, and what was found is so over the collection
   pub serves_batch : (founds : List Found) (old new : Option (List ℕ)) → length founds ≡ length asks → after.completed ≡ before.completed + length founds →
       ((state : State) → Keeps before.engine before.pending state → Keeps after.engine after.pending state) →
@@ -45,7 +45,7 @@ module _ (limits : Limits) (asks : List Ask) (batch : List Line) (before after :
         batch_lines limits state asks batch are ∙ sym (lines_of_founds (text_of state.collection) asks) ∙ ap (flat_map found_lines) (sym (is state at.keeps)) in
         record {
           answered = batch_answered limits state asks batch are;
-          at = subst (IsAtStand after) (sym (batch_state limits state asks batch are)) (record { files = held ∙ at.files; keeps = keeps state at.keeps });
+          at = subst (IsAtStand after) (sym (batch_state limits state asks batch are)) (record { files = held ∙ at.files; keeps = keeps state at.keeps; watching = ap watching_of watching ∙ at.watching });
           refused_is = refused ∙ ap (λ (l : List (List ℕ)). before.refused || list_any is_refusal l) (sym lines);
           written = subst (λ (l : List (List ℕ)). Appends old new (text_of_lines l)) (sym lines) written;
         };

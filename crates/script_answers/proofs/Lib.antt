@@ -3,6 +3,7 @@ pub mod ActionSteps
 pub mod BatchLemmas
 pub mod BatchSteps
 pub mod ImageLemmas
+pub mod LocalEdits
 pub mod PageLemmas
 pub mod PutLemmas
 pub mod Replies
@@ -11,3 +12,5 @@ pub mod Scripts
 pub mod Service
 pub mod Stops
 pub mod TaskLemmas
+pub mod TellingLemmas
+pub mod WatchReplies

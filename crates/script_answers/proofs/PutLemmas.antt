@@ -63,6 +63,19 @@ part_written a b c h h' text none put rest = record {
   written = Appends-trans a b c put.part rest.part put.written rest.written;
 }
 
+-- what was held back, and a text after it, are written once the rest is
+pub all_behind : (a b c : Option (List ℕ)) (h h' text : List ℕ) → Puts a b h h' text → Appends b c h' → Appends a c (h ++ text)
+all_behind a b c h h' text put rest = subst (Appends a c) (sym put.whole) (Appends-trans a b c put.part h' put.written rest)
+
+-- a part of them is
+pub part_behind : (a b c : Option (List ℕ)) (h h' text : List ℕ) → Puts a b h h' text → GetsPart b c h' → GetsPart a c (h ++ text)
+part_behind a b c h h' text put rest = record {
+  part = put.part ++ rest.part;
+  rest = rest.rest;
+  whole = put.whole ∙ ap (λ l. put.part ++ l) rest.whole ∙ sym (append_assoc put.part rest.part rest.rest);
+  written = Appends-trans a b c put.part rest.part put.written rest.written;
+}
+
 -- a text that is put part by part
 module _ {A : Type 0} (text : List A → List ℕ) (on : (xs ys : List A) → text (xs ++ ys) ≡ text xs ++ text ys) where
   -- no part was put

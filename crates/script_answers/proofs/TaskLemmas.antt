@@ -4,7 +4,7 @@ use Rattle.std.specs.Prelude.{if◌then◌else◌}
 use Rattle.script_lang.specs.Lines.{Line}
 use Rattle.script_lang.specs.Commands.{command_of}
 use Rattle.script_lang.specs.declared.commands.Command.{Command}
-use Rattle.script_lang.specs.declared.commands.Command.TheVariants.{Blank, Add, Del, Find, Count, Top, Files, Merge, Shards, Save, Load, Wrong}
+use Rattle.script_lang.specs.declared.commands.Command.TheVariants.{Blank, Add, Del, Find, Count, Top, Files, Merge, Shards, Save, Load, Watch, Unwatch, Wrong}
 use Rattle.script_lang.specs.declared.refusals.Refusal.TheVariants.{LongLine}
 use Rattle.query_lanes.specs.declared.asks.Ask.{Ask}
 use Rattle.query_lanes.specs.declared.asks.Asked.{Asked}
@@ -12,7 +12,7 @@ use Rattle.query_lanes.specs.declared.asks.Asked.TheVariants.{All, First, Number
 use Rattle.script_answers.specs.States.{State}
 use Rattle.script_answers.specs.Answers.{answer, is_query, names_asked, names_kept, names_kept_of_line, names_of_line, refusal_lines, reply, unchanged, IsReadBy, IsReadUnless}
 use Rattle.script_answers.specs.inner.Asks.{AsksLine, IsAskOf, command_asking}
-use Rattle.script_answers.specs.inner.Tasks.{IsActionOf, IsNothing, IsReadByAction, IsTaskFor, IsTaskOf, task_kept, task_names, action_kept, action_names, action_of, action_reply}
+use Rattle.script_answers.specs.inner.Tasks.{IsActionOf, IsNothing, IsReadByAction, IsTaskFor, IsTaskOf, task_kept, task_names, action_kept, action_names, action_of, told_reply}
 use Rattle.script_answers.specs.declared.action.Action.{Action}
 use Rattle.script_answers.specs.declared.task.Task.{Task}
 use Rattle.script_answers.specs.declared.task.Task.TheVariants.{Nothing, Ask as Asks, Act}
@@ -20,7 +20,7 @@ use Rattle.script_answers.specs.declared.limits.Limits.{Limits}
 
 -- a command does this, and asks no query
 record Acts (command : Command) (action : Action) : Type 0 where
-  same : (limits : Limits) (state : State) → reply limits state command ≡ action_reply limits state action
+  same : (limits : Limits) (state : State) → reply limits state command ≡ told_reply limits state action
   names : names_asked command ≡ action_names action
   kept : names_kept command ≡ action_kept action
   reads : (state : State) → IsReadBy state command → IsReadByAction state action
@@ -34,6 +34,8 @@ acts Merge = record { same = λ limits state. refl; names = refl; kept = refl; r
 acts Shards = record { same = λ limits state. refl; names = refl; kept = refl; reads = λ state read. read; unasked = refl }
 acts (Save name) = record { same = λ limits state. refl; names = refl; kept = refl; reads = λ state read. read; unasked = refl }
 acts (Load name) = record { same = λ limits state. refl; names = refl; kept = refl; reads = λ state read. read; unasked = refl }
+acts (Watch query) = record { same = λ limits state. refl; names = refl; kept = refl; reads = λ state read. read; unasked = refl }
+acts (Unwatch number) = record { same = λ limits state. refl; names = refl; kept = refl; reads = λ state read. read; unasked = refl }
 acts Wrong = record { same = λ limits state. refl; names = refl; kept = refl; reads = λ state read. read; unasked = refl }
 acts Blank = tt
 acts (Find query) = tt

@@ -1,5 +1,5 @@
 -- The answer to each line, and the output of a script.
-use Rattle.std.specs.Prelude.{ℕ, ◌+◌, ◌-◌, Bool, true, false, nat_lt, List, [], ◌∷◌, ◌++◌, length, take, map, flat_map, Option, None, Some, IsSome, IfSome, ⊤, if◌then◌else◌}
+use Rattle.std.specs.Prelude.{ℕ, ◌+◌, ◌-◌, ◌==◌, Bool, true, false, not, nat_lt, List, [], ◌∷◌, ◌++◌, length, take, map, filter, flat_map, Option, None, Some, IsSome, IfSome, ⊤, if◌then◌else◌}
 use Rattle.std.specs.Option.{option_map}
 use Rattle.std.specs.List.{list_any}
 use Rattle.outside.specs.Contents.{changed_at}
@@ -15,16 +15,20 @@ use Rattle.address_space.specs.Runs.{FileEntry}
 use Rattle.live_version.specs.StandsFor.{entry_of}
 use Rattle.script_lang.specs.Lines.{Line, lines, text_of_lines}
 use Rattle.script_lang.specs.Commands.{command_of}
-use Rattle.script_lang.specs.Answers.{file_line, gone_line, interval_line, total_line, merging_line, shards_line, saved_line, opened_line, record_line, refusal_line, is_refusal}
+use Rattle.script_lang.specs.Answers.{file_line, gone_line, interval_line, total_line, watch_line, unwatched_line, change_line, merging_line, shards_line, saved_line, opened_line, record_line, refusal_line, is_refusal}
 use Rattle.script_lang.specs.declared.commands.Command.{Command}
-use Rattle.script_lang.specs.declared.commands.Command.TheVariants.{Blank, Add, Del, Find, Count, Top, Files, Merge, Shards, Save, Load, Wrong}
+use Rattle.script_lang.specs.declared.commands.Command.TheVariants.{Blank, Add, Del, Find, Count, Top, Files, Merge, Shards, Save, Load, Watch, Unwatch, Wrong}
 use Rattle.script_lang.specs.declared.refusals.Refusal.{Refusal}
-use Rattle.script_lang.specs.declared.refusals.Refusal.TheVariants.{Command as NoCommand, LongLine, Query, NoFile, TooLong, NoAddresses, NotEmpty, NotImage}
+use Rattle.script_lang.specs.declared.refusals.Refusal.TheVariants.{Command as NoCommand, LongLine, Query, NoFile, TooLong, NoAddresses, NotEmpty, NotImage, NoWatch, TooManyWatches}
 use Rattle.gcl_parser.specs.declared.fault.QueryFault.{QueryFault}
 use Rattle.gcl_parser.specs.Refusal.{refused}
 use Rattle.gcl_parser.specs.QueryForm.{query_form}
+use Rattle.standing_query.specs.Watches.{most_watches}
+use Rattle.standing_query.specs.Changes.{changes}
+use Rattle.standing_query.specs.declared.change.Change.{Change}
+use Rattle.standing_query.specs.declared.change.Change.TheVariants.{Went, Came}
 use Rattle.script_answers.specs.Images.{image_of, IsReading}
-use Rattle.script_answers.specs.States.{State, greatest_limits}
+use Rattle.script_answers.specs.States.{State, Watched, Watches, greatest_limits}
 use Rattle.script_answers.specs.declared.limits.Limits.{Limits}
 use Rattle.query_lanes.specs.declared.asks.Asked.{Asked}
 use Rattle.query_lanes.specs.declared.asks.Asked.TheVariants.{All, First, Number}
@@ -68,6 +72,23 @@ state_keeping state name bytes = record state { files = changed_at name (Some by
 -- after an image was opened: its collection, in one slot, or in none where it has no file
 abbrev pub state_opened : State → Collection → State
 state_opened state c = record state { collection = c; slots = slots_after_open c.files }
+
+-- the line of a change, by the number of its watch: "+ 0 1 2" of an interval that came, and "- 0 1 2" of one that went
+abbrev pub told_line : ℕ → Change → List ℕ
+told_line number (Went interval) = change_line number false interval
+told_line number (Came interval) = change_line number true interval
+
+-- what an edit changed of the list of a watch, a line each
+abbrev pub watch_lines : Text → Text → Watched → List (List ℕ)
+watch_lines before after watch = map (told_line watch.number) (changes (wide before watch.form) (wide after watch.form))
+
+-- the same of each live watch, in rising number
+abbrev pub changes_lines : Watches → Text → Text → List (List ℕ)
+changes_lines watches before after = flat_map (watch_lines before after) watches.live
+
+-- a reply, and then what it changed for each live watch; one that is refused changes nothing, and so tells nothing
+abbrev pub telling : State → Reply → Reply
+telling state reply = record { lines = reply.lines ++ changes_lines state.watches (text_of state.collection) (text_of reply.after.collection); after = reply.after }
 
 -- the reply to adding a file with this content: it is refused where its last address would not be below the end
 abbrev pub content_reply : State → List ℕ → List ℕ → Reply
@@ -127,6 +148,46 @@ lines_by asked text None None = []
 abbrev pub query_lines : Asked → Text → List ℕ → List (List ℕ)
 query_lines asked text query = lines_by asked text (refused query) (query_form query)
 
+-- the watches with one more, of this form: it gets the next number, and stands last
+abbrev pub with_watch : Watches → Form → Watches
+with_watch watches form = record { live = watches.live ++ record { number = watches.next; form = form } ∷ []; next = watches.next + 1 }
+
+-- the watches without that of this number, which is not given again
+abbrev pub without_watch : Watches → ℕ → Watches
+without_watch watches number = record watches { live = filter (λ w. not (w.number == number)) watches.live }
+
+-- some live watch has the number
+abbrev pub has_watch : Watches → ℕ → Bool
+has_watch watches number = list_any (λ w. w.number == number) watches.live
+
+-- after a watch of this form was begun
+abbrev pub state_watching : State → Form → State
+state_watching state form = record state { watches = with_watch state.watches form }
+
+-- after the watch of this number was ended
+abbrev pub state_unwatching : State → ℕ → State
+state_unwatching state number = record state { watches = without_watch state.watches number }
+
+-- the reply to watching a form: it is refused where as many are watched as may be
+abbrev pub form_reply : State → Form → Reply
+form_reply state form = if nat_lt (length state.watches.live) most_watches then record { lines = watch_line state.watches.next ∷ []; after = state_watching state form }
+    else unchanged state (refusal_lines TooManyWatches)
+
+-- the reply to watching a query with this first fault, or of this form
+abbrev pub watch_by : State → Option QueryFault → Option Form → Reply
+watch_by state (Some fault) form = unchanged state (refusal_lines (Query fault))
+watch_by state None (Some form) = form_reply state form
+watch_by state None None = unchanged state []
+
+-- the reply to watching a query; a text that is not refused has a form
+abbrev pub watch_reply : State → List ℕ → Reply
+watch_reply state query = watch_by state (refused query) (query_form query)
+
+-- the reply to ending a watch: it is refused where no live one has the number
+abbrev pub unwatch_reply : State → ℕ → Reply
+unwatch_reply state number = if has_watch state.watches number then record { lines = unwatched_line number ∷ []; after = state_unwatching state number }
+    else unchanged state (refusal_lines (NoWatch number))
+
 -- a line for each of some files
 abbrev pub record_lines : List FileEntry → List (List ℕ)
 record_lines files = map record_line files
@@ -139,11 +200,11 @@ listing_lines files = record_lines files ++ total_line (length files) ∷ []
 abbrev pub files_lines : Collection → List (List ℕ)
 files_lines c = record_lines (map entry_of c.files) ++ total_line (length c.files) ∷ []
 
--- the reply to a command, None where it loads a name that isn't held
+-- the reply to a command, None where it loads a name that isn't held. Each edit tells what it changed
 abbrev pub reply : Limits → State → Command → Option Reply
 reply limits state Blank = Some (unchanged state [])
-reply limits state (Add name) = option_map (add_reply limits state name) (state.files name)
-reply limits state (Del id) = Some (del_reply state id)
+reply limits state (Add name) = option_map (telling state) (option_map (add_reply limits state name) (state.files name))
+reply limits state (Del id) = Some (telling state (del_reply state id))
 reply limits state (Find query) = Some (unchanged state (query_lines All (text_of state.collection) query))
 reply limits state (Count query) = Some (unchanged state (query_lines Number (text_of state.collection) query))
 reply limits state (Top n query) = Some (unchanged state (query_lines (First n) (text_of state.collection) query))
@@ -151,7 +212,9 @@ reply limits state Files = Some (unchanged state (files_lines state.collection))
 reply limits state Merge = Some record { lines = merging_line ∷ []; after = state_merged state }
 reply limits state Shards = Some (unchanged state (shards_line (length state.slots) ∷ []))
 reply limits state (Save name) = Some (save_reply limits state name)
-reply limits state (Load name) = open_reply limits state name
+reply limits state (Load name) = option_map (telling state) (open_reply limits state name)
+reply limits state (Watch query) = Some (watch_reply state query)
+reply limits state (Unwatch number) = Some (unwatch_reply state number)
 reply limits state Wrong = Some (unchanged state (refusal_lines NoCommand))
 
 -- the reply to a line: that to its command, or a refusal where it is long

@@ -8,20 +8,32 @@ use Rattle.live_version.specs.Contents.{ranges_of}
 use Rattle.live_version.specs.Changes.{empty_version}
 use Rattle.live_version.specs.StandsFor.{StandsFor}
 use Rattle.collection.specs.Engines.{EngineContent}
+use Rattle.gcl_model.specs.Forms.{Form}
 use Rattle.script_answers.specs.Images.{Images}
 use Rattle.script_answers.specs.declared.limits.Limits.{Limits}
 
--- What the lines so far leave: the collection, the address ranges of the slots of its index, and what the files hold by name. What each
--- content is an image of stays the same throughout
+-- a query that is watched: the number of the watch, and the query's form
+pub record Watched : Type 0 where
+  pub number : ℕ
+  pub form : Form
+
+-- the live watches in rising number, and the number that the next one gets
+pub record Watches : Type 0 where
+  pub live : List Watched
+  pub next : ℕ
+
+-- What the lines so far leave: the collection, the address ranges of the slots of its index, what the files hold by name, and the live
+-- watches with the number of the next one. What each content is an image of stays the same throughout
 pub record State : Type 0 where
   pub collection : Collection
   pub slots : List SlotRange
   pub files : Contents
+  pub watches : Watches
   pub images : Images
 
--- before the first line: no file was added, and there is no slot
+-- before the first line: no file was added, there is no slot, and nothing is watched
 abbrev pub opening : ℕ → Contents → Images → State
-opening first contents images = record { collection = empty_from first; slots = []; files = contents; images = images }
+opening first contents images = record { collection = empty_from first; slots = []; files = contents; watches = record { live = []; next = 0 }; images = images }
 
 -- the limits of a run
 abbrev pub greatest_limits : Limits

@@ -4,3 +4,4 @@ pub mod Once
 pub mod Puts
 pub mod Service
 pub mod Tasks
+pub mod Telling

@@ -1,18 +1,20 @@
-ghost use Rattle.std.specs.Prelude.{◌≡◌, ◌<◌, [], true, false, IfOk, IsErrOf, OnOk, OnErr};
-ghost use Rattle.gcl_model.specs.Limits.{merge_end};
-ghost use Rattle.image_file.specs.Images.{CanBeSaved};
+ghost use Rattle.std.specs.Prelude.{◌≡◌, [], true, false, IfOk, IsErrOf, OnOk, OnErr};
 ghost use Rattle.outside.specs.Causes.{CountsFileFault, HasFileCause};
 ghost use Rattle.script_answers.specs.States.{State};
-ghost use Rattle.script_answers.specs.inner.Service.{IsAt, StepsOn, Unmade};
-ghost use Rattle.script_answers.specs.inner.Tasks.{Gives, IsNamedAction, IsReadByAction, action_kept, action_names, action_reply, merges};
+ghost use Rattle.script_answers.specs.inner.Service.{IsAt, Unmade, watching_of};
+ghost use Rattle.script_answers.specs.inner.Tasks.{CanAct, Does, IsNamedAction, IsReadByAction};
+ghost use Rattle.script_answers.specs.inner.Tasks.{action_kept, action_names, action_reply, merges};
+ghost use Rattle.script_answers.specs.inner.Telling.{ActsOn};
 
 use crate::action::Action;
 use crate::answer::Answer;
 use crate::changes::{add, delete};
 use crate::saving::{open, save};
 use crate::setting::Setting;
+use crate::watching::{unwatch, watch};
 use collection::Engine;
 use outside::{FileError, Files, Gate};
+use standing_query::WatchList;
 use std::sync::Wait;
 
 /// Does what a line asks for, once no merge is pending, and says what it is answered. At `Err` the change is not made.
@@ -20,17 +22,19 @@ pub(crate) fn act<R: Wait, F: Files, G: Gate>(
     setting: &Setting<'_, R, G>,
     files: &mut F,
     engine: &mut Engine,
+    watches: &mut WatchList,
     action: &Action,
 ) -> Result<Answer, FileError>
     requires named { IsNamedAction action.now }
-    requires savable { CanBeSaved engine.old.version }
-    requires number { engine.old.version.number < merge_end }
-    ensures gives { IfOk result (λ answer. (state : State) → IsAt (F.held files.old) engine.old false state → IsReadByAction state action.now →
-        Gives (action_reply setting.now.limits state action.now) state engine.new (merges action.now) (F.held files.new) answer) }
+    requires ready { CanAct engine.old watches.old }
+    ensures gives { IfOk result (λ answer. (state : State) → IsAt (F.held files.old) engine.old false state →
+        watching_of watches.old ≡ state.watches → IsReadByAction state action.now →
+        Does (action_reply setting.now.limits state action.now) state engine.new (merges action.now) (F.held files.new)
+        watches.new answer) }
     ensures unmade { OnErr result ((state : State) → IsAt (F.held files.old) engine.old false state →
         Unmade (action_kept action.now) (F.unkept files.new ≡ F.unkept files.old) state engine.new (F.held files.new)) }
     ensures named { IsErrOf result FileError.Failed → ¬ (action_names action.now ≡ []) }
-    ensures steps { OnOk result (StepsOn engine.old engine.new (merges action.now)) }
+    ensures steps { IfOk result (ActsOn engine.old engine.new (merges action.now) watches.old watches.new) }
     ensures quiet { action_names action.now ≡ [] → files.new ≡ files.old }
     ensures unsaved { action_kept action.now ≡ [] → F.held files.new ≡ F.held files.old }
     ensures cause { HasFileCause (F.faults files.old) (F.faults files.new) result }
@@ -48,6 +52,11 @@ pub(crate) fn act<R: Wait, F: Files, G: Gate>(
         Action::CountSlots => Ok(Answer::Slots(engine.version().slot_count() as u64)),
         Action::Save(name) => save(setting, files, engine, name.as_slice()),
         Action::Open(name) => open(setting, files, engine, name.as_slice()),
+        Action::Watch(query) => {
+            let answer = watch(setting.context.alloc, watches, query.as_slice())?;
+            Ok(answer)
+        }
+        Action::Unwatch(number) => Ok(unwatch(watches, *number)),
         Action::Refuse(refusal) => Ok(Answer::Refused(*refusal)),
     }
 }

@@ -1,5 +1,5 @@
 ghost use Rattle.std.specs.Prelude.{◌≡◌};
-ghost use Rattle.script_answers.specs.inner.Tasks.{merges};
+ghost use Rattle.script_answers.specs.inner.Tasks.{edits, merges};
 
 use gcl_model::Bytes;
 use script_lang::Refusal;
@@ -21,6 +21,10 @@ pub(crate) enum Action {
     Save(Bytes),
     /// Opens the image of this name.
     Open(Bytes),
+    /// Watches this query.
+    Watch(Bytes),
+    /// Ends the watch with this number.
+    Unwatch(u64),
     /// Is refused, since it is no command or too long.
     Refuse(Refusal),
 }
@@ -31,5 +35,12 @@ impl Action {
         ensures { result ≡ merges self.now }
     {
         matches!(self, Action::Merge)
+    }
+
+    /// Whether it may change the collection, which the watches are told.
+    pub(crate) fn is_edit(&self) -> bool
+        ensures { result ≡ edits self.now }
+    {
+        matches!(self, Action::Add(_) | Action::Delete(_) | Action::Open(_))
     }
 }

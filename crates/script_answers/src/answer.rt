@@ -14,7 +14,7 @@ use file_runs::SharedRun;
 use live_version::{Slot, Version};
 use script_lang::{
     Refusal, put_file, put_gone, put_merging, put_opened, put_record, put_refusal, put_saved,
-    put_shards, put_total,
+    put_shards, put_total, put_unwatched, put_watch,
 };
 use std::alloc::AllocError;
 
@@ -35,6 +35,10 @@ pub(crate) enum Answer {
     Saved(u64),
     /// An image of this number of files was opened.
     Opened(u64),
+    /// A query is watched, by this number.
+    Watching(u64),
+    /// The watch with this number is ended.
+    Unwatched(u64),
     /// The line is refused.
     Refused(Refusal),
 }
@@ -46,7 +50,8 @@ impl Answer {
     {
         match self {
             Answer::Added(_, _, _) | Answer::Gone(_) | Answer::Saved(_) | Answer::Opened(_) => true,
-            Answer::Files | Answer::Merging | Answer::Slots(_) | Answer::Refused(_) => false,
+            Answer::Files | Answer::Merging | Answer::Slots(_) => false,
+            Answer::Watching(_) | Answer::Unwatched(_) | Answer::Refused(_) => false,
         }
     }
 
@@ -117,6 +122,8 @@ pub(crate) fn put_answer(
         Answer::Slots(count) => put_shards(out, *count),
         Answer::Saved(bytes) => put_saved(out, *bytes),
         Answer::Opened(files) => put_opened(out, *files),
+        Answer::Watching(number) => put_watch(out, *number),
+        Answer::Unwatched(number) => put_unwatched(out, *number),
         Answer::Refused(refusal) => put_refusal(out, refusal),
     }
 }

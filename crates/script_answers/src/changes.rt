@@ -9,10 +9,12 @@ ghost use Rattle.script_answers.specs.Answers.{content_reply, del_reply};
 ghost use Rattle.script_answers.specs.declared.action.Action.TheVariants.{Add};
 ghost use Rattle.script_answers.specs.inner.Service.{IsAt, StepsOn};
 ghost use Rattle.script_answers.specs.inner.Tasks.{Follows, Gives, action_reply};
+ghost use Rattle.script_answers.specs.inner.Telling.{IsLocal};
 
 use crate::answer::Answer;
 use crate::setting::Setting;
 use address_space::FileId;
+use change_search::edits_agree;
 use collection::{AddFault, DeleteFault, Engine};
 use outside::{FileError, Files, Loaded};
 use script_lang::Refusal;
@@ -33,7 +35,9 @@ fn add_content<R: Wait>(
         Follows (content_reply state name.now content.now) state engine.new false answer) }
     ensures unmade { OnErr result ((state : State) → Keeps engine.old false state → StandsFor engine.new.version state.collection) }
     ensures steps { OnOk result (StepsOn engine.old engine.new false) }
+    ensures local { IfOk result (λ answer. IsLocal answer engine.old.version engine.new.version) }
 {
+    edits_agree();
     match engine.add(rt, name, content) {
         Ok(added) => Ok(Answer::Added(added.id.0, added.first, added.last)),
         Err(AddFault::AddressesSpent { .. }) => Ok(Answer::Refused(Refusal::NoAddresses)),
@@ -54,6 +58,7 @@ pub(crate) fn add<R: Wait, F: Files, G>(
         Gives (action_reply setting.now.limits state (Add name.now)) state engine.new false (F.held files.new) answer) }
     ensures unmade { OnErr result ((state : State) → Keeps engine.old false state → StandsFor engine.new.version state.collection) }
     ensures steps { OnOk result (StepsOn engine.old engine.new false) }
+    ensures local { IfOk result (λ answer. IsLocal answer engine.old.version engine.new.version) }
     ensures same { F.held files.new ≡ F.held files.old }
     ensures cause { HasFileCause (F.faults files.old) (F.faults files.new) result }
     ensures counts { CountsFileFault (F.faults files.old) (F.faults files.new) result }
@@ -76,7 +81,9 @@ pub(crate) fn delete<R: Wait>(rt: &R, engine: &mut Engine, id: u64) -> Result<An
         Follows (del_reply state id) state engine.new false answer) }
     ensures unmade { OnErr result ((state : State) → Keeps engine.old false state → StandsFor engine.new.version state.collection) }
     ensures steps { OnOk result (StepsOn engine.old engine.new false) }
+    ensures local { IfOk result (λ answer. IsLocal answer engine.old.version engine.new.version) }
 {
+    edits_agree();
     match engine.delete(rt, FileId(id)) {
         Ok(_receipt) => Ok(Answer::Gone(id)),
         Err(DeleteFault::NotLive(_)) => Ok(Answer::Refused(Refusal::NoFile(id))),

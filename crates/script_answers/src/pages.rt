@@ -29,7 +29,7 @@ fn put_intervals(out: &mut Vec<u8>, list: &[Interval]) -> Result<(), AllocError>
 }
 
 /// Hands over what is held back, once it is a piece.
-fn hand_over<K: Sink>(sink: &mut K, out: &mut Vec<u8>) -> Result<(), WriteError>
+pub(crate) fn hand_over<K: Sink>(sink: &mut K, out: &mut Vec<u8>) -> Result<(), WriteError>
     ensures puts { OnOk result (Puts (K.written sink.old) (K.written sink.new) out.old.items out.new.items []) }
     ensures part { OnErr result (GetsPart (K.written sink.old) (K.written sink.new) out.old.items) }
     ensures cause { HasWriteCause (K.faults sink.old) (K.faults sink.new) result }

@@ -12,6 +12,7 @@ ghost use Rattle.script_answers.specs.Answers.{reading_reply};
 ghost use Rattle.script_answers.specs.declared.action.Action.TheVariants.{Save, Open};
 ghost use Rattle.script_answers.specs.inner.Service.{IsAt, StepsOn, Unmade};
 ghost use Rattle.script_answers.specs.inner.Tasks.{Follows, Gives, IsReadByAction, action_reply};
+ghost use Rattle.script_answers.specs.inner.Telling.{IsLocal};
 
 use crate::answer::Answer;
 use crate::setting::Setting;
@@ -45,6 +46,7 @@ pub(crate) fn save<R, F: Files, G>(
     requires savable { CanBeSaved engine.now.version }
     ensures gives { IfOk result (λ answer. (state : State) → IsAt (F.held files.old) engine.now false state →
         Gives (action_reply setting.now.limits state (Save name.now)) state engine.now false (F.held files.new) answer) }
+    ensures local { IfOk result (λ answer. IsLocal answer engine.now.version engine.now.version) }
     ensures unmade { OnErr result ((state : State) → IsAt (F.held files.old) engine.now false state →
         Unmade (name.now ∷ []) (F.unkept files.new ≡ F.unkept files.old) state engine.now (F.held files.new)) }
     ensures cause { HasFileCause (F.faults files.old) (F.faults files.new) result }
@@ -74,6 +76,7 @@ fn adopt<R: Wait>(
         Follows (reading_reply state (state.images bytes.now)) state engine.new false answer) }
     ensures unmade { OnErr result (engine.new ≡ engine.old) }
     ensures steps { OnOk result (StepsOn engine.old engine.new false) }
+    ensures local { IfOk result (λ answer. IsLocal answer engine.old.version engine.new.version) }
 {
     let files = version.file_count();
     match engine.adopt(rt, version) {
@@ -97,6 +100,7 @@ fn open_content<R: Wait, G>(
         Follows (reading_reply state (state.images content.now)) state engine.new false answer) }
     ensures unmade { OnErr result (engine.new ≡ engine.old) }
     ensures steps { OnOk result (StepsOn engine.old engine.new false) }
+    ensures local { IfOk result (λ answer. IsLocal answer engine.old.version engine.new.version) }
 {
     match read_image(context.alloc, content) {
         Ok(version) => {
@@ -121,6 +125,7 @@ pub(crate) fn open<R: Wait, F: Files, G>(
         Gives (action_reply setting.now.limits state (Open name.now)) state engine.new false (F.held files.new) answer) }
     ensures unmade { OnErr result (engine.new ≡ engine.old) }
     ensures steps { OnOk result (StepsOn engine.old engine.new false) }
+    ensures local { IfOk result (λ answer. IsLocal answer engine.old.version engine.new.version) }
     ensures unasked { 0 < engine.old.version.next_id → files.new ≡ files.old }
     ensures same { F.held files.new ≡ F.held files.old }
     ensures cause { HasFileCause (F.faults files.old) (F.faults files.new) result }

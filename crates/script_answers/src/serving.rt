@@ -16,6 +16,7 @@ use crate::progress::Progress;
 use crate::run_fault::RunFault;
 use crate::setting::Setting;
 use crate::task::{Task, read_task};
+use crate::telling::{pass_before, put_changes, since};
 use crate::write::write_all;
 use collection::Opened;
 use outside::{Files, Gate, Sink};
@@ -75,8 +76,8 @@ fn after_change(lines: u64, answer: &Answer) -> u64
     if answer.is_change() { lines + 1 } else { lines }
 }
 
-/// Does what a line asks for that asks no query, and writes its answer. A change is made once no merge is pending, and the line is completed
-/// with it; every other line once its answer is made.
+/// Does what a line asks for that asks no query, and writes its answer, and then what an edit changed for the watches. A change is made once
+/// no merge is pending, and the line is completed with it; every other line once its answer is made.
 fn serve_action<R: Wait, F: Files, K: Sink, G: Gate>(
     setting: &Setting<'_, R, G>,
     files: &mut F,
@@ -102,13 +103,29 @@ fn serve_action<R: Wait, F: Files, K: Sink, G: Gate>(
     ensures faults { CountsFiles (F.faults files.old) (F.faults files.new) result }
 {
     merge_pending(&setting.context, &mut opened.engine, &mut progress.pending)?;
-    let answer = act(setting, files, &mut opened.engine, action)?;
+    let before = pass_before(&opened.engine, &progress.watches, action)?;
+    let answer = act(
+        setting,
+        files,
+        &mut opened.engine,
+        &mut progress.watches,
+        action,
+    )?;
     progress.pending = action.is_merge();
     let completed = opened.lines + 1;
     opened.lines = after_change(opened.lines, &answer);
     progress.out.clear();
     put_answer(&mut progress.out, opened.engine.version(), &answer)?;
     opened.lines = completed;
+    put_changes(
+        setting.context.alloc,
+        sink,
+        &mut progress.out,
+        &progress.watches,
+        since(&answer, before),
+        &answer,
+        &opened.engine,
+    )?;
     write_all(sink, progress.out.as_slice())?;
     progress.refused |= answer.is_refused();
     Ok(())

@@ -84,6 +84,8 @@ fn task_of(alloc: Global, command: Command, number: u64) -> Result<Task, AllocEr
         Command::Shards => Ok(Task::Act(Action::CountSlots)),
         Command::Save(name) => Ok(Task::Act(Action::Save(name))),
         Command::Load(name) => Ok(Task::Act(Action::Open(name))),
+        Command::Watch(query) => Ok(Task::Act(Action::Watch(query))),
+        Command::Unwatch(number) => Ok(Task::Act(Action::Unwatch(number))),
         Command::Wrong => Ok(Task::Act(Action::Refuse(Refusal::Command))),
     }
 }

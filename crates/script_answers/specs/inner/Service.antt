@@ -1,5 +1,5 @@
 -- How a run stands, and what becomes of it while some lines are answered.
-use Rattle.std.specs.Prelude.{◌≡◌, ℕ, ◌+◌, ◌≤◌, ◌||◌, Bool, List, [], ◌++◌, length, Option, Some, Result, Ok, Err, IsErrOf, ⊤, if◌then◌else◌}
+use Rattle.std.specs.Prelude.{◌≡◌, ℕ, ◌+◌, ◌≤◌, ◌||◌, Bool, List, [], ◌++◌, length, map, Option, Some, Result, Ok, Err, IsErrOf, ⊤, if◌then◌else◌}
 use Rattle.std.specs.List.{list_any}
 use Rattle.std.specs.Io.KnownBytes.{Appends}
 use Rattle.gcl_model.specs.Limits.{most_readers}
@@ -9,11 +9,14 @@ use Rattle.image_file.specs.Images.{CanBeSaved}
 use Rattle.live_version.specs.StandsFor.{StandsFor}
 use Rattle.collection.specs.Engines.{EngineContent}
 use Rattle.collection.specs.declared.engine.Opened.{Opened}
+use Rattle.gcl_model.specs.FormOf.{form_of}
+use Rattle.standing_query.specs.Watches.{AreWellFormedWatches, WatchListContent}
+use Rattle.standing_query.specs.declared.watch.Watch.{Watch}
 use Rattle.query_lanes.specs.Readers.{AreOf}
 use Rattle.query_lanes.specs.declared.asks.Ask.{Ask}
 use Rattle.script_lang.specs.Lines.{Line, text_of_lines}
 use Rattle.script_lang.specs.Answers.{is_refusal}
-use Rattle.script_answers.specs.States.{State, Keeps}
+use Rattle.script_answers.specs.States.{State, Keeps, Watched, Watches}
 use Rattle.script_answers.specs.Answers.{answers, state_after, AllAnswered, AreRead}
 use Rattle.script_answers.specs.Stopped.{Ending, HoldsBut, IsStopped, finished, write_failed, files_failed, out_of_memory}
 use Rattle.script_answers.specs.inner.Asks.{AreAsked}
@@ -22,27 +25,38 @@ use Rattle.script_answers.specs.declared.progress.Progress.{Progress}
 use Rattle.script_answers.specs.declared.run_fault.RunFault.{RunFault}
 use Rattle.script_answers.specs.declared.run_fault.RunFault.TheVariants.{Write, Files, NoMemory}
 
--- How a run stands: how many lines are completed, what the files hold, the engine, whether a merge is pending, and whether a refusal is
--- among the answers
+-- How a run stands: how many lines are completed, what the files hold, the engine, whether a merge is pending, the watches, and whether a
+-- refusal is among the answers
 pub record Stand : Type 0 where
   pub completed : ℕ
   pub held : Option Contents
   pub engine : EngineContent
   pub pending : Bool
+  pub watches : WatchListContent
   pub refused : Bool
 
 -- how a run stands whose files hold this
 abbrev pub stand : Option Contents → Opened → Progress → Stand
-stand held opened progress = record { completed = opened.lines; held = held; engine = opened.engine; pending = progress.pending; refused = progress.refused }
+stand held opened progress = record { completed = opened.lines; held = held; engine = opened.engine; pending = progress.pending; watches = progress.watches; refused = progress.refused }
 
 -- the engine keeps the state, and the files hold what it says
 pub record IsAt (held : Option Contents) (engine : EngineContent) (pending : Bool) (state : State) : Type 0 where
   pub files : held ≡ Some state.files
   pub keeps : Keeps engine pending state
 
--- the same of a run that stands so
-abbrev pub IsAtStand : Stand → State → Type 0
-IsAtStand here state = IsAt here.held here.engine here.pending state
+-- a watch, by the form of its expression
+abbrev pub watched_of : Watch → Watched
+watched_of watch = record { number = watch.id; form = form_of watch.expr }
+
+-- what a list of watches says: the numbers, and the forms of the expressions
+abbrev pub watching_of : WatchListContent → Watches
+watching_of list = record { live = map watched_of list.live; next = list.next }
+
+-- the same of a run that stands so, and the watches are those of the state
+pub record IsAtStand (here : Stand) (state : State) : Type 0 where
+  pub files : here.held ≡ Some state.files
+  pub keeps : Keeps here.engine here.pending state
+  pub watching : watching_of here.watches ≡ state.watches
 
 -- from a state on some lines were answered, all answers were written, and the engine and the files keep the state after them
 pub record Served (limits : Limits) (state : State) (lines : List Line) (before after : Stand) (old new : Option (List ℕ)) : Type 0 where
@@ -97,6 +111,8 @@ pub record IsServing (opened : Opened) (progress : Progress) (waiting : ℕ) : T
   pub asked : progress.asked ≤ opened.lines + waiting
   pub lanes : length opened.readers.items ≤ most_readers
   pub of : AreOf opened.engine.publisher opened.readers.items
+  pub watches : AreWellFormedWatches progress.watches.live
+  pub numbered : progress.watches.next ≤ opened.lines
 
 -- what a fault that ends a run means
 abbrev pub fault_ending : RunFault → Ending

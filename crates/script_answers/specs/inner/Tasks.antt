@@ -1,29 +1,33 @@
 -- What a line asks for, once it is read, and what its answer says.
-use Rattle.std.specs.Prelude.{◌≡◌, ℕ, Bool, true, false, List, [], ◌∷◌, length, map, Option, Some, None, IfSome, ⊤, if◌then◌else◌}
+use Rattle.std.specs.Prelude.{◌≡◌, ℕ, ◌+◌, ◌≤◌, ◌<◌, Bool, true, false, List, [], ◌∷◌, length, map, Option, Some, None, IfSome, ⊤, if◌then◌else◌}
 use Rattle.std.specs.Option.{option_map}
 use Rattle.gcl_model.specs.Collections.{text_of}
 use Rattle.gcl_model.specs.Names.{is_name}
 use Rattle.live_version.specs.Contents.{VersionContent, files_of}
 use Rattle.collection.specs.Engines.{EngineContent}
+use Rattle.image_file.specs.Images.{CanBeSaved}
+use Rattle.gcl_model.specs.Limits.{merge_end, version_end}
+use Rattle.standing_query.specs.Watches.{AreWellFormedWatches, WatchListContent}
 use Rattle.outside.specs.Contents.{Contents}
 use Rattle.script_lang.specs.Lines.{Line}
-use Rattle.script_lang.specs.Answers.{file_line, gone_line, merging_line, opened_line, saved_line, shards_line}
-use Rattle.script_answers.specs.Answers.{Reply, add_reply, answer, asks_query, del_reply, files_lines, listing_lines, names_kept_of_line, names_of_line, open_reply, refusal_lines, save_reply, state_merged, unchanged, IsRead}
+use Rattle.script_lang.specs.Answers.{file_line, gone_line, merging_line, opened_line, saved_line, shards_line, watch_line, unwatched_line}
+use Rattle.script_answers.specs.Answers.{Reply, add_reply, answer, asks_query, del_reply, files_lines, listing_lines, names_kept_of_line, names_of_line, open_reply, refusal_lines, save_reply, state_merged, telling, unchanged, unwatch_reply, watch_reply, IsRead}
 use Rattle.script_answers.specs.Images.{IsReading}
 use Rattle.script_answers.specs.States.{State, Keeps}
 use Rattle.script_lang.specs.declared.commands.Command.{Command}
-use Rattle.script_lang.specs.declared.commands.Command.TheVariants.{Blank, Add as ToAdd, Del, Files as ToList, Merge as ToMerge, Shards, Save as ToSave, Load, Wrong}
+use Rattle.script_lang.specs.declared.commands.Command.TheVariants.{Blank, Add as ToAdd, Del, Files as ToList, Merge as ToMerge, Shards, Save as ToSave, Load, Watch as ToWatch, Unwatch as ToUnwatch, Wrong}
 use Rattle.script_lang.specs.declared.refusals.Refusal.TheVariants.{Command as NoCommand}
 use Rattle.script_answers.specs.inner.Asks.{AsksLine, IsAskOf}
+use Rattle.script_answers.specs.inner.Service.{watching_of}
 use Rattle.script_answers.specs.declared.action.Action.{Action}
-use Rattle.script_answers.specs.declared.action.Action.TheVariants.{Add, Delete, ListFiles, Merge, CountSlots, Save, Open, Refuse}
+use Rattle.script_answers.specs.declared.action.Action.TheVariants.{Add, Delete, ListFiles, Merge, CountSlots, Save, Open, Watch, Unwatch, Refuse}
 use Rattle.script_answers.specs.declared.answer.Answer.{Answer}
-use Rattle.script_answers.specs.declared.answer.Answer.TheVariants.{Added, Gone, Files, Merging, Slots, Saved, Opened, Refused}
+use Rattle.script_answers.specs.declared.answer.Answer.TheVariants.{Added, Gone, Files, Merging, Slots, Saved, Opened, Watching, Unwatched, Refused}
 use Rattle.script_answers.specs.declared.task.Task.{Task}
 use Rattle.script_answers.specs.declared.task.Task.TheVariants.{Nothing, Ask, Act}
 use Rattle.script_answers.specs.declared.limits.Limits.{Limits}
 
--- the reply to a line that asks for this
+-- the reply to a line that asks for this, without what an edit changed for the watches
 abbrev pub action_reply : Limits → State → Action → Option Reply
 action_reply limits state (Add name) = option_map (add_reply limits state name) (state.files name)
 action_reply limits state (Delete id) = Some (del_reply state id)
@@ -32,7 +36,24 @@ action_reply limits state Merge = Some record { lines = merging_line ∷ []; aft
 action_reply limits state CountSlots = Some (unchanged state (shards_line (length state.slots) ∷ []))
 action_reply limits state (Save name) = Some (save_reply limits state name)
 action_reply limits state (Open name) = open_reply limits state name
+action_reply limits state (Watch query) = Some (watch_reply state query)
+action_reply limits state (Unwatch number) = Some (unwatch_reply state number)
 action_reply limits state (Refuse refusal) = Some (unchanged state (refusal_lines refusal))
+
+-- whether it may change the collection, which the watches are told
+abbrev pub edits : Action → Bool
+edits (Add name) = true
+edits (Delete id) = true
+edits (Open name) = true
+edits _ = false
+
+-- a reply, and what it changed for the watches where an edit was asked for
+abbrev pub telling_where : Bool → State → Reply → Reply
+telling_where asked state reply = if asked then telling state reply else reply
+
+-- the whole reply to a line that asks for this
+abbrev pub told_reply : Limits → State → Action → Option Reply
+told_reply limits state action = option_map (telling_where (edits action) state) (action_reply limits state action)
 
 -- whether a merge is pending after it
 abbrev pub merges : Action → Bool
@@ -72,6 +93,8 @@ action_of ToMerge = Some Merge
 action_of Shards = Some CountSlots
 action_of (ToSave name) = Some (Save name)
 action_of (Load name) = Some (Open name)
+action_of (ToWatch query) = Some (Watch query)
+action_of (ToUnwatch number) = Some (Unwatch number)
 action_of Wrong = Some (Refuse NoCommand)
 action_of _ = None
 
@@ -83,7 +106,7 @@ IsTaskFor (Act action) command = action_of command ≡ Some action
 
 -- a line asks for this, and for no query
 pub record IsActionOf (action : Action) (line : Line) : Type 0 where
-  pub reply_is : (limits : Limits) (state : State) → answer limits state line ≡ action_reply limits state action
+  pub reply_is : (limits : Limits) (state : State) → answer limits state line ≡ told_reply limits state action
   pub names_are : names_of_line line ≡ action_names action
   pub kept_are : names_kept_of_line line ≡ action_kept action
   pub reads : (state : State) → IsRead state line → IsReadByAction state action
@@ -125,6 +148,8 @@ answer_lines version Merging = merging_line ∷ []
 answer_lines version (Slots count) = shards_line count ∷ []
 answer_lines version (Saved bytes) = saved_line bytes ∷ []
 answer_lines version (Opened files) = opened_line files ∷ []
+answer_lines version (Watching number) = watch_line number ∷ []
+answer_lines version (Unwatched number) = unwatched_line number ∷ []
 answer_lines version (Refused refusal) = refusal_lines refusal
 
 -- it says that the collection or a file was changed: such a line is completed once that is done
@@ -151,3 +176,28 @@ pub record Gives (told : Option Reply) (state : State) (engine : EngineContent) 
   pub is : told ≡ Some reply
   pub follows : Follows reply state engine pending answer
   pub files : held ≡ Some reply.after.files
+
+-- A reply to a line that begins or ends a watch: these are the watches after it, the answer has its lines, and it changes nothing else
+pub record IsWatchReply (reply : Reply) (state : State) (watches : WatchListContent) (answer : Answer) : Type 0 where
+  pub watching : watching_of watches ≡ reply.after.watches
+  pub lines : (version : VersionContent) → reply.lines ≡ answer_lines version answer
+  pub unchanged : is_change answer ≡ false
+  pub collection : reply.after.collection ≡ state.collection
+  pub slots : reply.after.slots ≡ state.slots
+  pub files : reply.after.files ≡ state.files
+
+-- a line begins one watch at most, of a well formed expression
+pub record WatchesOn (old new : WatchListContent) : Type 0 where
+  pub well_formed : AreWellFormedWatches old.live → AreWellFormedWatches new.live
+  pub next : new.next ≤ old.next + 1
+
+-- what is needed before an action
+pub record CanAct (engine : EngineContent) (watches : WatchListContent) : Type 0 where
+  pub savable : CanBeSaved engine.version
+  pub number : engine.version.number < merge_end
+  pub next : watches.next < version_end
+
+-- the same, and the watches are those that the reply leaves
+pub record Does (told : Option Reply) (state : State) (engine : EngineContent) (pending : Bool) (held : Option Contents) (watches : WatchListContent) (answer : Answer) : Type 0 where
+  pub gives : Gives told state engine pending held answer
+  pub watching : watching_of watches ≡ gives.reply.after.watches

@@ -1,6 +1,7 @@
 use Rattle.std.proofs.Common.{refl, rules}
 use Rattle.script_lang.specs.declared.refusals.Refusal.TheVariants.{NoFile}
 use Rattle.script_answers.specs.Answers.{del_reply}
+use Rattle.script_answers.proofs.LocalEdits.{deleted_local}
 use Rattle.script_answers.proofs.Replies.{not_there, refused_follows}
 use Rattle.script_answers.proofs.SaveReplies.{deleted_savable}
 use Rattle.script_answers.proofs.changes.delete.Goals as goal
@@ -11,6 +12,9 @@ returns-in-Ok-clause-steps g c = record {
   savable = deleted_savable c.args.engine.now.version c.delete.new.self.version c.args.id c.requires.savable c.in-Ok.ensures.ok.change;
   publisher = search rules;
 }
+
+pub returns-in-Ok-clause-local : goal.returns-in-Ok-clause-local
+returns-in-Ok-clause-local g c = deleted_local c.edits_agree.ensures.deleted c.args.engine.now.version c.delete.new.self.version c.args.id c.requires.savable c.in-Ok.ensures.ok.change
 
 pub returns-in-Err-NotLive-clause-follows : goal.returns-in-Err-NotLive-clause-follows
 returns-in-Err-NotLive-clause-follows g c = λ state keeps.

@@ -1,4 +1,6 @@
-use Rattle.std.proofs.Common.{◌≡◌, ◌+◌, ◌++◌, [], Bool, refl, sym, ap, ◌∙◌, subst, arith, rules}
+use Rattle.std.proofs.Common.{◌≡◌, ◌+◌, ◌++◌, [], ℕ, List, Option, Bool, refl, sym, ap, ◌∙◌, subst, arith, rules}
+use Rattle.std.specs.Io.KnownBytes.{Appends}
+use Rattle.manifest_publish.specs.Accounts.{Account}
 use Rattle.gcl_model.proofs.Cases.{on_err}
 use Rattle.script_answers.specs.Faults.{of_files, of_write}
 use Rattle.script_answers.specs.States.{Keeps}
@@ -6,10 +8,17 @@ use Rattle.script_answers.specs.Stopped.{GetsPart}
 use Rattle.script_answers.specs.declared.run_fault.RunFault.TheVariants.{NoMemory}
 use Rattle.script_answers.specs.inner.Service.{fault_ending}
 use Rattle.script_lang.specs.Lines.{text_of_lines}
-use Rattle.script_answers.specs.inner.Tasks.{Gives, action_reply, answer_lines}
-use Rattle.script_answers.proofs.ActionSteps.{halts_made, halts_unmade, halts_unsaid, serves_action}
+use Rattle.std.proofs.lemmas.Grind.{flat_map-append}
+use Rattle.script_answers.specs.inner.Tasks.{Does, action_reply, answer_lines}
+use Rattle.std.specs.Prelude.{IfSome}
+use Rattle.collection.specs.Engines.{last_of}
+use Rattle.script_answers.specs.inner.Telling.{IsLocal, since, told_since}
+use Rattle.script_answers.proofs.LocalEdits.{local_since}
+use Rattle.script_answers.proofs.ActionSteps.{done_told, halts_made, halts_unmade, halts_unsaid, serves_action}
+use Rattle.script_answers.proofs.PutLemmas.{all_behind, part_behind}
 use Rattle.script_answers.proofs.Scripts.{all_held}
 use Rattle.script_answers.proofs.Service.{ending_is, lost_write, named_fault, no_files}
+use Rattle.script_answers.proofs.TellingLemmas.{refused_alone, told-plain}
 use Rattle.script_answers.proofs.serving.serve_action.Goals as goal
 
 pub returns-in_err-merge_pending-clause-halts : goal.returns-in_err-merge_pending-clause-halts
@@ -17,6 +26,13 @@ returns-in_err-merge_pending-clause-halts g c = on_err _ c.from_residual.result 
     rw (ending_is c.from_residual.result NoMemory c.from_residual.ensures.1)
     (halts_unmade c.args.setting.now.limits c.args.action.now line _ _ _ _ (g.K.Sink.written c.args.sink.now) is refl
     (λ state at read. record { stands = (subst (λ e. Keeps e c.args.progress.now.pending state) (sym c.in_err-merge_pending.ensures.err) at.keeps).stands; files = all_held _ _ _ at.files; exact = λ kept. at.files })
+    (λ failed. absurd failed)))
+
+pub returns-in_err-before-clause-halts : goal.returns-in_err-before-clause-halts
+returns-in_err-before-clause-halts g c = on_err _ c.from_residual-in_err-before.result (λ line is.
+    rw (ending_is c.from_residual-in_err-before.result NoMemory c.from_residual-in_err-before.ensures.1)
+    (halts_unmade c.args.setting.now.limits c.args.action.now line _ _ _ _ (g.K.Sink.written c.args.sink.now) is refl
+    (λ state at read. record { stands = (c.in_ok-merge_pending.ensures.keeps state at.keeps).stands; files = all_held _ _ _ at.files; exact = λ kept. at.files })
     (λ failed. absurd failed)))
 
 pub returns-in_err-answer-clause-halts : goal.returns-in_err-answer-clause-halts
@@ -30,16 +46,71 @@ pub returns-in_err-put_answer-clause-halts : goal.returns-in_err-put_answer-clau
 returns-in_err-put_answer-clause-halts g c = on_err _ c.from_residual-in_err-put_answer.result (λ line is.
     rw (ending_is c.from_residual-in_err-put_answer.result NoMemory c.from_residual-in_err-put_answer.ensures.1)
     (halts_unsaid c.args.setting.now.limits c.args.action.now line c.in_ok-answer.answer _ _ _ _ (g.K.Sink.written c.args.sink.now) is (search rules)
-    (λ state at read. subst (λ (w : Bool). Gives (action_reply c.args.setting.now.limits state c.args.action.now) state c.act.new.engine w (g.F.Files.held c.act.new.files) c.in_ok-answer.answer) (sym c.is_merge-progress.ensures)
-    (c.in_ok-answer.ensures.gives state (record { files = at.files; keeps = c.in_ok-merge_pending.ensures.keeps state at.keeps }) read))
+    (λ state at read. subst (λ (w : Bool). Does (action_reply c.args.setting.now.limits state c.args.action.now) state c.act.new.engine w (g.F.Files.held c.act.new.files) c.act.new.watches c.in_ok-answer.answer) (sym c.is_merge-progress.ensures)
+    (c.in_ok-answer.ensures.gives state (record { files = at.files; keeps = c.in_ok-merge_pending.ensures.keeps state at.keeps }) at.watching read))
     (λ due. due) (λ failed. failed)))
+
+pub returns-in_err-put_changes-clause-halts : goal.returns-in_err-put_changes-clause-halts
+returns-in_err-put_changes-clause-halts g c = on_err _ c.from_residual-in_err-put_changes.result (λ line is.
+    let fault = c.in_err-put_changes.field-0.0 in
+    let given = c.in_ok-answer.answer in
+    let version = c.act.new.engine.version in
+    let told = told_since (since given c.in_ok-before.before) c.act.new.watches version in
+    let first : c.put_answer.new.out.items ≡ text_of_lines (answer_lines version given) = search rules in
+    let text : c.put_answer.new.out.items ++ text_of_lines (told_since c.since.result c.act.new.watches version) ≡ text_of_lines (answer_lines version given ++ told) =
+    ap (λ (l : List ℕ). l ++ text_of_lines (told_since c.since.result c.act.new.watches version)) first
+    ∙ ap (λ (o : Option Account). text_of_lines (answer_lines version given) ++ text_of_lines (told_since o c.act.new.watches version)) c.since.ensures
+    ∙ sym (flat_map-append _ (answer_lines version given) told) in
+    rw (ending_is c.from_residual-in_err-put_changes.result (of_write fault) c.from_residual-in_err-put_changes.ensures.1)
+    (halts_made c.args.setting.now.limits c.args.action.now line (answer_lines version given ++ told) (fault_ending (of_write fault)) _ _ _ _ _ is (search rules)
+    (λ state at read. done_told c.args.setting.now.limits state c.args.action.now _ c.merge_pending.new.engine c.args.progress.now.watches c.in_ok-before.before given (c.in_ok-merge_pending.ensures.keeps state at.keeps) at.watching c.in_ok-before.ensures
+    (subst (λ (w : Bool). Does (action_reply c.args.setting.now.limits state c.args.action.now) state c.act.new.engine w (g.F.Files.held c.act.new.files) c.act.new.watches given) (sym c.is_merge-progress.ensures)
+    (c.in_ok-answer.ensures.gives state (record { files = at.files; keeps = c.in_ok-merge_pending.ensures.keeps state at.keeps }) at.watching read)))
+    (lost_write fault) (no_files fault) (subst (GetsPart (g.K.Sink.written c.args.sink.now) (g.K.Sink.written c.put_changes.new.sink)) text c.in_err-put_changes.ensures.part)))
 
 pub returns-in_err-write_all-clause-halts : goal.returns-in_err-write_all-clause-halts
 returns-in_err-write_all-clause-halts g c = on_err _ c.from_residual-in_err-write_all.result (λ line is.
     let fault = c.in_err-write_all.field-0.0 in
-    let text : c.as_slice.result.now ≡ text_of_lines (answer_lines c.act.new.engine.version c.in_ok-answer.answer) = search rules in
+    let given = c.in_ok-answer.answer in
+    let version = c.act.new.engine.version in
+    let told = told_since (since given c.in_ok-before.before) c.act.new.watches version in
+    let first : c.put_answer.new.out.items ≡ text_of_lines (answer_lines version given) = search rules in
+    let text : c.put_answer.new.out.items ++ text_of_lines (told_since c.since.result c.act.new.watches version) ≡ text_of_lines (answer_lines version given ++ told) =
+    ap (λ (l : List ℕ). l ++ text_of_lines (told_since c.since.result c.act.new.watches version)) first
+    ∙ ap (λ (o : Option Account). text_of_lines (answer_lines version given) ++ text_of_lines (told_since o c.act.new.watches version)) c.since.ensures
+    ∙ sym (flat_map-append _ (answer_lines version given) told) in
+    let rest : c.as_slice.result.now ≡ c.put_changes.new.out.items = search rules in
     rw (ending_is c.from_residual-in_err-write_all.result (of_write fault) c.from_residual-in_err-write_all.ensures.1)
-    (halts_made c.args.setting.now.limits c.args.action.now line c.in_ok-answer.answer (fault_ending (of_write fault)) _ _ _ _ _ is (search rules)
-    (λ state at read. subst (λ (w : Bool). Gives (action_reply c.args.setting.now.limits state c.args.action.now) state c.act.new.engine w (g.F.Files.held c.act.new.files) c.in_ok-answer.answer) (sym c.is_merge-progress.ensures)
-    (c.in_ok-answer.ensures.gives state (record { files = at.files; keeps = c.in_ok-merge_pending.ensures.keeps state at.keeps }) read))
-    (lost_write fault) (no_files fault) (subst (GetsPart (g.K.Sink.written c.args.sink.now) (g.K.Sink.written c.write_all.new.sink)) text c.in_err-write_all.ensures.part)))
+    (halts_made c.args.setting.now.limits c.args.action.now line (answer_lines version given ++ told) (fault_ending (of_write fault)) _ _ _ _ _ is (search rules)
+    (λ state at read. done_told c.args.setting.now.limits state c.args.action.now _ c.merge_pending.new.engine c.args.progress.now.watches c.in_ok-before.before given (c.in_ok-merge_pending.ensures.keeps state at.keeps) at.watching c.in_ok-before.ensures
+    (subst (λ (w : Bool). Does (action_reply c.args.setting.now.limits state c.args.action.now) state c.act.new.engine w (g.F.Files.held c.act.new.files) c.act.new.watches given) (sym c.is_merge-progress.ensures)
+    (c.in_ok-answer.ensures.gives state (record { files = at.files; keeps = c.in_ok-merge_pending.ensures.keeps state at.keeps }) at.watching read)))
+    (lost_write fault) (no_files fault) (subst (GetsPart (g.K.Sink.written c.args.sink.now) (g.K.Sink.written c.write_all.new.sink)) text
+    (part_behind _ (g.K.Sink.written c.put_changes.new.sink) _ c.put_answer.new.out.items c.put_changes.new.out.items _ c.in_ok-put_changes.ensures.puts
+    (subst (GetsPart (g.K.Sink.written c.put_changes.new.sink) (g.K.Sink.written c.write_all.new.sink)) rest c.in_err-write_all.ensures.part)))))
+
+pub returns-clause-serves : goal.returns-clause-serves
+returns-clause-serves g c = λ line is.
+    let given = c.in_ok-answer.answer in
+    let version = c.act.new.engine.version in
+    let told = told_since (since given c.in_ok-before.before) c.act.new.watches version in
+    let first : c.put_answer.new.out.items ≡ text_of_lines (answer_lines version given) = search rules in
+    let text : c.put_answer.new.out.items ++ text_of_lines (told_since c.since.result c.act.new.watches version) ≡ text_of_lines (answer_lines version given ++ told) =
+    ap (λ (l : List ℕ). l ++ text_of_lines (told_since c.since.result c.act.new.watches version)) first
+    ∙ ap (λ (o : Option Account). text_of_lines (answer_lines version given) ++ text_of_lines (told_since o c.act.new.watches version)) c.since.ensures
+    ∙ sym (flat_map-append _ (answer_lines version given) told) in
+    let rest : c.as_slice.result.now ≡ c.put_changes.new.out.items = search rules in
+    serves_action c.args.setting.now.limits c.args.action.now line (answer_lines version given ++ told) _ _ _ _ is (search rules)
+    (λ state at read. done_told c.args.setting.now.limits state c.args.action.now _ c.merge_pending.new.engine c.args.progress.now.watches c.in_ok-before.before given (c.in_ok-merge_pending.ensures.keeps state at.keeps) at.watching c.in_ok-before.ensures
+    (subst (λ (w : Bool). Does (action_reply c.args.setting.now.limits state c.args.action.now) state c.act.new.engine w (g.F.Files.held c.act.new.files) c.act.new.watches given) (sym c.is_merge-progress.ensures)
+    (c.in_ok-answer.ensures.gives state (record { files = at.files; keeps = c.in_ok-merge_pending.ensures.keeps state at.keeps }) at.watching read)))
+    (refused_alone c.args.progress.now.refused (answer_lines version given) told c.is_refused.result (c.is_refused.ensures version) (told-plain (since given c.in_ok-before.before) c.act.new.watches version))
+    (subst (Appends (g.K.Sink.written c.args.sink.now) (g.K.Sink.written c.write_all.new.sink)) text
+    (all_behind _ (g.K.Sink.written c.put_changes.new.sink) _ c.put_answer.new.out.items c.put_changes.new.out.items _ c.in_ok-put_changes.ensures.puts
+    (subst (Appends (g.K.Sink.written c.put_changes.new.sink) (g.K.Sink.written c.write_all.new.sink)) rest c.in_ok-write_all.ensures.written)))
+
+pub put_changes-requires-clause-local : goal.put_changes-requires-clause-local
+put_changes-requires-clause-local g c =
+    let given = c.in_ok-answer.answer in
+    subst (λ (o : Option Account). IfSome o (λ pass. IsLocal given (last_of pass.history) c.act.new.engine.version)) (sym c.since.ensures)
+    (local_since c.args.action.now c.merge_pending.new.engine c.args.progress.now.watches c.in_ok-before.before given c.act.new.engine.version c.in_ok-before.ensures c.in_ok-answer.ensures.steps.local)

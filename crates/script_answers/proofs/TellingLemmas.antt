@@ -1,0 +1,207 @@
+-- What the watches are told after an edit, and that nothing is told where nothing is changed.
+use Rattle.std.proofs.Common.{◌≡◌, ◌⊎◌, ℕ, ◌+◌, ◌<◌, length, drop, inl, inr, Bool, true, false, ◌||◌, List, [], ◌∷◌, ◌++◌, map, refl, sym, ap, ◌∙◌, subst, append-nil, Option, None, Some, nat_lt}
+use Rattle.std.specs.Prelude.{flat_map, slice_index_or, if◌then◌else◌, IfSome}
+use Rattle.std.specs.Option.{option_map}
+use Rattle.std.specs.List.{list_any}
+use Rattle.std.proofs.lemmas.Bool.{cases_Bool}
+use Rattle.std.proofs.lemmas.Grind.{flat_map-append}
+use Rattle.std.proofs.lemmas.List.{map-append, drop-map}
+use Rattle.gcl_model.proofs.Lists.{drop_here}
+use Rattle.gcl_model.specs.FormOf.{form_of}
+use Rattle.standing_query.specs.declared.watch.Watch.{Watch}
+use Rattle.std.proofs.lemmas.List.Folds.{list_any-append}
+use Rattle.gcl_model.specs.Collections.{Collection, text_of}
+use Rattle.gcl_model.specs.Texts.{Text}
+use Rattle.gcl_model.specs.Wide.{wide}
+use Rattle.outside.specs.Contents.{Contents}
+use Rattle.live_version.specs.Contents.{VersionContent, version_text}
+use Rattle.live_version.specs.StandsFor.{StandsFor}
+use Rattle.live_version.proofs.PartLaws.{has_text}
+use Rattle.manifest_publish.specs.Accounts.{Account}
+use Rattle.collection.specs.Engines.{EngineContent, IsEngine, last_of, published}
+use Rattle.collection.proofs.EngineLemmas.{last_is}
+use Rattle.script_lang.specs.Answers.{is_refusal}
+use Rattle.script_lang.specs.Lines.{text_of_lines}
+use Rattle.script_lang.specs.declared.refusals.Refusal.TheVariants.{NotEmpty}
+use Rattle.script_lang.proofs.AnswerLemmas.{change_line-plain}
+use Rattle.standing_query.specs.Watches.{WatchListContent}
+use Rattle.standing_query.specs.Changes.{changes}
+use Rattle.standing_query.proofs.ChangeLemmas.{changes_none}
+use Rattle.standing_query.specs.declared.change.Change.{Change}
+use Rattle.standing_query.specs.declared.change.Change.TheVariants.{Went, Came}
+use Rattle.script_answers.specs.States.{State, Keeps, Watched, Watches}
+use Rattle.script_answers.specs.Answers.{Reply, add_reply, changes_lines, content_reply, del_reply, image_reply, open_reply, reading_reply, refusal_lines, told_line, unchanged, watch_lines}
+use Rattle.script_answers.specs.inner.Service.{watched_of, watching_of}
+use Rattle.script_answers.specs.inner.Tasks.{Does, action_reply, answer_lines, edits, is_change, telling_where}
+use Rattle.script_answers.specs.inner.Telling.{IsBefore, since, told_since, told_text, watches_text}
+use Rattle.script_answers.specs.declared.action.Action.{Action}
+use Rattle.script_answers.specs.declared.action.Action.TheVariants.{Add, Delete, ListFiles, Merge, CountSlots, Save, Open, Watch as ToWatch, Unwatch, Refuse}
+use Rattle.script_answers.specs.declared.answer.Answer.{Answer}
+use Rattle.script_answers.specs.declared.limits.Limits.{Limits}
+
+-- a text has no changes to itself
+told_nothing : (text : Text) (live : List Watched) → flat_map (watch_lines text text) live ≡ []
+told_nothing text [] = refl
+told_nothing text (w ∷ live) = rw (changes_none (wide text w.form)) (told_nothing text live)
+
+told_line-plain : (number : ℕ) (change : Change) → is_refusal (told_line number change) ≡ false
+told_line-plain number (Went a) = change_line-plain number false a
+told_line-plain number (Came a) = change_line-plain number true a
+
+told_lines-plain : (number : ℕ) (list : List Change) → list_any is_refusal (map (told_line number) list) ≡ false
+told_lines-plain number [] = refl
+told_lines-plain number (c ∷ list) = rw (told_line-plain number c) (told_lines-plain number list)
+
+watches-plain : (before now : Text) (live : List Watched) → list_any is_refusal (flat_map (watch_lines before now) live) ≡ false
+watches-plain before now [] = refl
+watches-plain before now (w ∷ live) =
+    list_any-append is_refusal (watch_lines before now w) (flat_map (watch_lines before now) live) ∙ rw (told_lines-plain w.number (changes (wide before w.form) (wide now w.form)), watches-plain before now live) refl
+
+-- no line that is told is a refusal
+pub told-plain : (before : Option Account) (watches : WatchListContent) (now : VersionContent) → list_any is_refusal (told_since before watches now) ≡ false
+told-plain None watches now = refl
+told-plain (Some pass) watches now = watches-plain (version_text (last_of pass.history)) (version_text now) (watching_of watches).live
+
+-- so a refusal is among the lines of an answer and what is told after it where it is among those of the answer
+pub refused_alone : (refused : Bool) (lines told : List (List ℕ)) (found : Bool) → found ≡ list_any is_refusal lines → list_any is_refusal told ≡ false →
+    (refused || found) ≡ (refused || list_any is_refusal (lines ++ told))
+refused_alone refused lines told found is plain =
+    ap (λ (b : Bool). refused || b) (is ∙ sym (or_none (list_any is_refusal lines)) ∙ ap (λ (b : Bool). list_any is_refusal lines || b) (sym plain) ∙ sym (list_any-append is_refusal lines told))
+  where
+    or_none : (b : Bool) → (b || false) ≡ b
+    or_none true = refl
+    or_none false = refl
+
+-- what a text of changes is made of
+pub told_on : (number : ℕ) (xs ys : List Change) → told_text number (xs ++ ys) ≡ told_text number xs ++ told_text number ys
+told_on number xs ys = ap text_of_lines (map-append (told_line number) xs ys) ∙ flat_map-append _ (map (told_line number) xs) (map (told_line number) ys)
+
+pub watches_on : (before now : Text) (xs ys : List Watched) → watches_text before now (xs ++ ys) ≡ watches_text before now xs ++ watches_text before now ys
+watches_on before now xs ys =
+    ap text_of_lines (flat_map-append (watch_lines before now) xs ys) ∙ flat_map-append _ (flat_map (watch_lines before now) xs) (flat_map (watch_lines before now) ys)
+
+clash : {b : Bool} → b ≡ true → b ≡ false → ⊥
+clash is isnt = cc
+
+-- No action but to watch and to unwatch changes the watches.
+
+StaysWatching : State → Reply → Type 0
+StaysWatching state reply = reply.after.watches ≡ state.watches
+
+by_if : (P : Reply → Type 0) (b : Bool) (x y : Reply) → P x → P y → P (if b then x else y)
+by_if P true x y p q = p
+by_if P false x y p q = q
+
+by_reading : (state : State) (o : Option Collection) → StaysWatching state (reading_reply state o)
+unfolding StaysWatching
+by_reading state None = refl
+by_reading state (Some c) = refl
+
+some_reply : {T : Type 0} (P : Reply → Type 0) (f : T → Reply) (o : Option T) → ((t : T) → P (f t)) → IfSome (option_map f o) P
+some_reply P f None p = tt
+some_reply P f (Some t) p = p t
+
+-- whether an action begins or ends a watch
+abbrev pub attends : Action → Bool
+attends (ToWatch query) = true
+attends (Unwatch number) = true
+attends _ = false
+
+stays : (limits : Limits) (state : State) (action : Action) → attends action ≡ false → IfSome (action_reply limits state action) (StaysWatching state)
+unfolding StaysWatching
+stays limits state (Add name) other = some_reply (StaysWatching state) (add_reply limits state name) (state.files name) (λ content.
+    by_if (StaysWatching state) _ _ (content_reply state name content) refl (by_if (StaysWatching state) _ _ _ refl refl))
+stays limits state (Delete id) other = by_if (StaysWatching state) _ _ _ refl refl
+stays limits state ListFiles other = refl
+stays limits state Merge other = refl
+stays limits state CountSlots other = refl
+stays limits state (Save name) other = by_if (StaysWatching state) _ _ _ refl refl
+stays limits state (Open name) other = by_open (nat_lt 0 state.collection.next_id)
+  where
+    by_open : (b : Bool) → IfSome (if b then Some (unchanged state (refusal_lines NotEmpty)) else option_map (image_reply limits state) (state.files name)) (StaysWatching state)
+    by_open true = refl
+    by_open false = some_reply (StaysWatching state) (image_reply limits state) (state.files name) (λ content. by_if (StaysWatching state) _ _ _ refl (by_reading state (state.images content)))
+stays limits state (ToWatch query) other = absurd (cc other)
+stays limits state (Unwatch number) other = absurd (cc other)
+stays limits state (Refuse refusal) other = refl
+
+pub stays_watching : (limits : Limits) (state : State) (action : Action) (reply : Reply) → attends action ≡ false → action_reply limits state action ≡ Some reply → reply.after.watches ≡ state.watches
+unfolding StaysWatching
+stays_watching limits state action reply other is = subst (λ (o : Option Reply). IfSome o (StaysWatching state)) is (stays limits state action other)
+
+-- an edit is no such action
+edits_stay : (action : Action) → edits action ≡ true → attends action ≡ false
+edits_stay (Add name) is = refl
+edits_stay (Delete id) is = refl
+edits_stay (Open name) is = refl
+edits_stay ListFiles is = absurd (cc is)
+edits_stay Merge is = absurd (cc is)
+edits_stay CountSlots is = absurd (cc is)
+edits_stay (Save name) is = absurd (cc is)
+edits_stay (ToWatch query) is = absurd (cc is)
+edits_stay (Unwatch number) is = absurd (cc is)
+edits_stay (Refuse refusal) is = absurd (cc is)
+
+-- What is told after an answer is what its reply says.
+
+module _ (limits : Limits) (state : State) (action : Action) (old new : EngineContent) (watches watches' : WatchListContent) (before : Option Account) (pending : Bool) (held : Option Contents) (given : Answer)
+    (keeps : Keeps old false state) (watching : watching_of watches ≡ state.watches) (d : Does (action_reply limits state action) state new pending held watches' given) where
+  -- the watches are those of before
+  same_watches : edits action ≡ true → watching_of watches' ≡ state.watches
+  same_watches is = d.watching ∙ stays_watching limits state action d.gives.reply (edits_stay action is) d.gives.is
+
+  -- what an edit told
+  told_edit : edits action ≡ true → (b : Bool) → is_change given ≡ b → IsBefore action old watches before →
+      changes_lines state.watches (text_of state.collection) (text_of d.gives.reply.after.collection) ≡ told_since (if b then before else None) watches' new.version
+  told_edit is false still prior =
+      let same = (d.gives.follows.still still).0 in
+      ap (λ (c : Collection). changes_lines state.watches (text_of state.collection) (text_of c)) same ∙ told_nothing (text_of state.collection) state.watches.live
+  told_edit is true changed prior = by_before before prior
+    where
+      by_before : (o : Option Account) → IsBefore action old watches o → changes_lines state.watches (text_of state.collection) (text_of d.gives.reply.after.collection) ≡ told_since o watches' new.version
+      by_before None (inl other) = absurd (clash is other)
+      by_before None (inr none) = ap (λ (l : List Watched). flat_map (watch_lines (text_of state.collection) (text_of d.gives.reply.after.collection)) l) (sym (ap (λ (w : Watches). w.live) watching) ∙ ap (map watched_of) none)
+      by_before (Some pass) prior =
+          let first : version_text (last_of pass.history) ≡ text_of state.collection = ap version_text (last_is pass.history old.version prior.1.1) ∙ has_text old.version state.collection keeps.stands in
+          let now : version_text new.version ≡ text_of d.gives.reply.after.collection = has_text new.version d.gives.reply.after.collection d.gives.follows.keeps.stands in
+          ap (λ (t : Text). changes_lines state.watches t (text_of d.gives.reply.after.collection)) (sym first)
+          ∙ ap (λ (t : Text). changes_lines state.watches (version_text (last_of pass.history)) t) (sym now)
+          ∙ ap (λ (w : Watches). changes_lines w (version_text (last_of pass.history)) (version_text new.version)) (sym (same_watches is))
+
+  pub told_is : IsBefore action old watches before →
+      (telling_where (edits action) state d.gives.reply).lines ≡ answer_lines new.version given ++ told_since (since given before) watches' new.version
+  told_is prior = by_edit (edits action) refl
+    where
+      by_edit : (b : Bool) → edits action ≡ b → (telling_where b state d.gives.reply).lines ≡ answer_lines new.version given ++ told_since (since given before) watches' new.version
+      by_edit true is =
+          ap (λ (l : List (List ℕ)). l ++ changes_lines state.watches (text_of state.collection) (text_of d.gives.reply.after.collection)) d.gives.follows.lines
+          ∙ ap (λ (l : List (List ℕ)). answer_lines new.version given ++ l) (told_edit is (is_change given) refl prior)
+      by_edit false is = d.gives.follows.lines ∙ sym (append-nil (answer_lines new.version given)) ∙ ap (λ (l : List (List ℕ)). answer_lines new.version given ++ l) (sym (no_edit before prior (is_change given)))
+        where
+          no_edit : (o : Option Account) → IsBefore action old watches o → (c : Bool) → told_since (if c then o else None) watches' new.version ≡ []
+          no_edit None prior true = refl
+          no_edit None prior false = refl
+          no_edit (Some pass) prior true = absurd (clash prior.0 is)
+          no_edit (Some pass) prior false = refl
+
+-- A watch at a place, and the text of what it is told.
+
+pub watch_here : (live : List Watch) (i : ℕ) (w : Watch) → i < length live → w ≡ slice_index_or live i w → drop i (map watched_of live) ≡ watched_of w ∷ drop (i + 1) (map watched_of live)
+watch_here live i w lt is = drop-map watched_of i live ∙ ap (map watched_of) (drop_here live i w lt is) ∙ ap (λ (l : List Watched). watched_of w ∷ l) (sym (drop-map watched_of (i + 1) live))
+
+pub one_watch : (before now : Text) (w : Watched) → text_of_lines (watch_lines before now w) ≡ watches_text before now (w ∷ [])
+one_watch before now w = ap text_of_lines (sym (append-nil (watch_lines before now w)))
+
+-- the last version of a pass that was taken now
+pub last_published : (after : Account) (engine : EngineContent) → after ≡ published engine → IsEngine engine → last_of after.history ≡ engine.version
+last_published after engine now sound = ap (λ (a : Account). last_of a.history) now ∙ last_is engine.history engine.version sound.ends.1
+
+-- the changes that a listing gives are those since the version of a pass
+pub listing_is : (w : Watch) (before before' after : Account) (engine : EngineContent) (listing : List Change) →
+    listing ≡ changes (wide (version_text (last_of before'.history)) (form_of w.expr)) (wide (version_text (last_of after.history)) (form_of w.expr)) → before' ≡ before → after ≡ published engine → IsEngine engine →
+    told_text w.id listing ≡ text_of_lines (watch_lines (version_text (last_of before.history)) (version_text engine.version) (watched_of w))
+listing_is w before before' after engine listing is same now sound =
+    let last = last_published after engine now sound in
+    ap (told_text w.id) is
+    ∙ ap (λ (a : Account). told_text w.id (changes (wide (version_text (last_of a.history)) (form_of w.expr)) (wide (version_text (last_of after.history)) (form_of w.expr)))) same
+    ∙ ap (λ (v : VersionContent). told_text w.id (changes (wide (version_text (last_of before.history)) (form_of w.expr)) (wide (version_text v) (form_of w.expr)))) last
