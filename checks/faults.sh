@@ -219,6 +219,19 @@ else
   skips 'a full disk of its own: nothing may be mounted'
 fi
 
+# a run of adds, of which one names a missing file: the same bytes with any number of readers, and the files behind it are not asked for
+for place in 1 2 3 4 5 6; do
+  lines=() files=''
+  for ((line = 1; line <= 6; line++)); do
+    [ $line = $place ] && lines+=('add missing') || lines+=('add a')
+    [ $line -ge $place ] || files+="file $((line - 1)) $((8 * line - 8)) $((8 * line - 1))"$'\n'
+  done
+  says "${lines[@]}"
+  for readers in 1 4 16; do
+    expects "a missing file at line $place of a run of adds, $readers readers" 5 "${files%$'\n'}" "$(cannot_read missing "$no_file" $place)" "$gclq" --readers $readers
+  done
+done
+
 # memory
 small() { (ulimit -v 40000; exec "$gclq"); }
 says 'add a' 'add /dev/zero'

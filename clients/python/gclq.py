@@ -20,7 +20,7 @@ import threading
 from array import array
 from dataclasses import dataclass
 from pathlib import Path
-from typing import Dict, Iterator, List, Optional, Sequence, Tuple
+from typing import Callable, Dict, Iterator, List, Optional, Sequence, Tuple
 
 # A word, or a tag: its slash, its name, and what comes after the name. Every other byte separates.
 TOKEN = re.compile(rb"[A-Za-z0-9\x80-\xff]+|<(/?)[A-Za-z][A-Za-z0-9_.:-]*([^<>]*)>")
@@ -112,6 +112,7 @@ class Gclq:
         self._folder, self._timeout = Path(folder), timeout
         self._know([])
         self._texts: Dict[int, _Text] = {}
+        self._watches: Dict[int, Callable[[bool, Hit], None]] = {}
         self._lines: "queue.SimpleQueue[bytes]" = queue.SimpleQueue()
         self._errors = tempfile.TemporaryFile()
         pipe = subprocess.PIPE
@@ -146,13 +147,16 @@ class Gclq:
         file = File(int(number), int(first), int(last), name)
         self._files.append(file)
         self._firsts.append(file.first)
+        self._tell(self._hits_of(self._changes()))
         return file
 
     def delete(self, file: File) -> None:
         """Takes a file out of the collection. The file itself stays."""
         self._ask(f"del {file.id}")
+        hits = self._hits_of(self._changes())  # their texts, while the file is known
         self._know([other for other in self._files if other.id != file.id])
         self._texts.pop(file.id, None)
+        self._tell(hits)
 
     def find(self, query: str) -> Iterator[Hit]:
         """All intervals of a query, in order. Their addresses are read before the first hit is given; texts one hit after the other."""
@@ -181,8 +185,25 @@ class Gclq:
     def open(self, name: str) -> List[File]:
         """Takes the files of an image, before anything is added."""
         self._ask(f"open {_name(name)}")
-        self._know(self.files())
-        return self.files()
+        changes = self._changes()
+        files = self.files()
+        self._know(list(files))
+        self._tell(self._hits_of(changes))
+        return files
+
+    def watch(self, query: str, told: Callable[[bool, Hit], None]) -> int:
+        """Has each edit from now on tell what it changes of the query's intervals, and gives the number of the watch.
+
+        `told(came, hit)` is called before `add`, `delete` or `open` returns, once for each interval that came or went.
+        """
+        number = int(self._ask("watch", query).split()[1])
+        self._watches[number] = told
+        return number
+
+    def unwatch(self, number: int) -> None:
+        """Ends the watch with this number."""
+        self._ask(f"unwatch {number}")
+        del self._watches[number]
 
     def _know(self, files: List[File]) -> None:
         self._files, self._firsts = files, [file.first for file in files]
@@ -236,6 +257,18 @@ class Gclq:
     def _hits(self, command: str, query: str) -> Iterator[Hit]:
         bounds = array("Q", (int(bound) for row in self._rows(command, query) for bound in row))
         return (self._hit(first, last) for first, last in zip(bounds[::2], bounds[1::2]))
+
+    def _changes(self) -> List[List[str]]:
+        """The lines that tell the watches of an edit. Their number is not told, so a count that costs nothing is asked for behind them."""
+        return list(self._rows("count", "[1]")) if self._watches else []
+
+    def _hits_of(self, changes: List[List[str]]) -> List[Tuple[int, bool, Hit]]:
+        return [(int(number), sign == "+", self._hit(int(first), int(last))) for sign, number, first, last in changes]
+
+    def _tell(self, hits: List[Tuple[int, bool, Hit]]) -> None:
+        for number, came, hit in hits:
+            if number in self._watches:  # a call before it may have ended this watch
+                self._watches[number](came, hit)
 
     def _hit(self, first: int, last: int) -> Hit:
         at = bisect.bisect_right(self._firsts, first) - 1
