@@ -1,0 +1,5 @@
+mod Borders
+mod Times
+mod RunWords
+mod Rows
+mod Worked
