@@ -1,0 +1,5 @@
+pub mod NameLemmas
+pub mod Renamed
+pub mod LeafLemmas
+pub mod AskingLemmas
+mod Worked

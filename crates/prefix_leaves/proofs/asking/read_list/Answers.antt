@@ -1,0 +1,37 @@
+use Rattle.std.proofs.Common.{◌≡◌, ◌∙◌, List, IfOk, take, sym, ap, subst}
+use Rattle.gcl_model.specs.Extents.{Extent}
+use Rattle.gcl_model.specs.FormOf.{form_of}
+use Rattle.gcl_model.specs.Meaning.{concordance}
+use Rattle.gcl_model.specs.Texts.{Text}
+use Rattle.gcl_model.specs.Wide.{wide}
+use Rattle.gcl_eval.specs.Members.{members_from}
+use Rattle.gcl_readers.specs.Standing.{Stands}
+use Rattle.live_version.specs.Contents.{version_text}
+use Rattle.prefix_leaves.specs.Renaming.{renamed}
+use Rattle.prefix_leaves.specs.Prefixes.{tokens_of}
+use Rattle.prefix_leaves.proofs.AskingLemmas.{text_over}
+use Rattle.prefix_leaves.proofs.Renamed.{apart_decides}
+use Rattle.prefix_leaves.proofs.asking.read_list.Goals as goal
+
+pub read_from-requires-clause-stands : goal.read_from-requires-clause-stands
+read_from-requires-clause-stands g c =
+    let asked : Text = renamed (tokens_of c.new-leaves.result.prefixes.now) (version_text c.new-leaves.result.inner.now) in
+    let text : Text = renamed (tokens_of c.args.prefixes.now) (version_text c.args.version.now) in
+    let same : asked ≡ text = text_over c.new-leaves.result.prefixes.now c.args.prefixes.now c.new-leaves.result.inner.now c.args.version.now c.new-leaves.ensures.prefixes (c.new-leaves.ensures.inner ∙ c.of-fingers.ensures) in
+    subst (λ (t : Text). Stands t (form_of c.args.expr.now) c.args.readers.now) (sym same) c.requires.stands
+
+pub returns-clause-ok : goal.returns-clause-ok
+returns-clause-ok g c =
+    let asked : Text = renamed (tokens_of c.new-leaves.result.prefixes.now) (version_text c.new-leaves.result.inner.now) in
+    let text : Text = renamed (tokens_of c.args.prefixes.now) (version_text c.args.version.now) in
+    let same : asked ≡ text = text_over c.new-leaves.result.prefixes.now c.args.prefixes.now c.new-leaves.result.inner.now c.args.version.now c.new-leaves.ensures.prefixes (c.new-leaves.ensures.inner ∙ c.of-fingers.ensures) in
+    let list : concordance asked (form_of c.args.expr.now) ≡ wide (version_text c.args.version.now) (form_of c.args.expr.now) =
+    ap (λ (t : Text). concordance t (form_of c.args.expr.now)) same ∙ apart_decides (tokens_of c.args.prefixes.now) (version_text c.args.version.now) (form_of c.args.expr.now) c.requires.apart in
+    subst (λ (l : List Extent). IfOk c.read_from.result (λ members. members ≡ take c.args.most (members_from l c.args.k))) list c.read_from.ensures.ok
+
+pub returns-clause-stands : goal.returns-clause-stands
+returns-clause-stands g c =
+    let asked : Text = renamed (tokens_of c.new-leaves.result.prefixes.now) (version_text c.new-leaves.result.inner.now) in
+    let text : Text = renamed (tokens_of c.args.prefixes.now) (version_text c.args.version.now) in
+    let same : asked ≡ text = text_over c.new-leaves.result.prefixes.now c.args.prefixes.now c.new-leaves.result.inner.now c.args.version.now c.new-leaves.ensures.prefixes (c.new-leaves.ensures.inner ∙ c.of-fingers.ensures) in
+    subst (λ (t : Text). Stands t (form_of c.args.expr.now) c.read_from.new.readers) same c.read_from.ensures.stands

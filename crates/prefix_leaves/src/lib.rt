@@ -1,0 +1,25 @@
+//! Leaves over which a prefix term is asked as one word is.
+//!
+//! Contracts see a text in which each word that a prefix term stands for has that term as its token (`renamed`): over `to be or not to be`
+//! and `t*` it is `t* be or not t* be`. Over it an expression has its wide list as its concordance list, if no word is meant by two of
+//! its names (`is_apart`). So the evaluators answer it as it stands, and none of the many words of a prefix is asked by itself.
+//!
+//! The layer above asks once whether an expression is apart (`PrefixTerms::of`), and where it is, gathers the places of its prefix terms
+//! once (`PrefixTable::of`). Pages and numbers of members then come from the `wide_` calls, by leaping or by readers. `t* ^ or` is apart:
+//! from 0 on its first member is (1, 3). `t* ^ to` is not, since `to` is meant by both.
+#![tactic(auto)]
+
+mod apart;
+mod asking;
+mod laws;
+mod leaves;
+mod meant;
+mod table;
+mod terms;
+mod uncounted;
+
+pub use asking::{wide_count, wide_list_from, wide_read_count, wide_read_from};
+pub use laws::names_that_are_apart_decide;
+pub use leaves::PrefixLeaves;
+pub use table::PrefixTable;
+pub use terms::PrefixTerms;
