@@ -1,4 +1,6 @@
 pub mod PageLemmas
 pub mod SearchLemmas
+mod WayLemmas
 pub mod ReadingLemmas
+pub mod MergedLemmas
 pub mod Crossings

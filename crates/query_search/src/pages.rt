@@ -8,21 +8,22 @@ ghost use Rattle.gcl_model.specs.WellFormed.{IsWellFormed};
 ghost use Rattle.live_version.specs.Contents.{version_text};
 ghost use Rattle.manifest_publish.specs.Accounts.{EndsWith};
 ghost use Rattle.collection.specs.Engines.{last_of};
-ghost use Rattle.query_search.specs.Pages.{pages_from};
+ghost use Rattle.query_search.specs.Pages.{IsAfter, IsWayOver, ended, leap_cost, left_of, pages_from, reads};
 ghost use Rattle.query_search.specs.inner.Searches.{members_over};
 
 use crate::questions::MemberCount;
 use crate::reading::{count_from, page_from, readers_of};
-use gcl_model::{Expr, IntervalList, uncounted};
+use gcl_model::{Expr, IntervalList, Ledger, NoLedger, Steps, uncounted};
 use gcl_readers::Readers;
 use manifest_publish::Pass;
 use reader_pass::pass_listed_count;
 use std::alloc::{AllocError, Global};
-use std::marker::Model;
-use std::sync::Arc;
+use std::marker::{Brand, Model};
+use std::sync::ledger::Blank;
+use std::sync::{Arc, ledger};
 
-/// The members of an expression over a version that start at an address or later, page by page. Contracts see all members, and those that
-/// are still to come.
+/// The members of an expression over a version that start at an address or later, page by page. Contracts see all members, those that are
+/// still to come, and how the next ones are found.
 #[derive(Drop)]
 pub struct Pages {
     pass: Pass,
@@ -37,11 +38,13 @@ pub struct Pages {
 impl Model for Pages {
     ghost use Rattle.gcl_model.specs.FormOf.{form_of};
     ghost use Rattle.query_search.specs.Pages.{PagesContent, pages_from};
-    ghost use Rattle.query_search.specs.inner.Searches.{members_over, GoesOnAt, ReadFrom};
+    ghost use Rattle.collection.specs.Engines.{last_of};
+    ghost use Rattle.query_search.specs.inner.Searches.{members_over, GoesOnAt, ReadFrom, way_from};
 
     ghost Value = { PagesContent };
 
-    ghost view = { λ p. pages_from (members_over p.pass.history (form_of p.expr.value)) p.from };
+    ghost view = { λ p. pages_from (members_over p.pass.history (form_of p.expr.value)) p.from
+        (way_from (last_of p.pass.history) (form_of p.expr.value) p.from p.end p.readers) };
 
     ghost invariant = { λ p. GoesOnAt p.pass.history (form_of p.expr.value) p.from p.end ×
         ReadFrom p.pass.history (form_of p.expr.value) p.from p.readers };
@@ -49,7 +52,7 @@ impl Model for Pages {
 
 /// Where the members after a page start at the earliest: after the start of its last one, or at the end where it has fewer than were
 /// asked for.
-fn start_after(page: &IntervalList, most: u64, end: u64) -> u64
+pub(crate) fn start_after(page: &IntervalList, most: u64, end: u64) -> u64
     requires below { AllByRecursion (λ (a : Extent). a.start < end) page.now }
     requires in_range { end ≤ address_end }
     ensures full { (before : List Extent) (last : Extent) → page.now ≡ before ++ last ∷ [] → most ≤ length page.now →
@@ -80,7 +83,8 @@ impl Pages {
     /// Over `to be or not to be` from address 0, those of `"to"` from 2 on are 5 to 5 alone.
     pub fn from(alloc: Global, pass: Pass, expr: Arc<Expr>, k: u64) -> Pages
         requires { IsWellFormed (form_of expr.value) }
-        ensures members { result ≡ pages_from (concordance (version_text (last_of pass.history)) (form_of expr.value)) k }
+        ensures members { result ≡ pages_from (concordance (version_text (last_of pass.history)) (form_of expr.value)) k result.way }
+        ensures way { IsWayOver (last_of pass.history) (form_of expr.value) result.way }
         ensures few { length result.all ≤ address_end }
     {
         let version = pass.version();
@@ -96,14 +100,31 @@ impl Pages {
         }
     }
 
+    /// Whether readers find the next members.
+    pub fn is_read(&self) -> bool
+        ensures { result ≡ reads self.now.way }
+    {
+        self.from != self.end && self.readers.is_some()
+    }
+
     /// The next `most` members, or all where fewer are to come. They are found from where the last page ended: by leaping, so that a page
     /// takes the look-ups of its own members alone, or by readers, of which all pages together take those of one merge of whole lists.
-    /// `Err` is out of memory, and then the same page can be asked for again.
-    pub fn page(&mut self, alloc: Global, most: u64) -> Result<IntervalList, AllocError>
+    /// `Err` is out of memory, and then the same page can be asked for again; readers are given up, and it is found by leaping.
+    pub fn page<S: Ledger>(
+        &mut self,
+        alloc: Global,
+        most: u64,
+        steps: &mut Steps<S>,
+    ) -> Result<IntervalList, AllocError>
         ensures ok { IfOk result (λ page. page ≡ take most self.old.to_come) }
         ensures rest { OnOk result (self.new.to_come ≡ drop most self.old.to_come) }
         ensures all { self.new.all ≡ self.old.all }
-        ensures err { OnErr result (self.new ≡ self.old) }
+        ensures err { OnErr result (self.new.to_come ≡ self.old.to_come) }
+        ensures way { OnOk result (IsAfter self.new.way self.old.way) }
+        ensures end { IfOk result (λ page. length page < most → self.new.way ≡ ended) }
+        ensures ended { self.old.way ≡ ended → (self.new.way ≡ ended) × (steps.new ≡ steps.old) }
+        ensures cost { steps.new + left_of self.new.way ≤
+            steps.old + left_of self.old.way + leap_cost self.old.way (length (take most self.old.to_come)) }
     {
         if most == 0 {
             return Ok(IntervalList::new(alloc));
@@ -118,9 +139,24 @@ impl Pages {
             &mut self.readers,
             self.from,
             most,
+            steps,
         )?;
         self.from = start_after(&page, most, self.end);
         Ok(page)
+    }
+
+    /// The same for whoever has no counter of look-ups.
+    pub(crate) fn page_uncounted(
+        &mut self,
+        alloc: Global,
+        most: u64,
+    ) -> Result<IntervalList, AllocError>
+        ensures ok { IfOk result (λ page. page ≡ take most self.old.to_come) }
+        ensures rest { OnOk result (self.new.to_come ≡ drop most self.old.to_come) }
+        ensures all { self.new.all ≡ self.old.all }
+        ensures err { OnErr result (self.new.to_come ≡ self.old.to_come) }
+    {
+        next_page::<Brand>(self, alloc, most, Blank::new(1))
     }
 
     /// How many members are to come, where this many came. No list is made: it is read off the lengths of lists where it can be, and else
@@ -128,7 +164,8 @@ impl Pages {
     pub(crate) fn count(&mut self, given: u64) -> u64
         requires { given + length self.old.to_come ≡ length self.old.all }
         ensures value { result ≡ length self.old.to_come }
-        ensures same { self.new ≡ self.old }
+        ensures to_come { self.new.to_come ≡ self.old.to_come }
+        ensures all { self.new.all ≡ self.old.all }
     {
         if let Some(all) = listed_count(&self.pass, &self.expr) {
             return all - given;
@@ -142,4 +179,22 @@ impl Pages {
         };
         count_from(&self.pass, &self.expr, &mut readers, self.from)
     }
+}
+
+fn next_page<B: ledger::Ledger>(
+    pages: &mut Pages,
+    alloc: Global,
+    most: u64,
+    blank: Blank,
+) -> Result<IntervalList, AllocError>
+    requires name { blank.name ≡ B.name }
+    requires parts { blank.parts ≡ B.parts }
+    requires some { 0 < blank.parts }
+    ensures ok { IfOk result (λ page. page ≡ take most pages.old.to_come) }
+    ensures rest { OnOk result (pages.new.to_come ≡ drop most pages.old.to_come) }
+    ensures all { pages.new.all ≡ pages.old.all }
+    ensures err { OnErr result (pages.new.to_come ≡ pages.old.to_come) }
+{
+    let mut steps = Steps::<NoLedger<B>>::open(blank);
+    pages.page(alloc, most, &mut steps)
 }

@@ -9,15 +9,15 @@ ghost use Rattle.live_version.specs.Contents.{VersionContent, version_text};
 ghost use Rattle.manifest_publish.specs.Accounts.{EndsWith};
 ghost use Rattle.reader_pass.specs.Members.{first_members_from};
 ghost use Rattle.collection.specs.Engines.{last_of};
-ghost use Rattle.query_search.specs.inner.Searches.{ReadFrom, StandFrom, members_over};
+ghost use Rattle.query_search.specs.Pages.{IsAfter, IsWayOver};
+ghost use Rattle.query_search.specs.inner.Searches.{IsPaid, ReadFrom, StandFrom, members_over, way_by};
 
-use crate::questions::MembersFrom;
 use crate::shapes::may_search_again;
-use gcl_model::{Expr, IntervalList, NoLedger, Steps, uncounted};
+use gcl_model::{Expr, IntervalList, Ledger, NoLedger, Steps};
 use gcl_readers::Readers;
 use live_version::Version;
 use manifest_publish::Pass;
-use reader_pass::{pass_read_count, pass_read_from};
+use reader_pass::{pass_list_from, pass_read_count, pass_read_from};
 use std::alloc::{AllocError, Global};
 use std::marker::Brand;
 use std::sync::ledger;
@@ -25,7 +25,8 @@ use std::sync::ledger::Blank;
 
 /// Readers, where leaping may be slow and there is memory for them. They may begin at any address.
 pub fn readers_of(alloc: Global, version: &Version, expr: &Expr) -> Option<Readers>
-    ensures { (history : List VersionContent) (from : ℕ) → ReadFrom history (form_of expr.now) from result }
+    ensures stand { (history : List VersionContent) (from : ℕ) → ReadFrom history (form_of expr.now) from result }
+    ensures way { (v : VersionContent) → IsWayOver v (form_of expr.now) (way_by v (form_of expr.now) result) }
 {
     if !may_search_again(version, expr) {
         return None;
@@ -38,13 +39,14 @@ pub fn readers_of(alloc: Global, version: &Version, expr: &Expr) -> Option<Reade
 
 /// The first members from an address on: by readers, where there are some, and else by leaping. Readers that may have passed members which
 /// are still to come are given up: after a page that was refused, and after the last one.
-pub fn page_from(
+pub fn page_from<S: Ledger>(
     alloc: Global,
     pass: &Pass,
     expr: &Expr,
     readers: &mut Option<Readers>,
     from: u64,
     most: u64,
+    steps: &mut Steps<S>,
 ) -> Result<IntervalList, AllocError>
     requires last { EndsWith pass.now.history (last_of pass.now.history) }
     requires well_formed { IsWellFormed (form_of expr.now) }
@@ -55,47 +57,21 @@ pub fn page_from(
     ensures full { IfOk result (λ page.
         length page ≡ most → ReadFrom pass.now.history (form_of expr.now) (behind_page from page) readers.new) }
     ensures short { IfOk result (λ page. length page < most → readers.new ≡ None) }
+    ensures same { IfOk result (λ page. length page ≡ most →
+        IsAfter (way_by (last_of pass.now.history) (form_of expr.now) readers.new)
+        (way_by (last_of pass.now.history) (form_of expr.now) readers.old)) }
     ensures err { OnErr result (readers.new ≡ None) }
+    ensures cost { IsPaid (last_of pass.now.history) (form_of expr.now) readers.old readers.new
+        (length (first_members_from (version_text (last_of pass.now.history)) (form_of expr.now) from most)) steps.old steps.new }
 {
     let Some(mut reading) = readers.take() else {
-        return uncounted(&MembersFrom {
-            alloc,
-            pass,
-            expr,
-            from,
-            limit: most,
-        });
+        return pass_list_from(alloc, pass, expr, from, most, steps);
     };
-    let page = read_page::<Brand>(alloc, pass, &mut reading, expr, from, most, Blank::new(1))?;
+    let page = pass_read_from(alloc, pass, &mut reading, expr, from, most, steps)?;
     if page.len() as u64 == most {
         *readers = Some(reading);
     }
     Ok(page)
-}
-
-fn read_page<B: ledger::Ledger>(
-    alloc: Global,
-    pass: &Pass,
-    readers: &mut Readers,
-    expr: &Expr,
-    from: u64,
-    most: u64,
-    blank: Blank,
-) -> Result<IntervalList, AllocError>
-    requires last { EndsWith pass.now.history (last_of pass.now.history) }
-    requires well_formed { IsWellFormed (form_of expr.now) }
-    requires below { from < far }
-    requires readers { StandFrom pass.now.history (form_of expr.now) from readers.old }
-    requires name { blank.name ≡ B.name }
-    requires parts { blank.parts ≡ B.parts }
-    requires some { 0 < blank.parts }
-    ensures ok { IfOk result (λ page.
-        page ≡ first_members_from (version_text (last_of pass.now.history)) (form_of expr.now) from most) }
-    ensures full { IfOk result (λ page.
-        length page ≡ most → StandFrom pass.now.history (form_of expr.now) (behind_page from page) readers.new) }
-{
-    let mut steps = Steps::<NoLedger<B>>::open(blank);
-    pass_read_from(alloc, pass, readers, expr, from, most, &mut steps)
 }
 
 /// How many members there are from an address on.

@@ -1,4 +1,4 @@
-ghost use Rattle.std.specs.Prelude.{◌≡◌, ◌≤◌, length, take, drop, IfOk, OnOk, OnErr};
+ghost use Rattle.std.specs.Prelude.{◌≡◌, ◌≤◌, length, take, drop, IfOk, IfSome, OnOk, OnErr};
 ghost use Rattle.gcl_model.specs.FormOf.{form_of};
 ghost use Rattle.gcl_model.specs.Limits.{address_end};
 ghost use Rattle.gcl_model.specs.Meaning.{concordance};
@@ -8,6 +8,8 @@ ghost use Rattle.live_version.specs.Contents.{version_text};
 ghost use Rattle.collection.specs.Engines.{last_of};
 
 use crate::expansion::expanded;
+use crate::merged_pages::MergedPages;
+use crate::merging::{Merging, merging_of, where_wide};
 use crate::pages::Pages;
 use gcl_model::{Expr, IntervalList};
 use manifest_publish::Pass;
@@ -15,29 +17,37 @@ use std::alloc::{AllocError, Global};
 use std::marker::Model;
 use std::sync::Arc;
 
+// A page of so many members is found by the words of a lone prefix term: to gather all places takes longer.
+const FEW: u64 = 256;
+
 /// One query on one version. What it needs before it can be answered is made once, and serves all its pages and its count.
 /// Contracts see the members of its wide list that are still to come.
 #[derive(Drop)]
 pub struct Search {
     pages: Pages,
+    // What it takes to go over to the places of prefix terms for which many words stand; no member came yet where it is there.
+    merging: Option<Merging>,
+    // These are in the place of `pages` once they are there.
+    merged: Option<MergedPages>,
     // How many members came.
     given: u64,
 }
 
 impl Model for Search {
-    ghost use Rattle.std.specs.Prelude.{◌≡◌, ◌+◌, ◌≤◌, List, length};
+    ghost use Rattle.std.specs.Prelude.{List};
     ghost use Rattle.gcl_model.specs.Extents.{Extent};
-    ghost use Rattle.gcl_model.specs.Limits.{address_end};
+    ghost use Rattle.query_search.specs.inner.Merging.{IsSearch, all_of, to_come_of};
 
     ghost Value = { List Extent };
 
-    ghost view = { λ s. s.pages.to_come };
+    ghost view = { λ s. to_come_of s.merged s.pages.to_come };
 
-    ghost invariant = { λ s. (s.given + length s.pages.to_come ≡ length s.pages.all) × (length s.pages.all ≤ address_end) };
+    ghost invariant = { λ s. IsSearch (all_of s.merged s.pages.all) (to_come_of s.merged s.pages.to_come) s.merging s.given };
 }
 
 impl Search {
-    /// A query on the version of a pass. Its prefix terms are expanded here, once. `Err` is out of memory.
+    /// A query on the version of a pass. Its prefix terms are expanded here, once. Where many words stand for one, the first page or the
+    /// number may gather the places of all of them, once. `Err` is out of memory.
     ///
     /// Over `to be or not to be` from address 0, `"to"` and `"t"*` have the members 1 to 1 and 5 to 5.
     pub fn of(alloc: Global, pass: Pass, expr: Arc<Expr>) -> Result<Search, AllocError>
@@ -45,8 +55,10 @@ impl Search {
         ensures members { IfOk result (λ search. search ≡ wide (version_text (last_of pass.history)) (form_of expr.value)) }
         ensures few { IfOk result (λ search. length search ≤ address_end) }
     {
+        let merging = merging_of(alloc, &pass, &expr);
         let expr = expanded(alloc, pass.version(), expr)?;
-        Ok(Search::over(alloc, pass, expr))
+        let merging = where_wide(merging, &expr);
+        Ok(Search::with(alloc, pass, expr, merging))
     }
 
     /// The same of an expression without prefix terms, or of what `expansion_of` made of one over this version. It takes no memory that it
@@ -56,8 +68,20 @@ impl Search {
         ensures members { result ≡ concordance (version_text (last_of pass.history)) (form_of expr.value) }
         ensures few { length result ≤ address_end }
     {
+        Search::with(alloc, pass, expr, None)
+    }
+
+    /// The same with what it takes to go over to the places of prefix terms.
+    fn with(alloc: Global, pass: Pass, expr: Arc<Expr>, merging: Option<Merging>) -> Search
+        requires well_formed { IsWellFormed (form_of expr.value) }
+        requires same { IfSome merging (λ list. list ≡ concordance (version_text (last_of pass.history)) (form_of expr.value)) }
+        ensures members { result ≡ concordance (version_text (last_of pass.history)) (form_of expr.value) }
+        ensures few { length result ≤ address_end }
+    {
         Search {
             pages: Pages::from(alloc, pass, expr, 0),
+            merging,
+            merged: None,
             given: 0,
         }
     }
@@ -70,17 +94,47 @@ impl Search {
         ensures rest { OnOk result (self.new ≡ drop most self.old) }
         ensures err { OnErr result (self.new ≡ self.old) }
     {
-        let page = self.pages.page(alloc, most)?;
+        self.go_over(most <= FEW);
+        self.merging = None;
+        if let Some(merged) = &mut self.merged {
+            let page = merged.page(alloc, most)?;
+            self.given += page.len() as u64;
+            return Ok(page);
+        }
+        let page = self.pages.page_uncounted(alloc, most)?;
         self.given += page.len() as u64;
         Ok(page)
     }
 
-    /// How many members are to come. It takes no memory, and no list is made: it is read off the lengths of lists where it can be, and else
-    /// counted. Where readers count, they go to the end, and pages after that are found by leaping.
+    /// How many members are to come. No list of them is made: it is read off the lengths of lists where it can be, and else counted. It
+    /// needs no memory, though the places of prefix terms may be gathered for it. Where readers count, they go to the end, and pages
+    /// after that are found by leaping.
     pub fn count(&mut self) -> u64
         ensures value { result ≡ length self.old }
         ensures same { self.new ≡ self.old }
     {
+        self.go_over(true);
+        if let Some(merged) = &mut self.merged {
+            return merged.count(self.given);
+        }
         self.pages.count(self.given)
+    }
+
+    /// Goes over to the places of the prefix terms, where that pays and there is memory for them. They are gathered once, and after that a
+    /// prefix term costs what one word costs. Of a prefix term alone the words give a few members and the number of all sooner: a page asks
+    /// each word once, and a number is a sum of lengths.
+    fn go_over(&mut self, is_few: bool)
+        ensures { self.new ≡ self.old }
+    {
+        let Some(merging) = self.merging.take() else {
+            return;
+        };
+        if is_few && merging.is_lone() {
+            self.merging = Some(merging);
+            return;
+        }
+        if let Ok(merged) = merging.pages() {
+            self.merged = Some(merged);
+        }
     }
 }

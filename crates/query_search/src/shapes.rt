@@ -19,11 +19,23 @@ const WIDE: u64 = 16;
 /// where there are many, as in the expansion of a prefix that many words have. It does not where each member has a rare term: leaping then
 /// asks the operands only close to the places of that term, and readers would go through all that they have between these places.
 pub fn may_search_again(version: &Version, expr: &Expr) -> bool {
-    let shape = shape_of(expr);
-    if shape.asks_a_chain || shape.nesting >= DEEP {
+    if may_multiply(expr) {
         return true;
     }
+    let shape = shape_of(expr);
     shape.is_wide && !leaps_well(version, expr, shape.leaves)
+}
+
+/// Whether a single access may take longer than a merge of whole lists: it goes through the words for each member that a containment goes
+/// on to, and each level multiplies that.
+pub fn may_multiply(expr: &Expr) -> bool {
+    let shape = shape_of(expr);
+    shape.asks_a_chain || shape.nesting >= DEEP
+}
+
+/// Whether some "one of" in it has many operands, as the expansion of a prefix that many words have.
+pub fn is_wide(expr: &Expr) -> bool {
+    shape_of(expr).is_wide
 }
 
 #[derive(Clone, Copy)]

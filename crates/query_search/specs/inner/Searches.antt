@@ -1,15 +1,19 @@
 -- What is always true of members that come page by page.
-use Rattle.std.specs.Prelude.{◌≡◌, ℕ, ◌≤◌, List, Option, IfSome}
+use Rattle.std.specs.Prelude.{◌≡◌, ℕ, ◌+◌, ◌≤◌, ◌==◌, List, Option, None, Some, IfSome, if◌then◌else◌}
+use Rattle.gcl_model.specs.Cost.{cost}
 use Rattle.gcl_model.specs.Extents.{Extent}
 use Rattle.gcl_model.specs.Forms.{Form}
 use Rattle.gcl_model.specs.Limits.{address_end}
 use Rattle.gcl_model.specs.Meaning.{concordance}
 use Rattle.gcl_model.specs.WellFormed.{IsWellFormed}
 use Rattle.gcl_readers.specs.declared.front.Place.{Place}
+use Rattle.gcl_readers.specs.MergeCost.{cost_left}
 use Rattle.gcl_readers.specs.Standing.{Stands, start_at}
 use Rattle.live_version.specs.Contents.{VersionContent, version_text}
 use Rattle.manifest_publish.specs.Accounts.{EndsWith}
 use Rattle.collection.specs.Engines.{last_of}
+use Rattle.reader_pass.specs.Members.{access_most}
+use Rattle.query_search.specs.Pages.{Way, leaping, reading, ended, left_of, leap_cost}
 
 -- all members of a form over the last version of a history
 abbrev pub members_over : List VersionContent → Form → List Extent
@@ -31,3 +35,17 @@ pub record StandFrom (history : List VersionContent) (form : Form) (from : ℕ) 
 -- the same of readers where there are some
 abbrev pub ReadFrom : List VersionContent → Form → ℕ → Option (List Place) → Type 0
 ReadFrom history form from readers = IfSome readers (StandFrom history form from)
+
+-- how members are found: by leaping where there are no readers
+abbrev pub way_by : VersionContent → Form → Option (List Place) → Way
+way_by v form None = leaping (cost (version_text v) (access_most v) form)
+way_by v form (Some readers) = reading (cost_left (version_text v) (access_most v) form readers)
+
+-- the same from an address on, before the end
+abbrev pub way_from : VersionContent → Form → (from end : ℕ) → Option (List Place) → Way
+way_from v form from end readers = if from == end then ended else way_by v form readers
+
+-- a page of so many members makes no more look-ups than readers had left, and than leaping to them may make
+abbrev pub IsPaid : VersionContent → Form → (old new : Option (List Place)) → (members steps steps' : ℕ) → Type 0
+IsPaid v form old new members steps steps' =
+    steps' + left_of (way_by v form new) ≤ steps + left_of (way_by v form old) + leap_cost (way_by v form old) members

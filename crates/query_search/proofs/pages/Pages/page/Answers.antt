@@ -45,26 +45,26 @@ reads_on history form from most end next page readers le some after full short =
     ]
 
 pub returns-then-self-clause-ok : goal.returns-then-self-clause-ok
-returns-then-self-clause-ok c =
+returns-then-self-clause-ok g c =
     let none : c.args.self.now.to_come ≡ [] = ap (λ (p : PagesContent). p.to_come) (sym c.self.view_is) ∙ empty c.self.inside.pass.history (form_of c.self.inside.expr.value) c.self.inside.from c.self.inside.end c.self.invariant.0 c.if-self.true in
     let taken : take c.args.most c.args.self.now.to_come ≡ [] = ap (λ (l : List Extent). take c.args.most l) none ∙ take_all c.args.most [] (omega arith) in
     cc
 
 pub returns-then-self-clause-rest : goal.returns-then-self-clause-rest
-returns-then-self-clause-rest c =
+returns-then-self-clause-rest g c =
     let none : c.args.self.now.to_come ≡ [] = ap (λ (p : PagesContent). p.to_come) (sym c.self.view_is) ∙ empty c.self.inside.pass.history (form_of c.self.inside.expr.value) c.self.inside.from c.self.inside.end c.self.invariant.0 c.if-self.true in
     let left : drop c.args.most c.args.self.now.to_come ≡ [] = ap (λ (l : List Extent). drop c.args.most l) none ∙ drop_all c.args.most [] (omega arith) in
     cc
 
 pub start_after-self-inside-requires-clause-below : goal.start_after-self-inside-requires-clause-below
-start_after-self-inside-requires-clause-below c =
+start_after-self-inside-requires-clause-below g c =
     let same : c.deref.result.now ≡ c.self.inside.expr.value = search rules in
     let text : Text = version_text (last_of c.self.inside.pass.history) in
     page_before text (form_of c.self.inside.expr.value) c.self.inside.from c.args.most c.self.inside.end c.in_ok-page.page c.self.invariant.0.text_end
     (c.in_ok-page.ensures.ok ∙ ap (λ (e : Expr). first_members_from text (form_of e) c.self.inside.from c.args.most) same)
 
 pub invariant_of-self-2 : goal.invariant_of-self-2
-invariant_of-self-2 c =
+invariant_of-self-2 g c =
     let same : c.deref.result.now ≡ c.self.inside.expr.value = search rules in
     let text : Text = version_text (last_of c.self.inside.pass.history) in
     let form : Form = form_of c.self.inside.expr.value in
@@ -81,7 +81,7 @@ invariant_of-self-2 c =
     )
 
 pub returns-clause-rest : goal.returns-clause-rest
-returns-clause-rest c =
+returns-clause-rest g c =
     let same : c.deref.result.now ≡ c.self.inside.expr.value = search rules in
     let text : Text = version_text (last_of c.self.inside.pass.history) in
     let form : Form = form_of c.self.inside.expr.value in
