@@ -1,4 +1,5 @@
 pub mod Alike
 pub mod Bounds
 pub mod Locality
+pub mod Windows
 mod Worked

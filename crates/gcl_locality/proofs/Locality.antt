@@ -102,17 +102,17 @@ module _ (old new : Text) (S : Extent → Type 0) (sh : AreShared old new S) whe
   term_alike token = where_alike old new S sh (is_wide_term old token) (is_wide_term new token)
       (λ c s le. ap (λ b. eqb c.start c.end && b) (wide_same old.words new.words token c.start (sh.words c s c.start (le_refl c.start) le)))
 
-  phrase_alike : (tokens : List (List ℕ)) → Alike S (wide old (phrase tokens)) (wide new (phrase tokens))
+  pub phrase_alike : (tokens : List (List ℕ)) → Alike S (wide old (phrase tokens)) (wide new (phrase tokens))
   phrase_alike tokens = where_alike old new S sh (is_phrase old tokens) (is_phrase new tokens) (λ c s le. phrase_same old new tokens c (sh.words c s))
 
-  width_alike : (n : ℕ) → Alike S (wide old (width n)) (wide new (width n))
+  pub width_alike : (n : ℕ) → Alike S (wide old (width n)) (wide new (width n))
   width_alike n = where_alike old new S sh (is_width n) (is_width n) (λ c s le. refl)
 
   -- what two lists that are alike cover
-  cover_on : (xs ys : List Extent) → Alike S xs ys → (c : Extent) → S c → c.start ≤ c.end → covers xs c ≡ true → covers ys c ≡ true
+  pub cover_on : (xs ys : List Extent) → Alike S xs ys → (c : Extent) → S c → c.start ≤ c.end → covers xs c ≡ true → covers ys c ≡ true
   cover_on xs ys a c s le e = covers_alike old new S sh xs ys a c s e
 
-  cover_back : (xs ys : List Extent) → Alike S xs ys → (c : Extent) → S c → c.start ≤ c.end → covers ys c ≡ true → covers xs c ≡ true
+  pub cover_back : (xs ys : List Extent) → Alike S xs ys → (c : Extent) → S c → c.start ≤ c.end → covers ys c ≡ true → covers xs c ≡ true
   cover_back xs ys a c s le e = covers_alike new old S (shared_other old new S sh) ys xs (alike_other S xs ys a) c s e
 
   containing_alike : (a b : Form) → Alike S (wide old a) (wide new a) → Alike S (wide old b) (wide new b) → Alike S (wide old (containing a b)) (wide new (containing a b))
@@ -143,7 +143,7 @@ module _ (old new : Text) (S : Extent → Type 0) (sh : AreShared old new S) whe
 
 -- the intervals that lie from p to q
 module _ (old new : Text) (p q : ℕ) (agree : AgreeWithin old new p q) where
-  inner_shared : AreShared old new (λ c. Nested c (extent p q))
+  pub inner_shared : AreShared old new (λ c. Nested c (extent p q))
   inner_shared =
       shared_from old new (λ c. Nested c (extent p q))
       (λ a c n s. let x = n.0 in let y = n.1 in let u = s.0 in let v = s.1 in (omega arith, omega arith))
@@ -235,7 +235,7 @@ module _ (old new : Text) (from upto : ℕ) (agree : AgreeOutside old new from u
       out c (inr e) i from' upto' = inr (omega arith)
 
   mutual
-    low_le : (form : Form) → changed_from old new from form ≤ from
+    pub low_le : (form : Form) → changed_from old new from form ≤ from
     low_le (term token) = le_refl from
     low_le (phrase tokens) = le_refl from
     low_le (width n) = le_refl from
@@ -252,7 +252,7 @@ module _ (old new : Text) (from upto : ℕ) (agree : AgreeOutside old new from u
     lows_le (more_forms form forms) = let h = low_le form in omega arith
 
   mutual
-    high_ge : (form : Form) → upto ≤ changed_upto old new upto form
+    pub high_ge : (form : Form) → upto ≤ changed_upto old new upto form
     high_ge (term token) = le_refl upto
     high_ge (phrase tokens) = le_refl upto
     high_ge (width n) = le_refl upto

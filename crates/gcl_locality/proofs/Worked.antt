@@ -1,11 +1,13 @@
 -- Worked examples of where two texts agree and of the addresses between which lists differ, computed.
-use Rattle.std.specs.Prelude.{◌≡◌, ℕ, List, true, false, [], ◌∷◌, ◌++◌, None, Some, refl, codes}
+use Rattle.std.specs.Prelude.{◌≡◌, ℕ, List, true, false, [], ◌∷◌, ◌++◌, None, Some, refl, codes, filter}
+use Rattle.std.proofs.Common.{arith}
 use Rattle.gcl_model.specs.Extents.{extent}
 use Rattle.gcl_model.specs.Texts.{Text, Word}
 use Rattle.gcl_model.specs.Forms.{Form, term, width, seq, both, containing, contained_in, not_contained_in, no_forms, more_forms}
 use Rattle.gcl_model.specs.Wide.{wide}
 use Rattle.gcl_locality.specs.Agreement.{has_address}
 use Rattle.gcl_locality.specs.Changed.{earlier_start, later_end, changed_from, changed_upto, is_lost, differs, touches, looks_around}
+use Rattle.gcl_locality.specs.Windows.{IsPart, start_before, end_behind, window_from, window_upto}
 
 abbrev word : ℕ → List ℕ → Word
 word p token = record { address = p; token = token }
@@ -123,3 +125,93 @@ followed_looks_not_around = refl
 
 watched_looks_around : looks_around (both (more_forms watched (more_forms to no_forms))) ≡ true
 watched_looks_around = refl
+
+-- windows: the `be` at 6 alone does not tell that it lies in (5, 9), and the window of "be" /< ("to".."x") at 6 has what tells it
+abbrev alone : Text
+alone = record { first = 6; next = 7; words = word 6 (codes "be") ∷ [] }
+
+its_window_from : window_from after 6 6 watched ≡ 0
+its_window_from = refl
+
+its_window_upto : window_upto after 6 6 watched ≡ 11
+its_window_upto = refl
+
+it_is_not_in_the_list : filter (touches 6 6) (wide after watched) ≡ []
+it_is_not_in_the_list = refl
+
+-- the part with the words from 6 to 6 alone tells otherwise
+it_is_in_the_list_of_a_part : filter (touches 6 6) (wide alone watched) ≡ extent 6 6 ∷ []
+it_is_in_the_list_of_a_part = refl
+
+-- the window of a word reaches from the one before to the one behind
+a_word_starts_before : start_before after (wide after be) 5 ≡ 2
+a_word_starts_before = refl
+
+a_word_ends_behind : end_behind after (wide after be) 5 ≡ 6
+a_word_ends_behind = refl
+
+-- the examples of the definitions
+the_last_before : start_before after (extent 1 2 ∷ extent 5 6 ∷ []) 5 ≡ 1
+the_last_before = refl
+
+the_first_behind : end_behind after (extent 1 2 ∷ extent 5 6 ∷ []) 2 ≡ 6
+the_first_behind = refl
+
+none_before : start_before last [] 9 ≡ 0
+none_before = refl
+
+none_behind : end_behind last [] 9 ≡ 11
+none_behind = refl
+
+-- `to x to x be to be x be to x be to x to x` at 0 to 15: the window of the same expression at 8 has the words from 2 to 13
+abbrev inner_words : List Word
+inner_words = word 2 (codes "to") ∷ word 3 (codes "x") ∷ word 4 (codes "be") ∷ word 5 (codes "to") ∷ word 6 (codes "be") ∷ word 7 (codes "x")
+    ∷ word 8 (codes "be") ∷ word 9 (codes "to") ∷ word 10 (codes "x") ∷ word 11 (codes "be") ∷ word 12 (codes "to") ∷ word 13 (codes "x") ∷ []
+
+abbrev long : Text
+long = record {
+  first = 0;
+  next = 16;
+  words = word 0 (codes "to") ∷ word 1 (codes "x") ∷ inner_words ++ word 14 (codes "to") ∷ word 15 (codes "x") ∷ [];
+}
+
+abbrev inner : Text
+inner = record { first = 2; next = 14; words = inner_words }
+
+long_list : wide long watched ≡ extent 4 4 ∷ extent 8 8 ∷ extent 11 11 ∷ []
+long_list = refl
+
+long_from : window_from long 8 8 watched ≡ 2
+long_from = refl
+
+long_upto : window_upto long 8 8 watched ≡ 13
+long_upto = refl
+
+its_part_tells : filter (touches 8 8) (wide inner watched) ≡ filter (touches 8 8) (wide long watched)
+its_part_tells = refl
+
+-- two addresses the wrong way round: (1, 12) touches 12 and 2, and the window, from 7 to 4, has none of its words
+abbrev pairs : Text
+pairs = record {
+  first = 0;
+  next = 20;
+  words = word 3 (codes "to") ∷ word 4 (codes "x") ∷ word 5 (codes "to") ∷ word 6 (codes "x") ∷ word 7 (codes "to") ∷ word 8 (codes "x") ∷ [];
+}
+
+abbrev one_pair : Text
+one_pair = record { first = 0; next = 20; words = word 1 (codes "to") ∷ word 12 (codes "x") ∷ [] }
+
+crossed_from : window_from pairs 12 2 (followed to x) ≡ 7
+crossed_from = refl
+
+crossed_upto : window_upto pairs 12 2 (followed to x) ≡ 4
+crossed_upto = refl
+
+crossed_part : IsPart one_pair pairs 7 4
+crossed_part = record { same = λ p ge le. absurd (omega arith); first = omega arith; next = omega arith }
+
+crossed_list : filter (touches 12 2) (wide pairs (followed to x)) ≡ []
+crossed_list = refl
+
+crossed_list_of_a_part : filter (touches 12 2) (wide one_pair (followed to x)) ≡ extent 1 12 ∷ []
+crossed_list_of_a_part = refl

@@ -1,3 +1,4 @@
 pub mod Agreement
 pub mod Changed
 pub mod Laws
+pub mod Windows

@@ -1,5 +1,6 @@
-ghost use Rattle.std.specs.Prelude.{◌≡◌};
+ghost use Rattle.std.specs.Prelude.{◌≡◌, min, max};
 ghost use Rattle.gcl_locality.specs.Changed.{earlier_start, later_end, touches};
+ghost use Rattle.gcl_locality.specs.Windows.{start_or, end_or};
 
 use gcl_model::Interval;
 
@@ -20,6 +21,26 @@ pub fn later_end(p: u64, found: Option<Interval>) -> u64
     match found {
         None => p,
         Some(interval) => p.max(interval.end),
+    }
+}
+
+/// From where on a window reaches x: where the last interval starts that ends before x, or else the first address.
+pub fn start_before(first: u64, x: u64, found: Option<Interval>) -> u64
+    ensures { result ≡ min x (start_or first found) }
+{
+    match found {
+        None => x.min(first),
+        Some(interval) => x.min(interval.start),
+    }
+}
+
+/// Up to where it reaches behind y: where the first interval ends that starts after y, or else the end of the addresses.
+pub fn end_behind(next: u64, y: u64, found: Option<Interval>) -> u64
+    ensures { result ≡ max y (end_or next found) }
+{
+    match found {
+        None => y.max(next),
+        Some(interval) => y.max(interval.end),
     }
 }
 

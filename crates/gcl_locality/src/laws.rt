@@ -1,5 +1,6 @@
 ghost use Rattle.gcl_model.specs.Forms.{contained_in, not_contained_in};
 ghost use Rattle.gcl_locality.specs.Laws.{ChangesAreLocal, MembersAreLocal, ContainedAreLocalAround};
+ghost use Rattle.gcl_locality.specs.Windows.{WindowsTell};
 
 /// Where two texts are the same outside a range, the lists of an expression over them differ between two addresses alone.
 pub fn changes_are_local()
@@ -15,4 +16,9 @@ pub fn members_are_local()
 pub fn contained_are_local_around()
     ensures inside { ContainedAreLocalAround contained_in }
     ensures not_inside { ContainedAreLocalAround not_contained_in }
+{}
+
+/// What has the words of an expression's window at two addresses tells the members that touch these.
+pub fn windows_tell()
+    ensures { WindowsTell }
 {}

@@ -7,10 +7,16 @@
 //! 7 and then `x` at 8 to 10, the `be` at 6 goes from `"be" /< ("to".."x")`, and the first address is 5.
 //!
 //! The layer above finds the two addresses by a few accesses of the second operands, with `earlier_start` and `later_end`.
+//!
+//! A window of an expression at two addresses is the part of a text that tells its members there, from the member that
+//! ends before them to the one that starts behind them, and for `<` and `/<` on to what contains these: a text with the
+//! same words in the window, and no address that the first one has not, has the same members which touch the two
+//! addresses. The `be` at 6 alone does not tell that it lies in (5, 9). The layer above finds a window by accesses, too,
+//! with `start_before` and `end_behind`.
 #![tactic(auto)]
 
 mod addresses;
 mod laws;
 
-pub use addresses::{earlier_start, later_end, touches};
-pub use laws::{changes_are_local, contained_are_local_around, members_are_local};
+pub use addresses::{earlier_start, end_behind, later_end, start_before, touches};
+pub use laws::{changes_are_local, contained_are_local_around, members_are_local, windows_tell};

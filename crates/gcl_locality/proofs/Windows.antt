@@ -1,0 +1,293 @@
+-- What has the words of a window tells the members that touch two addresses, by induction over expressions.
+use Rattle.std.proofs.Common.{◌≡◌, ℕ, ◌+◌, ◌-◌, ◌<◌, ◌≤◌, Bool, true, ◌&&◌, leb, eqb, List, [], ◌∷◌, Option, Some, None, inl, inr, refl, sym, ap, ◌∙◌, arith, min, max, le_refl, filter}
+use Rattle.std.proofs.lemmas.Bool.{cases_Bool, cases_lt, and_parts, leb-true}
+use Rattle.gcl_model.specs.Extents.{Extent, extent, is_nested, is_inside, covers, IsAhead, IsRising}
+use Rattle.gcl_model.specs.Access.{first_start, last_end}
+use Rattle.gcl_model.specs.Texts.{Text}
+use Rattle.gcl_model.specs.Forms.{Form, Forms, term, phrase, width, both, one, seq, containing, contained_in, not_containing, not_contained_in, no_forms, more_forms}
+use Rattle.gcl_model.specs.Meaning.{concordance, denotes, is_term, operands}
+use Rattle.gcl_model.proofs.Lists.{all_kept}
+use Rattle.gcl_model.proofs.Covers.{Nested, nested_tells, Has, of_each, find_gives, find_last_gives, same_member}
+use Rattle.gcl_model.proofs.Minimal.{filter_has, has_filter}
+use Rattle.gcl_model.proofs.Meanings.{IsOf, AreOf, each_of_text, concordance_rises}
+use Rattle.gcl_locality.specs.Changed.{touches}
+use Rattle.gcl_locality.specs.Windows.{IsPart, start_or, end_or, start_before, end_behind, told_from, all_told_from, told_upto, all_told_upto, window_from, window_upto}
+use Rattle.gcl_locality.proofs.Alike.{any_tells, any_from, Goes, Alike, AreAlike, AreShared, where_alike, both_alike, one_alike, seq_alike, kept_alike, dropped_alike}
+use Rattle.gcl_locality.proofs.Locality.{phrase_alike, width_alike, cover_on, cover_back, inner_shared}
+
+-- of two members of a rising list the one that ends first starts first
+starts_first : (list : List Extent) → IsRising list → (a b : Extent) → Has list a → Has list b → a.end < b.end → a.start < b.start
+starts_first list r a b m n lt =
+    elim (cases_lt a.start b.start) [
+      | inl is ↦ is
+      | inr ge ↦ let e = ap (λ (y : Extent). y.end) (same_member list r b a n m ge (omega arith)) in absurd (omega arith)
+    ]
+
+-- and the one that starts first ends first
+ends_first : (list : List Extent) → IsRising list → (a b : Extent) → Has list a → Has list b → a.start < b.start → a.end < b.end
+ends_first list r a b m n lt =
+    elim (cases_lt a.end b.end) [
+      | inl is ↦ is
+      | inr ge ↦ let e = ap (λ (y : Extent). y.start) (same_member list r a b m n (omega arith) ge) in absurd (omega arith)
+    ]
+
+-- what reaches x starts at the window's start or later, in a list that has the member before x too
+reach_start : (text : Text) (x : ℕ) (xs ys : List Extent) → IsRising ys → ((d : Extent) → Has ys d → text.first ≤ d.start) →
+    ((m : Extent) → Has xs m → m.end < x → start_before text xs x ≤ m.start → Has ys m) →
+    (d : Extent) → Has ys d → x ≤ d.end → start_before text xs x ≤ d.start
+reach_start text x xs ys r above has d n ge = here (last_end xs (x - 1)) refl
+  where
+    here : (o : Option Extent) → last_end xs (x - 1) ≡ o → min x (start_or text.first o) ≤ d.start
+    here None is = let a : text.first ≤ d.start = above d n in omega arith
+    here (Some m) is =
+        elim (cases_lt 0 x) [
+          | inl some ↦
+              let g = find_last_gives (λ a. leb a.end (x - 1)) xs m is in
+              let e : m.end ≤ x - 1 = leb-true m.end (x - 1) g.1 in
+              let s : m.start < d.start = starts_first ys r m d (has m g.0 (omega arith) (rw is (omega arith))) n (omega arith) in
+              omega arith
+          | inr none ↦ omega arith
+        ]
+
+-- what starts by y ends at the window's end or before, in a list that has the member behind y too
+reach_end : (text : Text) (y : ℕ) (xs ys : List Extent) → IsRising ys → ((d : Extent) → Has ys d → d.end < text.next) →
+    ((m : Extent) → Has xs m → y < m.start → m.end ≤ end_behind text xs y → Has ys m) →
+    (d : Extent) → Has ys d → d.start ≤ y → d.end ≤ end_behind text xs y
+reach_end text y xs ys r below has d n le = here (first_start xs (y + 1)) refl
+  where
+    here : (o : Option Extent) → first_start xs (y + 1) ≡ o → d.end ≤ max y (end_or text.next o)
+    here None is = let b : d.end < text.next = below d n in omega arith
+    here (Some m) is =
+        let g = find_gives (λ a. leb (y + 1) a.start) xs m is in
+        let s : y + 1 ≤ m.start = leb-true (y + 1) m.start g.1 in
+        let e : d.end < m.end = ends_first ys r d m n (has m g.0 (omega arith) (rw is (omega arith))) (omega arith) in
+        omega arith
+
+-- c ends at x or later, and starts at y or before
+abbrev pub IsNear : ℕ → ℕ → Extent → Type 0
+IsNear x y c = (x ≤ c.end) × (c.start ≤ y)
+
+-- c lies from x to y
+abbrev pub IsWithin : ℕ → ℕ → Extent → Type 0
+IsWithin x y c = Nested c (extent x y)
+
+start_most : (text : Text) (list : List Extent) (x : ℕ) → start_before text list x ≤ x
+start_most text list x = omega arith
+
+end_least : (text : Text) (list : List Extent) (y : ℕ) → y ≤ end_behind text list y
+end_least text list y = omega arith
+
+-- two lists that are alike between the member before x and the one behind y have the same members near x and y
+module _ (text part : Text) (first : text.first ≤ part.first) (next : part.next ≤ text.next) (form : Form) (x y : ℕ) (le : x ≤ y + 1) where
+  abbrev from : ℕ
+  from = start_before text (concordance text form) x
+
+  abbrev upto : ℕ
+  upto = end_behind text (concordance text form) y
+
+  in_text : (c : Extent) → Has (concordance text form) c → IsNear x y c → IsWithin from upto c
+  in_text c m near =
+      let of : (d : Extent) → Has (concordance text form) d → IsOf text d = λ d n. of_each (IsOf text) (concordance text form) d (each_of_text text (denotes text form)) n in (
+        reach_start text x (concordance text form) (concordance text form) (concordance_rises text form) (λ d n. (of d n).above) (λ d n lt ge. n) c m near.0,
+        reach_end text y (concordance text form) (concordance text form) (concordance_rises text form) (λ d n. (of d n).below) (λ d n lt ge. n) c m near.1,
+      )
+
+  module _ (told : Alike (IsWithin from upto) (concordance text form) (concordance part form)) where
+    of_part : (d : Extent) → Has (concordance part form) d → (text.first ≤ d.start) × (d.end < text.next)
+    of_part d n =
+        let of = of_each (IsOf part) (concordance part form) d (each_of_text part (denotes part form)) n in
+        let above : part.first ≤ d.start = of.above in
+        let below : d.end < part.next = of.below in
+        (omega arith, omega arith)
+
+    in_part : (c : Extent) → Has (concordance part form) c → IsNear x y c → IsWithin from upto c
+    in_part c m near = (
+      reach_start text x (concordance text form) (concordance part form) (concordance_rises part form) (λ d n. (of_part d n).0)
+          (λ d n lt ge. told.0 d (ge, let e = end_least text (concordance text form) y in omega arith) n) c m near.0,
+      reach_end text y (concordance text form) (concordance part form) (concordance_rises part form) (λ d n. (of_part d n).1)
+          (λ d n lt ge. told.0 d (let e = start_most text (concordance text form) x in omega arith, ge) n) c m near.1,
+    )
+
+    near_alike : Alike (IsNear x y) (concordance text form) (concordance part form)
+    near_alike = (λ c near m. told.0 c (in_text c m near) m, λ c near m. told.1 c (in_part c m near) m)
+
+-- what lies from x to y in a member lies in a member near x and y
+inside_goes : (x y : ℕ) (xs ys : List Extent) → Goes (IsNear x y) xs ys → (c : Extent) → IsWithin x y c → c.start ≤ c.end → is_inside xs c ≡ true → is_inside ys c ≡ true
+inside_goes x y xs ys go c s le e =
+    let r = any_tells (λ b. is_nested c b) xs e in
+    let n = nested_tells c r.0 r.2 in
+    let from : r.0.start ≤ c.start = n.0 in
+    let upto : c.end ≤ r.0.end = n.1 in
+    let low : x ≤ c.start = s.0 in
+    let high : c.end ≤ y = s.1 in
+    any_from (λ b. is_nested c b) ys r.0 (go r.0 (omega arith, omega arith) r.1) r.2
+
+-- a window has the addresses that it is asked for
+module _ (text : Text) where
+  mutual
+    from_le : (x y : ℕ) (form : Form) → told_from text x y form ≤ x
+    from_le x y (term token) = le_refl x
+    from_le x y (phrase tokens) = le_refl x
+    from_le x y (width n) = le_refl x
+    from_le x y (both forms) = froms_le x y forms
+    from_le x y (one forms) = froms_le x y forms
+    from_le x y (seq forms) = froms_le x y forms
+    from_le x y (containing a b) = let h = from_le x y a in omega arith
+    from_le x y (contained_in a b) = let h = from_le x y a in omega arith
+    from_le x y (not_containing a b) = let h = from_le x y a in omega arith
+    from_le x y (not_contained_in a b) = let h = from_le x y a in omega arith
+
+    froms_le : (x y : ℕ) (forms : Forms) → all_told_from text x y forms ≤ x
+    froms_le x y no_forms = le_refl x
+    froms_le x y (more_forms form forms) = let h = from_le x y form in omega arith
+
+  mutual
+    upto_ge : (x y : ℕ) (form : Form) → y ≤ told_upto text x y form
+    upto_ge x y (term token) = le_refl y
+    upto_ge x y (phrase tokens) = le_refl y
+    upto_ge x y (width n) = le_refl y
+    upto_ge x y (both forms) = uptos_ge x y forms
+    upto_ge x y (one forms) = uptos_ge x y forms
+    upto_ge x y (seq forms) = uptos_ge x y forms
+    upto_ge x y (containing a b) = let h = upto_ge x y a in omega arith
+    upto_ge x y (contained_in a b) = let h = upto_ge x y a in omega arith
+    upto_ge x y (not_containing a b) = let h = upto_ge x y a in omega arith
+    upto_ge x y (not_contained_in a b) = let h = upto_ge x y a in omega arith
+
+    uptos_ge : (x y : ℕ) (forms : Forms) → y ≤ all_told_upto text x y forms
+    uptos_ge x y no_forms = le_refl y
+    uptos_ge x y (more_forms form forms) = let h = upto_ge x y form in omega arith
+
+-- the lists of the operands lie in the text
+all_of : (text : Text) (forms : Forms) → AreOf text (operands text forms)
+all_of text no_forms = tt
+all_of text (more_forms form forms) = (each_of_text text (denotes text form), all_of text forms)
+
+-- what two texts share, term by term and containment by containment
+module _ (text part : Text) (S : Extent → Type 0) (sh : AreShared text part S) where
+  term_alike : (token : List ℕ) → Alike S (concordance text (term token)) (concordance part (term token))
+  term_alike token = where_alike text part S sh (is_term text token) (is_term part token)
+      (λ c s le. ap (λ b. eqb c.start c.end && b) (sh.words c s c.start (le_refl c.start) le token))
+
+  module _ (a b : Form) (first : Alike S (concordance text a) (concordance part a)) (second : Alike S (concordance text b) (concordance part b)) where
+    containing_alike : Alike S (concordance text (containing a b)) (concordance part (containing a b))
+    containing_alike = kept_alike text part S (denotes text a) (denotes part a) (covers (concordance text b)) (covers (concordance part b)) first
+        (cover_on text part S sh (concordance text b) (concordance part b) second) (cover_back text part S sh (concordance text b) (concordance part b) second)
+
+    not_containing_alike : Alike S (concordance text (not_containing a b)) (concordance part (not_containing a b))
+    not_containing_alike = dropped_alike text part S (denotes text a) (denotes part a) (covers (concordance text b)) (covers (concordance part b)) first
+        (cover_on text part S sh (concordance text b) (concordance part b) second) (cover_back text part S sh (concordance text b) (concordance part b) second)
+
+-- a part of a text
+module _ (text part : Text) (lo hi : ℕ) (is : IsPart part text lo hi) where
+  told_shared : (x y : ℕ) → lo ≤ x → y ≤ hi → AreShared text part (IsWithin x y)
+  told_shared x y ge le = inner_shared text part x y (λ p low high. is.same p (omega arith) (omega arith))
+
+  each_shared : (forms : Forms) (x y : ℕ) → lo ≤ all_told_from text x y forms → all_told_upto text x y forms ≤ hi → AreShared text part (IsWithin x y)
+  each_shared forms x y ge le = let l = froms_le text x y forms in let h = uptos_ge text x y forms in told_shared x y (omega arith) (omega arith)
+
+  one_shared : (form : Form) (x y : ℕ) → lo ≤ told_from text x y form → told_upto text x y form ≤ hi → AreShared text part (IsWithin x y)
+  one_shared form x y ge le = let l = from_le text x y form in let h = upto_ge text x y form in told_shared x y (omega arith) (omega arith)
+
+  -- what `<` and `/<` ask of their second operand
+  module _ (b : Form) (x y : ℕ) (second : Alike (IsWithin (start_before text (concordance text b) x) (end_behind text (concordance text b) y)) (concordance text b) (concordance part b)) where
+    near : x ≤ y + 1 → Alike (IsNear x y) (concordance text b) (concordance part b)
+    near le = near_alike text part is.first is.next b x y le second
+
+    inside_on : (c : Extent) → IsWithin x y c → c.start ≤ c.end → is_inside (concordance text b) c ≡ true → is_inside (concordance part b) c ≡ true
+    inside_on c s le e = inside_goes x y (concordance text b) (concordance part b) (near (let u = s.0 in let v = s.1 in omega arith)).0 c s le e
+
+    inside_back : (c : Extent) → IsWithin x y c → c.start ≤ c.end → is_inside (concordance part b) c ≡ true → is_inside (concordance text b) c ≡ true
+    inside_back c s le e = inside_goes x y (concordance part b) (concordance text b) (near (let u = s.0 in let v = s.1 in omega arith)).1 c s le e
+
+    module _ (a : Form) (first : Alike (IsWithin x y) (concordance text a) (concordance part a)) where
+      contained_alike : Alike (IsWithin x y) (concordance text (contained_in a b)) (concordance part (contained_in a b))
+      contained_alike =
+          kept_alike text part (IsWithin x y) (denotes text a) (denotes part a) (is_inside (concordance text b)) (is_inside (concordance part b)) first inside_on inside_back
+
+      not_contained_alike : Alike (IsWithin x y) (concordance text (not_contained_in a b)) (concordance part (not_contained_in a b))
+      not_contained_alike =
+          dropped_alike text part (IsWithin x y) (denotes text a) (denotes part a) (is_inside (concordance text b)) (is_inside (concordance part b)) first inside_on inside_back
+
+  -- a part that has the words which tell the members from x to y has these members
+  mutual
+    pub told_alike : (form : Form) (x y : ℕ) → lo ≤ told_from text x y form → told_upto text x y form ≤ hi → Alike (IsWithin x y) (concordance text form) (concordance part form)
+    told_alike (term token) x y ge le = term_alike text part (IsWithin x y) (told_shared x y ge le) token
+    told_alike (phrase tokens) x y ge le = phrase_alike text part (IsWithin x y) (told_shared x y ge le) tokens
+    told_alike (width n) x y ge le = width_alike text part (IsWithin x y) (told_shared x y ge le) n
+    told_alike (both forms) x y ge le = both_alike text part (IsWithin x y) (each_shared forms x y ge le) (operands text forms) (operands part forms) (told_each forms x y ge le)
+    told_alike (one forms) x y ge le = one_alike text part (IsWithin x y) (each_shared forms x y ge le) (operands text forms) (operands part forms) (told_each forms x y ge le)
+    told_alike (seq forms) x y ge le =
+        seq_alike text part (IsWithin x y) (each_shared forms x y ge le) (operands text forms) (operands part forms) (all_of text forms) (all_of part forms) (told_each forms x y ge le)
+    told_alike (containing a b) x y ge le =
+        containing_alike text part (IsWithin x y) (one_shared a x y (omega arith) (omega arith)) a b
+        (told_alike a x y (omega arith) (omega arith)) (told_alike b x y (omega arith) (omega arith))
+    told_alike (contained_in a b) x y ge le =
+        contained_alike b x y
+        (told_alike b (start_before text (concordance text b) x) (end_behind text (concordance text b) y) (omega arith) (omega arith))
+        a (told_alike a x y (omega arith) (omega arith))
+    told_alike (not_containing a b) x y ge le =
+        not_containing_alike text part (IsWithin x y) (one_shared a x y (omega arith) (omega arith)) a b
+        (told_alike a x y (omega arith) (omega arith)) (told_alike b x y (omega arith) (omega arith))
+    told_alike (not_contained_in a b) x y ge le =
+        not_contained_alike b x y
+        (told_alike b (start_before text (concordance text b) x) (end_behind text (concordance text b) y) (omega arith) (omega arith))
+        a (told_alike a x y (omega arith) (omega arith))
+
+    told_each : (forms : Forms) (x y : ℕ) → lo ≤ all_told_from text x y forms → all_told_upto text x y forms ≤ hi → AreAlike (IsWithin x y) (operands text forms) (operands part forms)
+    told_each no_forms x y ge le = tt
+    told_each (more_forms form forms) x y ge le = (told_alike form x y (omega arith) (omega arith), told_each forms x y (omega arith) (omega arith))
+
+-- what passes a test still rises
+filter_rises : (test : Extent → Bool) (list : List Extent) → IsRising list → IsRising (filter test list)
+filter_rises test [] r = tt
+filter_rises test (x ∷ xs) r =
+    elim (cases_Bool (test x)) [ inl h ↦ rw h (all_kept (IsAhead x) test xs r.0, filter_rises test xs r.1) | inr h ↦ rw h (filter_rises test xs r.1) ]
+
+-- the first members of two rising lists, each of which the other list has
+same_head : (x y : Extent) (xs ys : List Extent) → IsRising (x ∷ xs) → IsRising (y ∷ ys) → Has (y ∷ ys) x → Has (x ∷ xs) y → x ≡ y
+same_head x y xs ys r s (inl is) n = sym is
+same_head x y xs ys r s (inr m) (inl is) = is
+same_head x y xs ys r s (inr m) (inr n) =
+    let before : y.start < x.start = (of_each (IsAhead y) ys x s.0 m).0 in
+    let behind : x.start < y.start = (of_each (IsAhead x) xs y r.0 n).0 in
+    absurd (omega arith)
+
+-- a member behind the first one is not the first one of the other list
+tail_goes : (x y : Extent) (xs ys : List Extent) → IsRising (x ∷ xs) → x ≡ y → ((c : Extent) → Has (x ∷ xs) c → Has (y ∷ ys) c) → (c : Extent) → Has xs c → Has ys c
+tail_goes x y xs ys r is go c m =
+    elim (go c (inr m)) [
+      | inl same ↦
+          let behind : x.start < c.start = (of_each (IsAhead x) xs c r.0 m).0 in
+          let e = ap (λ (z : Extent). z.start) (is ∙ same) in
+          absurd (omega arith)
+      | inr n ↦ n
+    ]
+
+-- two rising lists that have the same members are one
+pub same_rising : (xs ys : List Extent) → IsRising xs → IsRising ys → ((c : Extent) → Has xs c → Has ys c) → ((c : Extent) → Has ys c → Has xs c) → xs ≡ ys
+same_rising [] [] r s on back = refl
+same_rising [] (y ∷ ys) r s on back = absurd (back y (inl refl))
+same_rising (x ∷ xs) [] r s on back = absurd (on x (inl refl))
+same_rising (x ∷ xs) (y ∷ ys) r s on back =
+    let is : x ≡ y = same_head x y xs ys r s (on x (inl refl)) (back y (inl refl)) in
+    let rest : xs ≡ ys = same_rising xs ys r.1 s.1 (tail_goes x y xs ys r is on) (tail_goes y x ys xs s (sym is) back) in
+    ap (λ z. z ∷ xs) is ∙ ap (λ l. y ∷ l) rest
+
+-- what touches two addresses is near them
+kept_goes : (low high : ℕ) (xs ys : List Extent) → Goes (IsNear low high) xs ys → (c : Extent) → Has (filter (touches low high) xs) c → Has (filter (touches low high) ys) c
+kept_goes low high xs ys go c m =
+    let h = has_filter (touches low high) xs c m in
+    let parts = and_parts (leb low c.end) (leb c.start high) h.1 in
+    filter_has (touches low high) ys c (go c (leb-true low c.end parts.0, leb-true c.start high parts.1) h.0) h.1
+
+pub told_near : (text part : Text) (form : Form) (low high : ℕ) → low ≤ high + 1 → IsPart part text (window_from text low high form) (window_upto text low high form) →
+    filter (touches low high) (concordance part form) ≡ filter (touches low high) (concordance text form)
+told_near text part form low high le is =
+    let from = start_before text (concordance text form) low in
+    let upto = end_behind text (concordance text form) high in
+    let told = told_alike text part (window_from text low high form) (window_upto text low high form) is form from upto (le_refl _) (le_refl _) in
+    let near = near_alike text part is.first is.next form low high le told in
+    same_rising (filter (touches low high) (concordance part form)) (filter (touches low high) (concordance text form))
+    (filter_rises (touches low high) (concordance part form) (concordance_rises part form)) (filter_rises (touches low high) (concordance text form) (concordance_rises text form))
+    (kept_goes low high (concordance part form) (concordance text form) near.1) (kept_goes low high (concordance text form) (concordance part form) near.0)
