@@ -1,0 +1,2 @@
+pub mod Within
+mod Worked
