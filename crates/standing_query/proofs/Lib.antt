@@ -1,8 +1,7 @@
 pub mod ChangeLemmas
-mod EditLemmas
 mod ExactLemmas
 pub mod LocalLemmas
 mod SideLemmas
-mod WalkLemmas
+pub mod WalkLemmas
 mod WatchLemmas
 mod Worked

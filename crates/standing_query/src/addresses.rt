@@ -79,9 +79,10 @@ impl Addresses {
     }
 }
 
-/// Those of an expression, of which the other two are the expansions over the versions.
+/// Those of an expression, of which the other two are the expansions over the versions: with no `<` and no `/<` in it, those of the edit.
+/// They are found by two accesses to the second operand of each `<` and `/<` over each version.
 #[cycle(changed)]
-pub fn changed<S: Ledger>(
+pub fn changed_addresses<S: Ledger>(
     expr: &Expr,
     old_expr: &Expr,
     old: &Version,
@@ -113,13 +114,13 @@ pub fn changed<S: Ledger>(
             all_changed(exprs, old_exprs, old, new_exprs, new, edited, steps)
         }
         Expr::Containing(a, b) | Expr::NotContaining(a, b) => {
-            let first = changed(a, old_first, old, new_first, new, edited, steps);
-            let second = changed(b, old_second, old, new_second, new, edited, steps);
+            let first = changed_addresses(a, old_first, old, new_first, new, edited, steps);
+            let second = changed_addresses(b, old_second, old, new_second, new, edited, steps);
             first.with(second)
         }
         Expr::ContainedIn(a, b) | Expr::NotContainedIn(a, b) => {
-            let first = changed(a, old_first, old, new_first, new, edited, steps);
-            let second = changed(b, old_second, old, new_second, new, edited, steps);
+            let first = changed_addresses(a, old_first, old, new_first, new, edited, steps);
+            let second = changed_addresses(b, old_second, old, new_second, new, edited, steps);
             let over_old = first.reached(old_second, old, second, steps);
             over_old.reached(new_second, new, second, steps)
         }
@@ -152,7 +153,7 @@ fn all_changed<S: Ledger>(
     let mut left = exprs.len();
     while left > 0 {
         left -= 1;
-        let one = changed(
+        let one = changed_addresses(
             &exprs[left],
             &old_exprs[left],
             old,

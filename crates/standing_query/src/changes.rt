@@ -11,7 +11,7 @@ ghost use Rattle.standing_query.specs.Changes.{changes, list_cost, members};
 ghost use Rattle.standing_query.specs.Edits.{edit_cost};
 ghost use Rattle.wide_terms.specs.Expansion.{expansion};
 
-use crate::addresses::changed;
+use crate::addresses::changed_addresses;
 use crate::change::Change;
 use crate::merge::next_change;
 use crate::side::Side;
@@ -111,7 +111,7 @@ impl<'a> Changes<'a> {
         expansions_are_wide();
         expansions_are_well_formed();
         changes_are_local();
-        let addresses = changed(expr, old_expr, old, new_expr, new, edited, steps);
+        let addresses = changed_addresses(expr, old_expr, old, new_expr, new, edited, steps);
         Changes::between(old_expr, old, new_expr, new, addresses.low, addresses.high)
     }
 

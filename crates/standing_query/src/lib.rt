@@ -9,7 +9,7 @@
 //! gets. After watches 0 and 1, and without 0, it has 1, and the next one is 2.
 //!
 //! The layer above expands the expression of each watch over the versions before and after an edit, and takes the changes one by one.
-//! That the two versions are the same but for a file is `adds_are_local` and `deletions_are_local`.
+//! It may go over the members in a way of its own: `changed_addresses` finds between which addresses they lie, here 5 and 10.
 #![tactic(auto)]
 
 mod addresses;
@@ -27,9 +27,10 @@ mod tests;
 mod watch;
 mod watch_list;
 
+pub use addresses::{Addresses, changed_addresses};
 pub use change::Change;
 pub use changes::Changes;
 pub use faults::{NoWatch, WatchFault};
-pub use laws::{adds_are_local, changes_are_exact, deletions_are_local};
+pub use laws::changes_are_exact;
 pub use watch::Watch;
 pub use watch_list::{MOST_WATCHES, WatchList};

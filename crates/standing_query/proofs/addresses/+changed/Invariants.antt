@@ -24,8 +24,8 @@ abbrev pub decreases-all_changed-loop-left : goal.decreases-all_changed-loop-lef
 decreases-all_changed-loop-left g l = l.left
 
 -- an operand is smaller than the expression
-abbrev pub decreases-changed : goal.decreases-changed
-decreases-changed g l = 2 * size-Expr l.expr.now
+abbrev pub decreases-changed_addresses : goal.decreases-changed_addresses
+decreases-changed_addresses g l = 2 * size-Expr l.expr.now
 
 abbrev pub decreases-all_changed : goal.decreases-all_changed
 decreases-all_changed g l = 2 * most size-Expr l.exprs.now + 1

@@ -14,9 +14,9 @@ between-requires-clause-local g c =
     let new = version_text c.args.new.now in
     let form = form_of c.args.expr.now in
     let differ : DifferBetween (wide old form) (wide new form) (changed_from old new c.args.edited.first form) (changed_upto old new c.args.edited.last form) = c.changes_are_local.ensures old new c.args.edited.first c.args.edited.last form c.requires.local in
-    expansions_differ c.expansions_are_wide.ensures c.args.old.now c.args.new.now form (form_of c.args.old_expr.now) (form_of c.args.new_expr.now) c.requires.old_is c.requires.new_is c.changed-addresses.result.low c.changed-addresses.result.high
-    (subst (λ low. DifferBetween (wide old form) (wide new form) low c.changed-addresses.result.high) (sym c.changed-addresses.ensures.low)
-    (subst (λ high. DifferBetween (wide old form) (wide new form) (changed_from old new c.args.edited.first form) high) (sym c.changed-addresses.ensures.high) differ))
+    expansions_differ c.expansions_are_wide.ensures c.args.old.now c.args.new.now form (form_of c.args.old_expr.now) (form_of c.args.new_expr.now) c.requires.old_is c.requires.new_is c.changed_addresses-addresses.result.low c.changed_addresses-addresses.result.high
+    (subst (λ low. DifferBetween (wide old form) (wide new form) low c.changed_addresses-addresses.result.high) (sym c.changed_addresses-addresses.ensures.low)
+    (subst (λ high. DifferBetween (wide old form) (wide new form) (changed_from old new c.args.edited.first form) high) (sym c.changed_addresses-addresses.ensures.high) differ))
 
 pub returns-clause-to_come : goal.returns-clause-to_come
 returns-clause-to_come g c =
@@ -27,7 +27,7 @@ returns-clause-cost g c =
     let form = form_of c.args.expr.now in
     let old = version_text c.args.old.now in
     let new = version_text c.args.new.now in
-    let sides = expansions_cost c.expansions_are_wide.ensures c.args.old.now c.args.new.now form (form_of c.args.old_expr.now) (form_of c.args.new_expr.now) c.requires.old_is c.requires.new_is c.changed-addresses.result.low c.changed-addresses.result.high c.between.result.look_ups c.between.ensures.look_ups in
-    let same = sides ∙ ap (λ low. touching_cost c.args.old.now low c.changed-addresses.result.high form + touching_cost c.args.new.now low c.changed-addresses.result.high form) c.changed-addresses.ensures.low
-    ∙ ap (λ high. touching_cost c.args.old.now (changed_from old new c.args.edited.first form) high form + touching_cost c.args.new.now (changed_from old new c.args.edited.first form) high form) c.changed-addresses.ensures.high in
-    omega (arith, same, c.changed-addresses.ensures.cost)
+    let sides = expansions_cost c.expansions_are_wide.ensures c.args.old.now c.args.new.now form (form_of c.args.old_expr.now) (form_of c.args.new_expr.now) c.requires.old_is c.requires.new_is c.changed_addresses-addresses.result.low c.changed_addresses-addresses.result.high c.between.result.look_ups c.between.ensures.look_ups in
+    let same = sides ∙ ap (λ low. touching_cost c.args.old.now low c.changed_addresses-addresses.result.high form + touching_cost c.args.new.now low c.changed_addresses-addresses.result.high form) c.changed_addresses-addresses.ensures.low
+    ∙ ap (λ high. touching_cost c.args.old.now (changed_from old new c.args.edited.first form) high form + touching_cost c.args.new.now (changed_from old new c.args.edited.first form) high form) c.changed_addresses-addresses.ensures.high in
+    omega (arith, same, c.changed_addresses-addresses.ensures.cost)
