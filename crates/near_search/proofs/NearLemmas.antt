@@ -1,0 +1,172 @@
+-- The members of a rising list that touch two addresses.
+use Rattle.std.proofs.Common.{◌≡◌, ℕ, ◌<◌, ◌≤◌, Bool, true, false, leb, cond, List, [], ◌∷◌, filter, take_while, Option, Some, None, inl, inr, refl, sym, ap, ◌∙◌, subst, arith, le_refl}
+use Rattle.std.specs.List.{AllByRecursion}
+use Rattle.std.proofs.lemmas.Bool.{true≢false, cases_Bool, and_from, and_left, and_right, leb-true, leb-false, le-leb, lt-leb}
+use Rattle.std.proofs.lemmas.List.Sums.{take_while-cons}
+use Rattle.gcl_model.specs.Access.{first_end}
+use Rattle.gcl_model.specs.Extents.{Extent, IsAhead, IsRising}
+use Rattle.gcl_model.specs.Forms.{Form}
+use Rattle.gcl_model.specs.Meaning.{concordance}
+use Rattle.gcl_model.specs.Texts.{Text}
+use Rattle.gcl_model.proofs.Covers.{of_each, find_gives}
+use Rattle.gcl_model.proofs.Lists.{all_weaker, filter_kept, filter_gone}
+use Rattle.gcl_model.proofs.Meanings.{concordance_rises}
+use Rattle.gcl_eval.specs.Members.{members_from}
+use Rattle.gcl_locality.specs.Changed.{touches}
+use Rattle.live_version.specs.Contents.{VersionContent}
+use Rattle.query_search.specs.Pages.{Way, leaping, reading, ended, reads, IsWayOver}
+use Rattle.query_search.proofs.SearchLemmas.{none_at_end, none_from, start_before}
+use Rattle.near_search.specs.Contents.{IsNearWay, start_of, start_or_end, starts_by}
+
+-- where all members end at the lower address or later, those up to the last one that starts at the upper address touch both
+upto_touches : (low high : ℕ) (list : List Extent) → IsRising list → AllByRecursion (λ (a : Extent). low ≤ a.end) list → take_while (starts_by high) list ≡ filter (touches low high) list
+upto_touches low high [] r from = refl
+upto_touches low high (x ∷ list) r from =
+    let ends : leb low x.end ≡ true = le-leb low x.end from.0 in
+    elim (cases_Bool (leb x.start high)) [
+      | inl h ↦
+          take_while-cons (starts_by high) x list
+          ∙ ap (λ (b : Bool). cond b (x ∷ take_while (starts_by high) list) []) h
+          ∙ ap (λ (l : List Extent). x ∷ l) (upto_touches low high list r.1 from.1)
+          ∙ sym (ap (λ (b : Bool). cond b (x ∷ filter (touches low high) list) (filter (touches low high) list)) (and_from (leb low x.end) (leb x.start high) ends h))
+      | inr f ↦
+          let past : high < x.start = leb-false x.start high f in
+          let none : AllByRecursion (λ (a : Extent). touches low high a ≡ false) list =
+          all_weaker (IsAhead x) (λ (a : Extent). touches low high a ≡ false)
+          (λ a ahead. let later : x.start < a.start = ahead.0 in and_right (leb low a.end) (leb a.start high) (lt-leb a.start high (omega arith))) list r.0 in
+          take_while-cons (starts_by high) x list
+          ∙ ap (λ (b : Bool). cond b (x ∷ take_while (starts_by high) list) []) f
+          ∙ sym (ap (λ (b : Bool). cond b (x ∷ filter (touches low high) list) (filter (touches low high) list)) (and_right (leb low x.end) (leb x.start high) f)
+          ∙ filter_gone (touches low high) list none)
+    ]
+
+not_touching : (low high : ℕ) (x : Extent) (list : List Extent) → leb low x.end ≡ false → filter (touches low high) (x ∷ list) ≡ filter (touches low high) list
+not_touching low high x list f =
+    ap (λ (b : Bool). cond b (x ∷ filter (touches low high) list) (filter (touches low high) list)) (and_left (leb low x.end) (leb x.start high) f)
+
+-- from the start of the first member that ends at the lower address or later, all do
+from_first : (low high : ℕ) (x : Extent) (list : List Extent) → IsRising (x ∷ list) → leb low x.end ≡ true
+    → take_while (starts_by high) (members_from (x ∷ list) x.start) ≡ filter (touches low high) (x ∷ list)
+from_first low high x list r t =
+    let all : members_from (x ∷ list) x.start ≡ x ∷ list =
+    filter_kept (λ (a : Extent). leb x.start a.start) (x ∷ list) (
+      le-leb x.start x.start (le_refl x.start),
+      all_weaker (IsAhead x) (λ (a : Extent). leb x.start a.start ≡ true) (λ a ahead. let later : x.start < a.start = ahead.0 in le-leb x.start a.start (omega arith)) list r.0,
+    ) in
+    let low_end : low ≤ x.end = leb-true low x.end t in
+    let ends : AllByRecursion (λ (a : Extent). low ≤ a.end) (x ∷ list) =
+    (low_end, all_weaker (IsAhead x) (λ (a : Extent). low ≤ a.end) (λ a ahead. let later : x.end < a.end = ahead.1 in omega arith) list r.0) in
+    ap (λ (l : List Extent). take_while (starts_by high) l) all ∙ upto_touches low high (x ∷ list) r ends
+
+pub touching_from : (low high : ℕ) (list : List Extent) (a : Extent) → IsRising list → first_end list low ≡ Some a
+    → take_while (starts_by high) (members_from list a.start) ≡ filter (touches low high) list
+touching_from low high [] a r is = absurd cc
+touching_from low high (x ∷ list) a r is =
+    elim (cases_Bool (leb low x.end)) [
+      | inl t ↦
+          let h = rw t at is in
+          let same : x ≡ a = cc in
+          subst (λ (y : Extent). take_while (starts_by high) (members_from (x ∷ list) y.start) ≡ filter (touches low high) (x ∷ list)) same (from_first low high x list r t)
+      | inr f ↦
+          let h : first_end list low ≡ Some a = rw f at is in
+          let later : x.start < a.start = (of_each (IsAhead x) list a r.0 (find_gives (λ (b : Extent). leb low b.end) list a h).0).0 in
+          let skip : members_from (x ∷ list) a.start ≡ members_from list a.start =
+          ap (λ (b : Bool). cond b (x ∷ members_from list a.start) (members_from list a.start)) (lt-leb a.start x.start later) in
+          ap (λ (l : List Extent). take_while (starts_by high) l) skip ∙ touching_from low high list a r.1 h ∙ sym (not_touching low high x list f)
+    ]
+
+-- and where none does, none is there
+pub touching_none : (low high : ℕ) (list : List Extent) → first_end list low ≡ None → filter (touches low high) list ≡ []
+touching_none low high [] is = refl
+touching_none low high (x ∷ list) is =
+    elim (cases_Bool (leb low x.end)) [
+      | inl t ↦ let h = rw t at is in absurd cc
+      | inr f ↦ let h : first_end list low ≡ None = rw f at is in not_touching low high x list f ∙ touching_none low high list h
+    ]
+
+-- where the first member that ends at the lower address or later starts after the upper one, none touches both
+pub none_touch : (low high n : ℕ) (list : List Extent) → IsRising list → high < start_or_end n (first_end list low) → filter (touches low high) list ≡ []
+none_touch low high n [] r gt = refl
+none_touch low high n (x ∷ list) r gt =
+    elim (cases_Bool (leb low x.end)) [
+      | inl t ↦
+          let past : high < x.start = rw t at gt in
+          filter_gone (touches low high) (x ∷ list) (
+            and_right (leb low x.end) (leb x.start high) (lt-leb x.start high past),
+            all_weaker (IsAhead x) (λ (a : Extent). touches low high a ≡ false)
+                (λ a ahead. let later : x.start < a.start = ahead.0 in and_right (leb low a.end) (leb a.start high) (lt-leb a.start high (omega arith))) list r.0,
+          )
+      | inr f ↦ let later : high < start_or_end n (first_end list low) = rw f at gt in not_touching low high x list f ∙ none_touch low high n list r.1 later
+    ]
+
+touching_first : (low high : ℕ) (x : Extent) (list : List Extent) → leb low x.end ≡ true → leb x.start high ≡ true → filter (touches low high) (x ∷ list) ≡ x ∷ filter (touches low high) list
+touching_first low high x list t h =
+    ap (λ (b : Bool). cond b (x ∷ filter (touches low high) list) (filter (touches low high) list)) (and_from (leb low x.end) (leb x.start high) t h)
+
+-- else it is the first one that touches both
+pub is_first : (low high : ℕ) (list : List Extent) (a : Extent) → first_end list low ≡ Some a → a.start ≤ high → (rest : List Extent) × (filter (touches low high) list ≡ a ∷ rest)
+is_first low high [] a is le = absurd cc
+is_first low high (x ∷ list) a is le =
+    elim (cases_Bool (leb low x.end)) [
+      | inl t ↦
+          let h = rw t at is in
+          let same : x ≡ a = cc in
+          let by : leb x.start high ≡ true = subst (λ (y : Extent). leb y.start high ≡ true) (sym same) (le-leb a.start high le) in
+          (filter (touches low high) list, touching_first low high x list t by ∙ ap (λ (y : Extent). y ∷ filter (touches low high) list) same)
+      | inr f ↦
+          let h : first_end list low ≡ Some a = rw f at is in
+          let rest = is_first low high list a h le in
+          (rest.0, not_touching low high x list f ∙ rest.1)
+    ]
+
+-- and back: the first one that touches both is the first one that ends at the lower address or later
+pub first_is : (low high : ℕ) (list : List Extent) (a : Extent) (rest : List Extent) → IsRising list → filter (touches low high) list ≡ a ∷ rest → first_end list low ≡ Some a
+first_is low high [] a rest r is = absurd cc
+first_is low high (x ∷ list) a rest r is =
+    elim (cases_Bool (leb low x.end)) [
+      | inl t ↦ elim (cases_Bool (leb x.start high)) [
+        | inl h ↦
+            let both : x ∷ filter (touches low high) list ≡ a ∷ rest = sym (touching_first low high x list t h) ∙ is in
+            let same : x ≡ a = cc in
+            rw t (ap Some same)
+        | inr f ↦
+            let past : high < x.start = leb-false x.start high f in
+            let none : filter (touches low high) (x ∷ list) ≡ [] = none_touch low high 0 (x ∷ list) r (rw t past) in
+            let clash : [] ≡ a ∷ rest = sym none ∙ is in
+            absurd cc
+      ]
+      | inr f ↦ rw f (first_is low high list a rest r.1 (sym (not_touching low high x list f) ∙ is))
+    ]
+
+-- the members from the first one on that ends at the lower address or later
+pub touching_start : (text : Text) (form : Form) (low high : ℕ) →
+    take_while (starts_by high) (members_from (concordance text form) (start_of text form low)) ≡ filter (touches low high) (concordance text form)
+touching_start text form low high = here (first_end (concordance text form) low) refl
+  where
+    here : (o : Option Extent) → first_end (concordance text form) low ≡ o →
+        take_while (starts_by high) (members_from (concordance text form) (start_or_end text.next o)) ≡ filter (touches low high) (concordance text form)
+    here None is = ap (λ (l : List Extent). take_while (starts_by high) l) (none_at_end text form text.next refl) ∙ sym (touching_none low high (concordance text form) is)
+    here (Some a) is = touching_from low high (concordance text form) a (concordance_rises text form) is
+
+-- and those of a part of the text that has the same members there
+pub touching_part : (text part : Text) (form : Form) (low high : ℕ) → part.next ≤ text.next →
+    filter (touches low high) (concordance part form) ≡ filter (touches low high) (concordance text form) → start_of text form low ≤ high →
+    take_while (starts_by high) (members_from (concordance part form) (start_of text form low)) ≡ filter (touches low high) (concordance text form)
+touching_part text part form low high within same le = here (first_end (concordance text form) low) refl le
+  where
+    here : (o : Option Extent) → first_end (concordance text form) low ≡ o → start_or_end text.next o ≤ high →
+        take_while (starts_by high) (members_from (concordance part form) (start_or_end text.next o)) ≡ filter (touches low high) (concordance text form)
+    here None is le =
+        let before : AllByRecursion (λ (a : Extent). a.start < text.next) (concordance part form) =
+        all_weaker (λ (a : Extent). a.start < part.next) (λ (a : Extent). a.start < text.next) (λ a lt. omega (arith, lt, within)) (concordance part form) (start_before part form) in
+        ap (λ (l : List Extent). take_while (starts_by high) l) (none_from text.next (concordance part form) before) ∙ sym (touching_none low high (concordance text form) is)
+    here (Some a) is le =
+        let first = is_first low high (concordance text form) a is le in
+        let found : first_end (concordance part form) low ≡ Some a = first_is low high (concordance part form) a first.0 (concordance_rises part form) (same ∙ first.1) in
+        touching_from low high (concordance part form) a (concordance_rises part form) found ∙ same
+
+-- where no readers find the members, it is all the same over which part of the text
+pub way_is_near : (v : VersionContent) (low high : ℕ) (form : Form) (way : Way) → reads way ≡ false → IsWayOver v form way → IsNearWay v low high form way
+way_is_near v low high form (leaping each) not_read is = is
+way_is_near v low high form (reading left) not_read is = absurd (true≢false not_read)
+way_is_near v low high form ended not_read is = tt

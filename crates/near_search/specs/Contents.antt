@@ -1,0 +1,41 @@
+-- Members near two addresses, page by page.
+use Rattle.std.specs.Prelude.{◌≡◌, ℕ, Bool, nat_le, List, Option, None, Some}
+use Rattle.gcl_model.specs.Access.{first_end}
+use Rattle.gcl_model.specs.Extents.{Extent}
+use Rattle.gcl_model.specs.Forms.{Form}
+use Rattle.gcl_model.specs.Meaning.{concordance}
+use Rattle.gcl_model.specs.Texts.{Text}
+use Rattle.gcl_readers.specs.MergeCost.{merge_cost}
+use Rattle.live_version.specs.Contents.{VersionContent}
+use Rattle.near_search.specs.Costs.{one_access, window}
+use Rattle.query_search.specs.Pages.{Way, leaping, reading, ended}
+use Rattle.reader_pass.specs.Members.{access_most}
+
+-- the interval starts at an address or before it
+abbrev pub starts_by : ℕ → Extent → Bool
+starts_by high a = nat_le a.start high
+
+-- where an interval starts, and p where there is none
+abbrev pub start_or_end : ℕ → Option Extent → ℕ
+start_or_end p None = p
+start_or_end p (Some a) = a.start
+
+-- where the first member starts that ends at `low` or later, and the end of the addresses where there is none
+abbrev pub start_of : Text → Form → ℕ → ℕ
+start_of text form low = start_or_end text.next (first_end (concordance text form) low)
+
+-- the members that are to come, and how the next ones are found
+pub record NearContent : Type 0 where
+  pub to_come : List Extent
+  pub way : Way
+
+-- these
+abbrev pub near_content : List Extent → Way → NearContent
+near_content to_come way = record { to_come = to_come; way = way }
+
+-- an access makes at most the look-ups of one to the expression over the version, and readers begin with those of a merge of the lists over the
+-- window
+abbrev pub IsNearWay : VersionContent → (low high : ℕ) → Form → Way → Type 0
+IsNearWay v low high form (leaping each) = each ≡ one_access v form
+IsNearWay v low high form (reading left) = left ≡ merge_cost (window v low high form) (access_most v) form
+IsNearWay v low high form ended = Unit {0}

@@ -1,0 +1,138 @@
+//! Which part of the text of a version tells the members that touch two addresses.
+ghost use Rattle.std.specs.Prelude.{◌≡◌, ◌+◌, ◌*◌, ◌<◌, ◌≤◌, map, max, min};
+ghost use Rattle.gcl_locality.specs.Windows.{all_told_from, all_told_upto, told_from, told_upto};
+ghost use Rattle.gcl_locality.specs.Windows.{end_behind, start_before, window_from, window_upto};
+ghost use Rattle.gcl_model.specs.FormOf.{form_of, forms_from};
+ghost use Rattle.gcl_model.specs.Limits.{address_end, far};
+ghost use Rattle.gcl_model.specs.Meaning.{concordance};
+ghost use Rattle.gcl_model.specs.WellFormed.{AreWellFormed, IsWellFormed};
+ghost use Rattle.live_version.specs.Contents.{version_text};
+ghost use Rattle.near_search.specs.Costs.{one_access, surround_cost, surround_costs, window_cost};
+
+use gcl_eval::{first_start, last_end};
+use gcl_locality::{end_behind, start_before};
+use gcl_model::{Expr, Leaves, Ledger, Steps};
+use live_version::Version;
+use standing_query::Addresses;
+
+/// Those of both together.
+fn together(one: Addresses, other: Addresses) -> Addresses
+    ensures low { result.low ≡ min one.low other.low }
+    ensures high { result.high ≡ max one.high other.high }
+{
+    Addresses {
+        low: one.low.min(other.low),
+        high: one.high.max(other.high),
+    }
+}
+
+/// From the start of the last member before the addresses to the end of the first one behind them: each member that reaches them lies
+/// between.
+fn around<S: Ledger>(
+    expr: &Expr,
+    version: &Version,
+    inner: Addresses,
+    steps: &mut Steps<S>,
+) -> Addresses
+    requires well_formed { IsWellFormed (form_of expr.now) }
+    requires low_below { inner.low < far }
+    requires high_below { inner.high ≤ address_end }
+    ensures low { result.low ≡
+        start_before (version_text version.now) (concordance (version_text version.now) (form_of expr.now)) inner.low }
+    ensures high { result.high ≡
+        end_behind (version_text version.now) (concordance (version_text version.now) (form_of expr.now)) inner.high }
+    ensures low_within { result.low ≤ inner.low }
+    ensures high_within { result.high ≤ address_end }
+    ensures cost { steps.new ≤ steps.old + 2 * one_access version.now (form_of expr.now) }
+{
+    let span = version.span();
+    let before = last_end(expr, version, inner.low.saturating_sub(1), steps);
+    let behind = first_start(expr, version, inner.high + 1, steps);
+    Addresses {
+        low: start_before(span.first, inner.low, before),
+        high: end_behind(span.next, inner.high, behind),
+    }
+}
+
+/// Where the text has to have its words, so that it tells the members which lie between two addresses: there, and around that for what
+/// `<` and `/<` look at.
+#[cycle(told)]
+fn told<S: Ledger>(
+    expr: &Expr,
+    version: &Version,
+    inner: Addresses,
+    steps: &mut Steps<S>,
+) -> Addresses
+    requires well_formed { IsWellFormed (form_of expr.now) }
+    requires low_below { inner.low < far }
+    requires high_below { inner.high ≤ address_end }
+    ensures low { result.low ≡ told_from (version_text version.now) inner.low inner.high (form_of expr.now) }
+    ensures high { result.high ≡ told_upto (version_text version.now) inner.low inner.high (form_of expr.now) }
+    ensures cost { steps.new ≤ steps.old + surround_cost version.now (form_of expr.now) }
+{
+    match expr {
+        Expr::Term(_) | Expr::Phrase(_) | Expr::Width(_) => inner,
+        Expr::Both(operands) | Expr::One(operands) | Expr::Seq(operands) => {
+            all_told(operands, version, inner, steps)
+        }
+        Expr::Containing(a, b) | Expr::NotContaining(a, b) => {
+            let first = told(a, version, inner, steps);
+            let second = told(b, version, inner, steps);
+            together(first, second)
+        }
+        Expr::ContainedIn(a, b) | Expr::NotContainedIn(a, b) => {
+            let first = told(a, version, inner, steps);
+            let outer = around(b, version, inner, steps);
+            let second = told(b, version, outer, steps);
+            together(first, second)
+        }
+    }
+}
+
+/// The same of several expressions together.
+#[cycle(told)]
+fn all_told<S: Ledger>(
+    exprs: &[Expr],
+    version: &Version,
+    inner: Addresses,
+    steps: &mut Steps<S>,
+) -> Addresses
+    requires well_formed { AreWellFormed (forms_from (map form_of exprs.now)) }
+    requires low_below { inner.low < far }
+    requires high_below { inner.high ≤ address_end }
+    ensures low { result.low ≡
+        all_told_from (version_text version.now) inner.low inner.high (forms_from (map form_of exprs.now)) }
+    ensures high { result.high ≡
+        all_told_upto (version_text version.now) inner.low inner.high (forms_from (map form_of exprs.now)) }
+    ensures cost { steps.new ≤ steps.old + surround_costs version.now (forms_from (map form_of exprs.now)) }
+{
+    let mut all = inner;
+    let mut left = exprs.len();
+    while left > 0 {
+        left -= 1;
+        let one = told(&exprs[left], version, inner, steps);
+        all = together(one, all);
+    }
+    all
+}
+
+/// The window of an expression without prefix terms: what is evaluated over it has the same members that touch two addresses. It is found
+/// by two accesses to the expression and to the second operand of each `<` and `/<`.
+///
+/// Over `to be or not to be` from address 0, that of `"to"` at 3 to 4 is from 1 to 5.
+pub fn window_of<S: Ledger>(
+    expr: &Expr,
+    version: &Version,
+    near: Addresses,
+    steps: &mut Steps<S>,
+) -> Addresses
+    requires well_formed { IsWellFormed (form_of expr.now) }
+    requires low_below { near.low < far }
+    requires high_below { near.high ≤ address_end }
+    ensures low { result.low ≡ window_from (version_text version.now) near.low near.high (form_of expr.now) }
+    ensures high { result.high ≡ window_upto (version_text version.now) near.low near.high (form_of expr.now) }
+    ensures cost { steps.new ≤ steps.old + window_cost version.now (form_of expr.now) }
+{
+    let inner = around(expr, version, near, steps);
+    told(expr, version, inner, steps)
+}
