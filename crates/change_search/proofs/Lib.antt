@@ -1,5 +1,7 @@
-mod BoundLemmas
+mod CostLemmas
 mod EditLemmas
 mod LocalLemmas
+mod OpeningLemmas
 mod SideLemmas
 mod StepLemmas
+mod Worked

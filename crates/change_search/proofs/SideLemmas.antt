@@ -1,9 +1,9 @@
 -- What is to come of a page and of what follows it.
-use Rattle.std.proofs.Common.{◌≡◌, ℕ, ◌+◌, ◌<◌, Bool, cond, List, [], ◌∷◌, ◌++◌, length, drop, take_while, inl, inr, sym, ap, ◌∙◌, arith}
+use Rattle.std.proofs.Common.{◌≡◌, ℕ, ◌+◌, ◌-◌, ◌<◌, Bool, cond, List, [], ◌∷◌, ◌++◌, length, drop, take_while, inl, inr, refl, sym, ap, ◌∙◌, arith}
 use Rattle.std.proofs.lemmas.Bool.{cases_Bool}
 use Rattle.std.proofs.lemmas.List.{drop_more}
 use Rattle.std.proofs.lemmas.List.Sums.{take_while-cons}
-use Rattle.gcl_model.specs.Extents.{Extent}
+use Rattle.gcl_model.specs.Extents.{Extent, IsRising}
 
 -- past the member at a place of the page are the others
 past : (page rest : List Extent) (at : ℕ) → at < length page → drop (at + 1) page ++ rest ≡ drop 1 (drop at page ++ rest)
@@ -24,3 +24,12 @@ taken_past test (x ∷ list) some =
 pub past_first : (test : Extent → Bool) (page rest : List Extent) (at : ℕ) → at < length page → 0 < length (take_while test (drop at page ++ rest))
     → take_while test (drop (at + 1) page ++ rest) ≡ drop 1 (take_while test (drop at page ++ rest))
 past_first test page rest at lt some = ap (λ (l : List Extent). take_while test l) (past page rest at lt) ∙ taken_past test (drop at page ++ rest) some
+
+-- what comes after the first member rises
+pub rest_rises : (list : List Extent) → IsRising list → IsRising (drop 1 list)
+rest_rises [] r = tt
+rest_rises (x ∷ list) r = r.1
+
+pub length_rest : (list : List Extent) → length (drop 1 list) ≡ length list - 1
+length_rest [] = refl
+length_rest (x ∷ list) = omega arith

@@ -1,2 +1,4 @@
+pub mod Costs
 pub mod Laws
+pub mod Listings
 pub mod inner

@@ -1,12 +1,11 @@
 //! A step through the lists of two sides.
-ghost use Rattle.std.specs.Prelude.{◌≡◌, [], ◌∷◌, IfOk, IfSome, IsNone, OnErr};
-ghost use Rattle.gcl_model.specs.Extents.{IsRising};
+ghost use Rattle.std.specs.Prelude.{◌≡◌, ◌+◌, ◌≤◌, [], ◌∷◌, IfOk, IfSome, IsNone, OnErr, OnOk};
 ghost use Rattle.standing_query.specs.Changes.{changes, comes_before};
-ghost use Rattle.change_search.specs.inner.Sides.{to_come};
+ghost use Rattle.change_search.specs.inner.Sides.{IsSide, look_ups, to_come};
 ghost use Rattle.change_search.specs.inner.Steps.{IsStep};
 
 use crate::side::Side;
-use gcl_model::Interval;
+use gcl_model::{Interval, Ledger, Steps};
 use standing_query::Change;
 use std::alloc::{AllocError, Global};
 
@@ -29,16 +28,24 @@ fn comes_before(a: Interval, b: Interval) -> bool
 }
 
 /// Goes past the lesser first member, or past both where they are the same.
-fn advance(alloc: Global, before: &mut Side, after: &mut Side) -> Result<Step, AllocError>
-    requires old { IsRising (to_come before.old) }
-    requires new { IsRising (to_come after.old) }
+fn advance<S: Ledger>(
+    alloc: Global,
+    before: &mut Side,
+    after: &mut Side,
+    steps: &mut Steps<S>,
+) -> Result<Step, AllocError>
+    requires old { IsSide before.old }
+    requires new { IsSide after.old }
     ensures ok { IfOk result (IsStep (to_come before.old) (to_come after.old) (to_come before.new) (to_come after.new)) }
-    ensures old { IsRising (to_come before.new) }
-    ensures new { IsRising (to_come after.new) }
+    ensures old { IsSide before.new }
+    ensures new { IsSide after.new }
     ensures err { OnErr result ((to_come before.new ≡ to_come before.old) × (to_come after.new ≡ to_come after.old)) }
+    ensures cost { OnOk result (steps.new + (look_ups before.new + look_ups after.new) ≤
+        steps.old + (look_ups before.old + look_ups after.old)) }
+    ensures stopped { OnErr result (steps.new ≤ steps.old + (look_ups before.old + look_ups after.old)) }
 {
-    let old = before.first(alloc)?;
-    let new = after.first(alloc)?;
+    let old = before.first(alloc, steps)?;
+    let new = after.first(alloc, steps)?;
     match (old, new) {
         (None, None) => Ok(Step::Ends),
         (Some(went), None) => {
@@ -66,22 +73,26 @@ fn advance(alloc: Global, before: &mut Side, after: &mut Side) -> Result<Step, A
 }
 
 /// The first change between what is to come of two sides. `Err` is out of memory.
-pub fn next_change(
+pub fn next_change<S: Ledger>(
     alloc: Global,
     before: &mut Side,
     after: &mut Side,
+    steps: &mut Steps<S>,
 ) -> Result<Option<Change>, AllocError>
-    requires old { IsRising (to_come before.old) }
-    requires new { IsRising (to_come after.old) }
+    requires old { IsSide before.old }
+    requires new { IsSide after.old }
     ensures some { IfOk result (λ next. IfSome next (λ change.
         changes (to_come before.old) (to_come after.old) ≡ change ∷ changes (to_come before.new) (to_come after.new))) }
     ensures none { IfOk result (λ next. IsNone next → changes (to_come before.old) (to_come after.old) ≡ []) }
     ensures err { OnErr result (changes (to_come before.new) (to_come after.new) ≡ changes (to_come before.old) (to_come after.old)) }
-    ensures old { IsRising (to_come before.new) }
-    ensures new { IsRising (to_come after.new) }
+    ensures old { IsSide before.new }
+    ensures new { IsSide after.new }
+    ensures cost { OnOk result (steps.new + (look_ups before.new + look_ups after.new) ≤
+        steps.old + (look_ups before.old + look_ups after.old)) }
+    ensures stopped { OnErr result (steps.new ≤ steps.old + (look_ups before.old + look_ups after.old)) }
 {
     loop {
-        match advance(alloc, before, after)? {
+        match advance(alloc, before, after, steps)? {
             Step::Tells(change) => return Ok(Some(change)),
             Step::Skips => continue,
             Step::Ends => return Ok(None),

@@ -1,11 +1,10 @@
 -- One of two lists that are gone through side by side.
-use Rattle.std.specs.Prelude.{ℕ, ◌<◌, Bool, nat_le, List, ◌++◌, length, drop, take_while}
-use Rattle.gcl_model.specs.Extents.{Extent}
+use Rattle.std.specs.Prelude.{◌≡◌, ◌⊎◌, ℕ, zero, suc, ◌+◌, ◌*◌, ◌<◌, ◌≤◌, List, ◌++◌, length, drop, take_while}
+use Rattle.gcl_model.specs.Extents.{Extent, IsRising}
+use Rattle.near_search.specs.Contents.{starts_by}
+use Rattle.query_search.specs.Pages.{Way, leaping, reading, ended}
+use Rattle.change_search.specs.Costs.{paged_accesses}
 use Rattle.change_search.specs.declared.side.Side.{Side}
-
--- the interval starts at an address or before it
-abbrev pub starts_by : ℕ → Extent → Bool
-starts_by high a = nat_le a.start high
 
 -- what is left of the page, and what its pages have to come
 abbrev pub found_and_left : Side → List Extent
@@ -18,3 +17,25 @@ to_come side = take_while (starts_by side.high) (found_and_left side)
 -- the first one is found
 abbrev pub IsFound : Side → Type 0
 IsFound side = (side.at < length side.page) × (0 < length (to_come side))
+
+-- how many accesses may be made where `left` members are to come, and `at` members of a page of `size` were passed: these pay for the next
+-- page, and before the first page the whole is left
+abbrev pub accesses_left : (left at size : ℕ) → ℕ
+accesses_left left at zero = paged_accesses (left + at)
+accesses_left left at (suc size) = 3 * (left + at)
+
+-- how many look-ups that is
+abbrev pub look_ups_by : Way → (accesses : ℕ) → ℕ
+look_ups_by (leaping each) accesses = accesses * each
+look_ups_by (reading left) accesses = left
+look_ups_by ended accesses = 0
+
+-- how many look-ups a side may still make
+abbrev pub look_ups : Side → ℕ
+look_ups side = look_ups_by side.rest.way (accesses_left (length (to_come side)) side.at side.size)
+
+-- where the next page may be asked for, the last one was full, and its size was none or that of a first page at least
+pub record IsSide (side : Side) : Type 0 where
+  pub rising : IsRising (to_come side)
+  pub full : (side.rest.way ≡ ended) ⊎ (length side.page ≡ side.size)
+  pub size : (side.size ≡ 0) ⊎ (2 ≤ side.size)
