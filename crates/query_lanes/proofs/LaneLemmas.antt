@@ -150,3 +150,9 @@ runs_together asks lanes from up low high low' high' works works' is a b = recor
         let at : up + (i - length low) ≡ from + i = omega (arith, is) in
         rw (get_or-append_right low high (length low) i d refl far.0, get_or-append_right low' high' (length low) i d a.readers far.0, get_or-append_right works works' (length low) i e a.works_are far.0)
         (subst (λ (n : ℕ). AreMadeOn asks lanes n (slice_index_or high (i - length low) d) (slice_index_or high' (i - length low) d) (slice_index_or works' (i - length low) e).made.items) at (b.made (i - length low) d e far.1))
+
+-- of a result that is something known where it counts, and something known of that where it counts
+pub kept_is : {A : Type 0} {counts : Type 0} {here there : A} (result : Option A) → (counts → here ≡ there) → IfSome result (λ found. (found ≡ here) × counts)
+    → IfSome result (λ found. found ≡ there)
+kept_is None told is = tt
+kept_is (Some found) told is = is.0 ∙ told is.1

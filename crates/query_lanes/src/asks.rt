@@ -5,7 +5,8 @@ ghost use Rattle.query_lanes.specs.WellFormedOnce.{query-prop};
 
 use gcl_model::Expr;
 use gcl_parser::QueryFault;
-use query_search::Listing;
+use live_version::Version;
+use query_search::{Listing, PAGE, look_ups_of};
 use std::sync::Arc;
 
 /// What a query asks of the concordance list of its expression.
@@ -32,9 +33,25 @@ pub struct Ask {
 }
 
 impl Ask {
+    /// About how many look-ups a lane needs to answer it over a version. Of a list it finds the first page alone.
+    pub(crate) fn look_ups(&self, version: &Version) -> u64 {
+        if !self.takes_a_walk() {
+            return 0;
+        }
+        let Ok(expr) = &self.query else {
+            return 0;
+        };
+        let most = match self.asked {
+            Asked::All => PAGE,
+            Asked::First(most) => most.min(PAGE),
+            Asked::Number => u64::MAX,
+        };
+        look_ups_of(version, expr, most)
+    }
+
     /// Whether its answer takes a walk. The number of members of a term, or of one of several terms, is that of their postings, and a fault
     /// is known.
-    pub(crate) fn takes_a_walk(&self) -> bool {
+    fn takes_a_walk(&self) -> bool {
         let Ok(expr) = &self.query else {
             return false;
         };

@@ -18,6 +18,7 @@ use crate::lanes::run_lanes;
 use crate::merging::{is_lawful, merge, merge_where};
 use crate::settle::{settle_all, tell_all};
 use collection::Engine;
+use live_version::Version;
 use manifest_publish::Reader;
 use outside::Gate;
 use std::alloc::AllocError;
@@ -78,10 +79,36 @@ fn run_all<R: Threads + Wait + Sync, G: Gate + Sync>(
     Ok(())
 }
 
-/// Whether a batch is worth threads. Where nothing is to be done beside them, one query is not, nor are queries that take no walk.
-fn is_worth_lanes(asks: &[Ask], pending: bool) -> bool {
-    let walks = asks.iter().filter(|ask| ask.takes_a_walk()).count();
-    walks > 1 || (pending && !asks.is_empty())
+// So many look-ups take half a millisecond, which is how late a thread may start.
+const WORTH_THREADS: u64 = 16_384;
+
+/// Whether threads can take more off this one than they cost. All of them together take as long as the longest query at the least, so what
+/// the others need is all that can be saved.
+fn is_worth_threads(version: &Version, asks: &[Ask]) -> bool {
+    let mut all = 0u64;
+    let mut longest = 0;
+    for ask in asks {
+        let look_ups = ask.look_ups(version);
+        all = all.saturating_add(look_ups);
+        longest = look_ups.max(longest);
+        if all.saturating_sub(longest) >= WORTH_THREADS {
+            return true;
+        }
+    }
+    false
+}
+
+/// How many lanes a batch gets, of this many at the most. One that is not worth threads gets one lane beside a merge, and else none.
+fn lanes_of(version: &Version, asks: &[Ask], pending: bool, most: usize) -> usize
+    ensures { result ≤ most }
+{
+    if most > 1 && is_worth_threads(version, asks) {
+        return most;
+    }
+    if !pending {
+        return 0;
+    }
+    most.min(1)
 }
 
 /// A batch that needs no lanes: the merge, where one is pending, and then each query on the engine's own pass.
@@ -143,10 +170,10 @@ fn answer_in_lanes<R: Threads + Wait + Sync, G: Gate + Sync>(
     Ok(answers)
 }
 
-/// Answers a batch of queries in lanes, one for each reader, and merges beside them where a merge is pending. The query at place `j`,
-/// counted from 0, goes to lane `j` modulo the number of lanes. With no reader, and where a batch is not worth threads, each query is
-/// answered on the engine's own pass. The answers come in the order of the queries. `Err` is out of memory: then the merge may have been
-/// made.
+/// Answers a batch of queries in lanes, and merges beside them where a merge is pending. The query at place `j`, counted from 0, goes to
+/// lane `j` modulo the number of lanes. There is a lane for each reader where the queries are worth threads. If they are not, one lane
+/// answers them beside a merge; and with no merge, or no reader, each query is answered on the engine's own pass. The answers come in the
+/// order of the queries. `Err` is out of memory: then the merge may have been made.
 ///
 /// Over `to be or not to be` the batch `find "to"`, `count "be"` is answered by the listing 1 to 1, 5 to 5, and the total 2.
 pub fn answer_batch<R: Threads + Wait + Sync, G: Gate + Sync>(
@@ -167,12 +194,13 @@ pub fn answer_batch<R: Threads + Wait + Sync, G: Gate + Sync>(
     ensures stands { Keeps engine.old.version engine.new.version }
     ensures of { AreOf engine.new.publisher readers.new }
 {
-    if readers.is_empty() || !is_worth_lanes(asks, pending) {
+    // a reader without a query is left as it is
+    let most = readers.len().min(asks.len());
+    let lanes = lanes_of(engine.version(), asks, pending, most);
+    if lanes == 0 {
         let answers = answer_in_turn(context, asks, pending, engine)?;
         return Ok(answers);
     }
-    // a reader without a query is left as it is
-    let lanes = readers.len().min(asks.len());
     let mut works = Work::of_lanes(context.alloc, lanes)?;
     let (readers_used, _) = readers.split_at_mut(lanes);
     let works = works.as_mut_slice();

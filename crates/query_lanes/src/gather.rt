@@ -30,6 +30,16 @@ fn counts(last: u64, is_settled: bool, number: u64) -> bool
     is_settled && number <= last
 }
 
+/// An answer, where it counts. A function of its own, so that what is not taken is dropped here.
+fn kept(last: u64, is_settled: bool, made: Made) -> Option<Found>
+    ensures { IfSome result (λ found. (found ≡ made.found) × Counts is_settled last made.number) }
+{
+    if !counts(last, is_settled, made.number) {
+        return None;
+    }
+    Some(made.found)
+}
+
 /// Takes the answer that a lane made to the query at `j`, where it counts.
 fn take_kept(last: u64, works: &mut [Work], asks: &[Ask], j: usize) -> Option<Found>
     ensures trusted { (text : Text) → AreTrusted asks.now last text works.old → AreTrusted asks.now last text works.new }
@@ -42,10 +52,7 @@ fn take_kept(last: u64, works: &mut [Work], asks: &[Ask], j: usize) -> Option<Fo
     let lanes = works.len();
     let work = &mut works[j % lanes];
     let made = take_made(&mut work.made, j / lanes)?;
-    if !counts(last, work.is_settled, made.number) {
-        return None;
-    }
-    Some(made.found)
+    kept(last, work.is_settled, made)
 }
 
 /// The answers to all queries, in their order: those that the lanes made, where they count, and else made again.
