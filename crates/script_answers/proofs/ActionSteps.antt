@@ -13,16 +13,18 @@ use Rattle.script_lang.specs.Answers.{is_refusal}
 use Rattle.script_lang.specs.Lines.{Line, text_of_lines}
 use Rattle.script_answers.specs.States.{State, Keeps}
 use Rattle.script_answers.specs.Answers.{Reply, after_reply, answer, answers, names_kept_of_line, names_of_line, state_after, unchanged, with_later}
-use Rattle.script_answers.specs.Stopped.{Ending, GetsPart, HoldsBut, IsAllWritten, IsOfFiles}
+use Rattle.script_answers.specs.Stopped.{Ending, HoldsBut, IsAllWritten, IsOfFiles}
+use Rattle.answer_text.specs.Puts.{GetsPart}
 use Rattle.collection.specs.Engines.{EngineContent}
 use Rattle.manifest_publish.specs.Accounts.{Account}
 use Rattle.standing_query.specs.Watches.{WatchListContent}
-use Rattle.script_answers.specs.inner.Service.{Halts, Halted, IsAtStand, Served, Serves, Stand, Unmade, watching_of}
-use Rattle.script_answers.specs.inner.Telling.{IsBefore, since, told_since}
+use Rattle.script_answers.specs.inner.Service.{Halts, Halted, IsAtStand, Served, Serves, Stand, Unmade}
+use Rattle.answer_text.specs.Watching.{told_since, watching_of}
+use Rattle.answer_text.specs.Given.{answer_lines, edits, is_change, IsBefore, since}
 use Rattle.script_answers.proofs.TellingLemmas.{told_is}
-use Rattle.script_answers.specs.inner.Tasks.{Does, IsActionOf, IsNothing, IsReadByAction, action_kept, action_names, action_reply, answer_lines, completes, edits, is_change, telling_where, told_reply}
-use Rattle.script_answers.specs.declared.action.Action.{Action}
-use Rattle.script_answers.specs.declared.answer.Answer.{Answer}
+use Rattle.script_answers.specs.inner.Tasks.{Does, IsActionOf, IsNothing, IsReadByAction, action_kept, action_names, action_reply, completes, telling_where, told_reply}
+use Rattle.answer_text.specs.declared.action.Action.{Action}
+use Rattle.answer_text.specs.declared.answer.Answer.{Answer}
 use Rattle.script_answers.specs.declared.limits.Limits.{Limits}
 use Rattle.script_answers.proofs.Service.{or_false}
 use Rattle.script_answers.proofs.Stops.{stopped_before, stopped_part}

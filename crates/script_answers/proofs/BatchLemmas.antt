@@ -21,8 +21,9 @@ use Rattle.query_lanes.specs.declared.asks.Asked.TheVariants.{All, First, Number
 use Rattle.query_lanes.specs.Merges.{IsMergedWhere}
 use Rattle.script_answers.specs.States.{State, Keeps}
 use Rattle.script_answers.specs.Stopped.{begun}
-use Rattle.script_answers.specs.Answers.{Reply, asked_lines, query_lines, lines_by, unchanged, refusal_lines, reply, answer, answers, is_query, after_reply, state_after, with_later, AllAnswered, AreRead}
-use Rattle.script_answers.specs.inner.Asks.{ask_lines, command_asking, found_lines, AsksLine, AreAsked}
+use Rattle.script_answers.specs.Answers.{Reply, asked_lines, query_lines, lines_by, unchanged, reply, answer, answers, is_query, after_reply, state_after, with_later, AllAnswered, AreRead}
+use Rattle.answer_text.specs.Texts.{found_lines, refusal_lines}
+use Rattle.script_answers.specs.inner.Asks.{ask_lines, command_asking, AsksLine, AreAsked}
 use Rattle.script_answers.specs.declared.limits.Limits.{Limits}
 use Rattle.script_answers.proofs.TaskLemmas.{of_query}
 

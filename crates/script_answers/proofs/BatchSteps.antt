@@ -1,5 +1,5 @@
 -- A whole batch, and a stop within it.
-use Rattle.std.proofs.Common.{◌≡◌, ℕ, ◌+◌, ◌-◌, ◌≤◌, ◌||◌, inl, inr, List, [], length, map, take, drop, take_all, refl, sym, ap, ◌∙◌, Option, Some, subst, arith}
+use Rattle.std.proofs.Common.{◌≡◌, ℕ, ◌+◌, ◌-◌, ◌≤◌, ◌||◌, inl, inr, List, [], ◌∷◌, ◌++◌, length, map, take, drop, take_all, refl, sym, ap, ◌∙◌, Option, Some, subst, arith}
 use Rattle.std.specs.Prelude.{flat_map, ⊤}
 use Rattle.std.specs.List.{list_any}
 use Rattle.std.specs.Io.KnownBytes.{Appends}
@@ -7,6 +7,7 @@ use Rattle.std.proofs.Math.Dec.{ltb}
 use Rattle.std.proofs.lemmas.Bool.{cases_Bool, ltb-false, ltb-true}
 use Rattle.std.proofs.lemmas.List.{take-map}
 use Rattle.gcl_model.specs.Collections.{text_of}
+use Rattle.gcl_model.specs.Texts.{Text}
 use Rattle.live_version.specs.StandsFor.{StandsFor}
 use Rattle.script_lang.specs.Answers.{is_refusal}
 use Rattle.script_lang.specs.Lines.{Line, text_of_lines}
@@ -15,15 +16,21 @@ use Rattle.query_lanes.specs.declared.asks.Ask.{Ask}
 use Rattle.query_lanes.specs.declared.asks.Found.{Found}
 use Rattle.script_answers.specs.States.{State, Keeps}
 use Rattle.script_answers.specs.Answers.{answers, state_after}
-use Rattle.script_answers.specs.Stopped.{Ending, GetsPart, IsAllWritten, IsOfFiles, begun}
-use Rattle.script_answers.specs.inner.Asks.{AreAsked, found_lines}
-use Rattle.script_answers.specs.inner.Puts.{founds_text}
-use Rattle.script_answers.specs.inner.Service.{Halts, IsAtStand, Serves, Stand, watching_of}
+use Rattle.script_answers.specs.Stopped.{Ending, IsAllWritten, IsOfFiles, begun}
+use Rattle.answer_text.specs.Puts.{founds_text, GetsPart}
+use Rattle.script_answers.specs.inner.Asks.{AreAsked, ask_lines}
+use Rattle.answer_text.specs.Texts.{found_lines}
+use Rattle.script_answers.specs.inner.Service.{Halts, IsAtStand, Serves, Stand}
+use Rattle.answer_text.specs.Watching.{watching_of}
 use Rattle.script_answers.specs.declared.limits.Limits.{Limits}
 use Rattle.script_answers.proofs.BatchLemmas.{asked_front, batch_answered, batch_length, batch_lines, batch_state, one_begun}
-use Rattle.script_answers.proofs.PageLemmas.{lines_of_founds}
 use Rattle.script_answers.proofs.Scripts.{all_held}
 use Rattle.script_answers.proofs.Stops.{stopped_before}
+
+-- the lines of what was found of some queries are those that answer them
+lines_of_founds : (text : Text) (asks : List Ask) → flat_map found_lines (map (answer_in text) asks) ≡ flat_map (ask_lines text) asks
+lines_of_founds text [] = refl
+lines_of_founds text (ask ∷ asks) = ap (λ l. ask_lines text ask ++ l) (lines_of_founds text asks)
 
 -- the answers to the first lines of a batch are those that were found first
 found_first : (limits : Limits) (state : State) (asks : List Ask) (batch : List Line) (founds : List Found) (n : ℕ) → AreAsked asks batch → founds ≡ map (answer_in (text_of state.collection)) asks →

@@ -4,8 +4,6 @@ pub mod BatchLemmas
 pub mod BatchSteps
 pub mod ImageLemmas
 pub mod LocalEdits
-pub mod PageLemmas
-pub mod PutLemmas
 pub mod Replies
 pub mod SaveReplies
 pub mod Scripts

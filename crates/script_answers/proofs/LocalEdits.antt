@@ -14,10 +14,9 @@ use Rattle.collection.specs.declared.engine.Added.{Added}
 use Rattle.collection.proofs.EngineLemmas.{last_is}
 use Rattle.change_search.specs.Laws.{AddsAgree, DeletesAgree}
 use Rattle.standing_query.specs.Watches.{WatchListContent}
-use Rattle.script_answers.specs.declared.action.Action.{Action}
-use Rattle.script_answers.specs.declared.answer.Answer.{Answer}
-use Rattle.script_answers.specs.inner.Telling.{IsBefore, IsLocal, since}
-use Rattle.script_answers.specs.inner.Tasks.{is_change}
+use Rattle.answer_text.specs.declared.action.Action.{Action}
+use Rattle.answer_text.specs.declared.answer.Answer.{Answer}
+use Rattle.answer_text.specs.Given.{is_change, IsBefore, IsLocal, since}
 
 -- an add changes it at the addresses that the file got
 pub added_local : AddsAgree → (old new : EngineContent) (name : List ℕ) (tokens : List (List ℕ)) (added : Added) → CanBeSaved old.version → IsAdd old new name tokens added →

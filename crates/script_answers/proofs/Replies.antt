@@ -16,41 +16,13 @@ use Rattle.script_lang.specs.Lines.{text_of_lines}
 use Rattle.script_lang.specs.declared.refusals.Refusal.TheVariants.{NoFile}
 use Rattle.script_lang.proofs.AnswerLemmas.{interval_line-plain, total_line-plain, record_line-plain}
 use Rattle.script_answers.specs.States.{State, Keeps}
-use Rattle.script_answers.specs.Answers.{Reply, refusal_lines, unchanged, del_reply, list_lines, listing_lines, record_lines}
-use Rattle.script_answers.specs.inner.Tasks.{Follows, answer_lines}
-use Rattle.script_answers.specs.declared.answer.Answer.{Answer}
-use Rattle.script_answers.specs.declared.answer.Answer.TheVariants.{Refused}
+use Rattle.script_answers.specs.Answers.{Reply, unchanged, del_reply}
+use Rattle.answer_text.specs.Texts.{refusal_lines, list_lines, listing_lines, record_lines}
+use Rattle.script_answers.specs.inner.Tasks.{Follows}
+use Rattle.answer_text.specs.Given.{answer_lines}
+use Rattle.answer_text.specs.declared.answer.Answer.{Answer}
+use Rattle.answer_text.specs.declared.answer.Answer.TheVariants.{Refused}
 use Rattle.script_lang.specs.declared.refusals.Refusal.{Refusal}
-
--- lines, and then one more
-pub one_more : (lines : List (List ℕ)) (last old mid new : List ℕ) → mid ≡ old ++ text_of_lines lines → new ≡ mid ++ last ++ 10 ∷ [] → new ≡ old ++ text_of_lines (lines ++ last ∷ [])
-one_more lines last old mid new is_mid is_new =
-    let split : text_of_lines (lines ++ last ∷ []) ≡ text_of_lines lines ++ (last ++ 10 ∷ []) =
-    flat_map-append _ lines (last ∷ []) ∙ ap (λ text. text_of_lines lines ++ text) (append-nil (last ++ 10 ∷ [])) in
-    rw (is_new, is_mid, split) (simp append_assoc)
-
--- one line
-pub one_line : (line old new : List ℕ) → new ≡ old ++ line ++ 10 ∷ [] → new ≡ old ++ text_of_lines (line ∷ [])
-one_line line old new is = one_more [] line old old new (sym (append-nil old)) is
-
-last_plain : (lines : List (List ℕ)) (total : ℕ) → list_any is_refusal lines ≡ false → list_any is_refusal (lines ++ total_line total ∷ []) ≡ false
-last_plain lines total plain = rw (list_any-append, plain, total_line-plain total) refl
-
-intervals_plain : (list : List Extent) → list_any is_refusal (map interval_line list) ≡ false
-intervals_plain [] = refl
-intervals_plain (a ∷ list) = rw (interval_line-plain a) (intervals_plain list)
-
-records_plain : (files : List FileEntry) → list_any is_refusal (record_lines files) ≡ false
-records_plain [] = refl
-records_plain (file ∷ files) = rw (record_line-plain file) (records_plain files)
-
--- no line of a list is a refusal
-pub list_plain : (list : List Extent) → list_any is_refusal (list_lines list) ≡ false
-list_plain list = last_plain (map interval_line list) (length list) (intervals_plain list)
-
--- nor is one of a list of files
-pub listing_plain : (files : List FileEntry) → list_any is_refusal (listing_lines files) ≡ false
-listing_plain files = last_plain (record_lines files) (length files) (records_plain files)
 
 -- no surviving file has the id
 pub not_there : (v : VersionContent) (state : State) (id : ℕ) → StandsFor v state.collection → file_with_id id (files_of v.slots) ≡ None → del_reply state id ≡ unchanged state (refusal_lines (NoFile id))

@@ -26,7 +26,7 @@ use Rattle.script_answers.specs.Answers.{Reply, bytes_reply, reading_reply, save
 use Rattle.script_lang.specs.Answers.{saved_line}
 use Rattle.script_answers.specs.inner.Service.{IsAt, Unmade}
 use Rattle.script_answers.specs.inner.Tasks.{Follows}
-use Rattle.script_answers.specs.declared.answer.Answer.TheVariants.{Opened, Refused}
+use Rattle.answer_text.specs.declared.answer.Answer.TheVariants.{Opened, Refused}
 use Rattle.script_answers.specs.declared.limits.Limits.{Limits}
 use Rattle.script_answers.proofs.ImageLemmas.{reads, spelled_short, tokens_short}
 use Rattle.script_answers.proofs.Replies.{refused_follows}

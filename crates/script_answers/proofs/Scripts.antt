@@ -26,8 +26,10 @@ use Rattle.script_lang.specs.declared.refusals.Refusal.TheVariants.{LongLine, No
 use Rattle.live_version.specs.StandsFor.{StandsFor}
 use Rattle.collection.specs.Engines.{EngineContent}
 use Rattle.script_answers.specs.States.{State, Keeps}
-use Rattle.script_answers.specs.Answers.{Reply, answer, after_reply, state_after, with_later, answers, AllAnswered, AreRead, names_kept, names_kept_of, names_kept_of_line, unchanged, refusal_lines, content_reply, add_reply, image_reply, open_reply, reading_reply, last_address, state_with_file, state_without_file, reply}
-use Rattle.script_answers.specs.Stopped.{GetsPart, HoldsBut}
+use Rattle.script_answers.specs.Answers.{Reply, answer, after_reply, state_after, with_later, answers, AllAnswered, AreRead, names_kept, names_kept_of, names_kept_of_line, unchanged, content_reply, add_reply, image_reply, open_reply, reading_reply, last_address, state_with_file, state_without_file, reply}
+use Rattle.answer_text.specs.Texts.{refusal_lines}
+use Rattle.answer_text.specs.Puts.{GetsPart}
+use Rattle.script_answers.specs.Stopped.{HoldsBut}
 use Rattle.script_answers.specs.declared.limits.Limits.{Limits}
 
 later_lines : (o : Option Reply) (a b : List (List ℕ)) → IsSome o → with_later o (a ++ b) ≡ with_later o a ++ b

@@ -24,11 +24,7 @@ use Rattle.outside.specs.declared.faults.FileError.TheVariants.{Failed as FileFa
 use Rattle.std.specs.Prelude.{flat_map, Result, Ok, Err, IsErrAnd, IsErrOf}
 use Rattle.script_answers.proofs.Scripts.{all_answered-append, all_held, answers-append, none_apart, read_behind, read_front, state_after-append}
 use Rattle.script_answers.proofs.Stops.{stopped_after, stopped_as, stopped_before, stopped_behind, stopped_more}
-
--- a refusal is among the first ones, or among the others
-pub or_assoc : (a b c d : Bool) → a ≡ (b || c) → (a || d) ≡ (b || (c || d))
-or_assoc a true c d is = ap (λ x. x || d) is
-or_assoc a false c d is = ap (λ x. x || d) is
+pub use Rattle.answer_text.proofs.PageLemmas.{or_assoc}
 
 pub or_false : (a : Bool) → a ≡ (a || false)
 or_false true = refl

@@ -12,7 +12,8 @@ use Rattle.live_version.specs.StandsFor.{StandsFor}
 use Rattle.script_lang.specs.Lines.{Line, text_of_lines}
 use Rattle.script_answers.specs.States.{State}
 use Rattle.script_answers.specs.Answers.{answers, asks_query, state_after, names_kept_of, names_kept_of_line, names_of, names_of_line, AllAnswered}
-use Rattle.script_answers.specs.Stopped.{Ending, GetsPart, HoldsBut, IsAllWritten, IsOfFiles, IsStopped, begun}
+use Rattle.script_answers.specs.Stopped.{Ending, HoldsBut, IsAllWritten, IsOfFiles, IsStopped, begun}
+use Rattle.answer_text.specs.Puts.{GetsPart}
 use Rattle.script_answers.specs.declared.limits.Limits.{Limits}
 use Rattle.script_answers.proofs.Scripts.{all_held, answers-append, held_more, none_apart, part_of_more, state_after-append, take_first}
 

@@ -10,10 +10,11 @@ use Rattle.query_lanes.specs.declared.asks.Ask.{Ask}
 use Rattle.query_lanes.specs.declared.asks.Asked.{Asked}
 use Rattle.query_lanes.specs.declared.asks.Asked.TheVariants.{All, First, Number}
 use Rattle.script_answers.specs.States.{State}
-use Rattle.script_answers.specs.Answers.{answer, is_query, names_asked, names_kept, names_kept_of_line, names_of_line, refusal_lines, reply, unchanged, IsReadBy, IsReadUnless}
+use Rattle.script_answers.specs.Answers.{answer, is_query, names_asked, names_kept, names_kept_of_line, names_of_line, reply, unchanged, IsReadBy, IsReadUnless}
+use Rattle.answer_text.specs.Texts.{refusal_lines}
 use Rattle.script_answers.specs.inner.Asks.{AsksLine, IsAskOf, command_asking}
 use Rattle.script_answers.specs.inner.Tasks.{IsActionOf, IsNothing, IsReadByAction, IsTaskFor, IsTaskOf, task_kept, task_names, action_kept, action_names, action_of, told_reply}
-use Rattle.script_answers.specs.declared.action.Action.{Action}
+use Rattle.answer_text.specs.declared.action.Action.{Action}
 use Rattle.script_answers.specs.declared.task.Task.{Task}
 use Rattle.script_answers.specs.declared.task.Task.TheVariants.{Nothing, Ask as Asks, Act}
 use Rattle.script_answers.specs.declared.limits.Limits.{Limits}

@@ -20,13 +20,15 @@ use Rattle.gcl_model.specs.declared.expr.Expr.{Expr}
 use Rattle.gcl_model.specs.FormOf.{form_of}
 use Rattle.standing_query.specs.Watches.{WatchListContent, most_watches, has_watch as has_live, with_watch as with_live, without_watch as without_live}
 use Rattle.standing_query.specs.declared.watch.Watch.{Watch}
-use Rattle.script_answers.specs.States.{State, Keeps, Watched, Watches}
-use Rattle.script_answers.specs.Answers.{Reply, files_lines, form_reply, has_watch, listing_lines, record_lines, refusal_lines, state_unwatching, state_watching, unchanged, unwatch_reply, watch_by, watch_reply, with_watch, without_watch}
-use Rattle.script_answers.specs.inner.Service.{watched_of, watching_of}
-use Rattle.script_answers.specs.inner.Tasks.{Does, Gives, IsWatchReply, action_reply, merges}
-use Rattle.script_answers.specs.declared.action.Action.{Action}
-use Rattle.script_answers.specs.declared.answer.Answer.{Answer}
-use Rattle.script_answers.specs.declared.answer.Answer.TheVariants.{Watching, Unwatched, Refused}
+use Rattle.script_answers.specs.States.{State, Keeps}
+use Rattle.answer_text.specs.Watching.{Watched, watched_of, Watches, watching_of}
+use Rattle.script_answers.specs.Answers.{Reply, files_lines, form_reply, has_watch, state_unwatching, state_watching, unchanged, unwatch_reply, watch_by, watch_reply, with_watch, without_watch}
+use Rattle.answer_text.specs.Texts.{listing_lines, record_lines, refusal_lines}
+use Rattle.script_answers.specs.inner.Tasks.{Does, Gives, IsWatchReply, action_reply}
+use Rattle.answer_text.specs.Given.{merges}
+use Rattle.answer_text.specs.declared.action.Action.{Action}
+use Rattle.answer_text.specs.declared.answer.Answer.{Answer}
+use Rattle.answer_text.specs.declared.answer.Answer.TheVariants.{Watching, Unwatched, Refused}
 use Rattle.script_answers.specs.declared.limits.Limits.{Limits}
 use Rattle.script_answers.proofs.TellingLemmas.{attends, stays_watching}
 

@@ -28,19 +28,18 @@ use Rattle.standing_query.specs.Changes.{changes}
 use Rattle.standing_query.specs.declared.change.Change.{Change}
 use Rattle.standing_query.specs.declared.change.Change.TheVariants.{Went, Came}
 use Rattle.script_answers.specs.Images.{image_of, IsReading}
-use Rattle.script_answers.specs.States.{State, Watched, Watches, greatest_limits}
+use Rattle.script_answers.specs.States.{State, greatest_limits}
+use Rattle.answer_text.specs.Watching.{Watched, Watches}
 use Rattle.script_answers.specs.declared.limits.Limits.{Limits}
 use Rattle.query_lanes.specs.declared.asks.Asked.{Asked}
 use Rattle.query_lanes.specs.declared.asks.Asked.TheVariants.{All, First, Number}
+pub use Rattle.answer_text.specs.Texts.{list_lines, listing_lines, record_lines, refusal_lines}
+pub use Rattle.answer_text.specs.Watching.{changes_lines, told_line, watch_lines}
 
 -- the lines of an answer, and the state that it leaves
 pub record Reply : Type 0 where
   pub lines : List (List ℕ)
   pub after : State
-
--- the one line of a refusal
-abbrev pub refusal_lines : Refusal → List (List ℕ)
-refusal_lines refusal = refusal_line refusal ∷ []
 
 -- an answer of these lines, which changes nothing
 abbrev pub unchanged : State → List (List ℕ) → Reply
@@ -72,19 +71,6 @@ state_keeping state name bytes = record state { files = changed_at name (Some by
 -- after an image was opened: its collection, in one slot, or in none where it has no file
 abbrev pub state_opened : State → Collection → State
 state_opened state c = record state { collection = c; slots = slots_after_open c.files }
-
--- the line of a change, by the number of its watch: "+ 0 1 2" of an interval that came, and "- 0 1 2" of one that went
-abbrev pub told_line : ℕ → Change → List ℕ
-told_line number (Went interval) = change_line number false interval
-told_line number (Came interval) = change_line number true interval
-
--- what an edit changed of the list of a watch, a line each
-abbrev pub watch_lines : Text → Text → Watched → List (List ℕ)
-watch_lines before after watch = map (told_line watch.number) (changes (wide before watch.form) (wide after watch.form))
-
--- the same of each live watch, in rising number
-abbrev pub changes_lines : Watches → Text → Text → List (List ℕ)
-changes_lines watches before after = flat_map (watch_lines before after) watches.live
 
 -- a reply, and then what it changed for each live watch; one that is refused changes nothing, and so tells nothing
 abbrev pub telling : State → Reply → Reply
@@ -127,10 +113,6 @@ image_reply limits state content = if nat_lt limits.image (length content) then 
 -- the reply to opening a name, None where it loads one that isn't held: once a file was added it is refused, and nothing is loaded
 abbrev pub open_reply : Limits → State → List ℕ → Option Reply
 open_reply limits state name = if nat_lt 0 state.collection.next_id then Some (unchanged state (refusal_lines NotEmpty)) else option_map (image_reply limits state) (state.files name)
-
--- a line for each interval, and then their number
-abbrev pub list_lines : List Extent → List (List ℕ)
-list_lines list = map interval_line list ++ total_line (length list) ∷ []
 
 -- the lines that answer what is asked of a list: its intervals and their number, those of its first so many, or how many it has
 abbrev pub asked_lines : Asked → List Extent → List (List ℕ)
@@ -187,14 +169,6 @@ watch_reply state query = watch_by state (refused query) (query_form query)
 abbrev pub unwatch_reply : State → ℕ → Reply
 unwatch_reply state number = if has_watch state.watches number then record { lines = unwatched_line number ∷ []; after = state_unwatching state number }
     else unchanged state (refusal_lines (NoWatch number))
-
--- a line for each of some files
-abbrev pub record_lines : List FileEntry → List (List ℕ)
-record_lines files = map record_line files
-
--- a line for each of some files, and then how many they are
-abbrev pub listing_lines : List FileEntry → List (List ℕ)
-listing_lines files = record_lines files ++ total_line (length files) ∷ []
 
 -- a line for each surviving file, and then their number
 abbrev pub files_lines : Collection → List (List ℕ)

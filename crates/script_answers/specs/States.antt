@@ -11,16 +11,7 @@ use Rattle.collection.specs.Engines.{EngineContent}
 use Rattle.gcl_model.specs.Forms.{Form}
 use Rattle.script_answers.specs.Images.{Images}
 use Rattle.script_answers.specs.declared.limits.Limits.{Limits}
-
--- a query that is watched: the number of the watch, and the query's form
-pub record Watched : Type 0 where
-  pub number : ℕ
-  pub form : Form
-
--- the live watches in rising number, and the number that the next one gets
-pub record Watches : Type 0 where
-  pub live : List Watched
-  pub next : ℕ
+pub use Rattle.answer_text.specs.Watching.{Watched, Watches}
 
 -- What the lines so far leave: the collection, the address ranges of the slots of its index, what the files hold by name, and the live
 -- watches with the number of the next one. What each content is an image of stays the same throughout

@@ -8,6 +8,7 @@ use Rattle.live_version.specs.StandsFor.{StandsFor}
 use Rattle.script_answers.specs.States.{State}
 use Rattle.script_answers.specs.Answers.{answers, asks_query, state_after, names_kept_of, names_of}
 use Rattle.script_answers.specs.declared.limits.Limits.{Limits}
+pub use Rattle.answer_text.specs.Puts.{GetsPart}
 
 -- how a run ended, or a part of it
 pub data Ending : Type 0 where
@@ -37,13 +38,6 @@ pub record HoldsBut (names : List (List ℕ)) (files : Contents) (held : Option 
   pub contents : Contents
   pub is : held ≡ Some contents
   pub same : (name : List ℕ) → (contents name ≡ files name) ⊎ Contains names name
-
--- the sink got the beginning of a text, or all of it
-pub record GetsPart (old new : Option (List ℕ)) (text : List ℕ) : Type 0 where
-  pub part : List ℕ
-  pub rest : List ℕ
-  pub whole : text ≡ part ++ rest
-  pub written : Appends old new part
 
 -- how many of the lines that are not completed may be answered in part: the first one, where it asks a query
 abbrev pub begun : List Line → ℕ

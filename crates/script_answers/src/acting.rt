@@ -1,17 +1,18 @@
 ghost use Rattle.std.specs.Prelude.{◌≡◌, [], true, false, IfOk, IsErrOf, OnOk, OnErr};
 ghost use Rattle.outside.specs.Causes.{CountsFileFault, HasFileCause};
 ghost use Rattle.script_answers.specs.States.{State};
-ghost use Rattle.script_answers.specs.inner.Service.{IsAt, Unmade, watching_of};
+ghost use Rattle.script_answers.specs.inner.Service.{IsAt, Unmade};
+ghost use Rattle.answer_text.specs.Watching.{watching_of};
 ghost use Rattle.script_answers.specs.inner.Tasks.{CanAct, Does, IsNamedAction, IsReadByAction};
-ghost use Rattle.script_answers.specs.inner.Tasks.{action_kept, action_names, action_reply, merges};
+ghost use Rattle.script_answers.specs.inner.Tasks.{action_kept, action_names, action_reply};
+ghost use Rattle.answer_text.specs.Given.{merges};
 ghost use Rattle.script_answers.specs.inner.Telling.{ActsOn};
 
-use crate::action::Action;
-use crate::answer::Answer;
 use crate::changes::{add, delete};
 use crate::saving::{open, save};
 use crate::setting::Setting;
 use crate::watching::{unwatch, watch};
+use answer_text::{Action, Answer};
 use collection::Engine;
 use outside::{FileError, Files, Gate};
 use standing_query::WatchList;

@@ -6,14 +6,14 @@ ghost use Rattle.image_file.specs.Images.{CanBeSaved};
 ghost use Rattle.live_version.specs.StandsFor.{StandsFor};
 ghost use Rattle.script_answers.specs.States.{State, Keeps};
 ghost use Rattle.script_answers.specs.Answers.{content_reply, del_reply};
-ghost use Rattle.script_answers.specs.declared.action.Action.TheVariants.{Add};
+ghost use Rattle.answer_text.specs.declared.action.Action.TheVariants.{Add};
 ghost use Rattle.script_answers.specs.inner.Service.{IsAt, StepsOn};
 ghost use Rattle.script_answers.specs.inner.Tasks.{Follows, Gives, action_reply};
-ghost use Rattle.script_answers.specs.inner.Telling.{IsLocal};
+ghost use Rattle.answer_text.specs.Given.{IsLocal};
 
-use crate::answer::Answer;
 use crate::setting::Setting;
 use address_space::FileId;
+use answer_text::Answer;
 use change_search::edits_agree;
 use collection::{AddFault, DeleteFault, Engine};
 use outside::{FileError, Files, Loaded};

@@ -15,26 +15,21 @@
 #![tactic(auto)]
 
 mod acting;
-mod action;
-mod answer;
 mod changes;
 mod limits;
 mod merging;
-mod pages;
 mod progress;
 mod run_fault;
 mod saving;
 mod serving;
 mod setting;
 mod task;
-mod telling;
 mod watching;
-mod write;
 
+pub use answer_text::{PIECE, write_all};
 pub use limits::{BATCH_MOST, IMAGE_MOST, Limits, SCRIPT_MOST};
 pub use merging::merge_pending;
 pub use progress::Progress;
 pub use run_fault::RunFault;
 pub use serving::serve_held;
 pub use setting::Setting;
-pub use write::{PIECE, write_all};

@@ -9,13 +9,13 @@ ghost use Rattle.image_read.specs.Answers.{IsImageOf};
 ghost use Rattle.script_answers.specs.Images.{IsReading, image_of};
 ghost use Rattle.script_answers.specs.States.{State, Keeps};
 ghost use Rattle.script_answers.specs.Answers.{reading_reply};
-ghost use Rattle.script_answers.specs.declared.action.Action.TheVariants.{Save, Open};
+ghost use Rattle.answer_text.specs.declared.action.Action.TheVariants.{Save, Open};
 ghost use Rattle.script_answers.specs.inner.Service.{IsAt, StepsOn, Unmade};
 ghost use Rattle.script_answers.specs.inner.Tasks.{Follows, Gives, IsReadByAction, action_reply};
-ghost use Rattle.script_answers.specs.inner.Telling.{IsLocal};
+ghost use Rattle.answer_text.specs.Given.{IsLocal};
 
-use crate::answer::Answer;
 use crate::setting::Setting;
+use answer_text::Answer;
 use collection::{AdoptFault, Engine};
 use gcl_model::Bytes;
 use image_file::image;

@@ -8,16 +8,14 @@ ghost use Rattle.script_answers.specs.inner.Service.{Goes, Halts, CountsFiles, C
 ghost use Rattle.script_answers.specs.inner.Tasks.{IsActionOf, IsNamedAction, IsNamedTask, IsTaskOf, action_kept, action_names, completes, task_kept, task_names};
 
 use crate::acting::act;
-use crate::action::Action;
-use crate::answer::{Answer, put_answer};
 use crate::merging::merge_pending;
-use crate::pages::write_answers;
 use crate::progress::Progress;
 use crate::run_fault::RunFault;
 use crate::setting::Setting;
 use crate::task::{Task, read_task};
-use crate::telling::{pass_before, put_changes, since};
-use crate::write::write_all;
+use answer_text::{
+    Action, Answer, pass_before, put_answer, put_changes, since, write_all, write_answers,
+};
 use collection::Opened;
 use outside::{Files, Gate, Sink};
 use query_lanes::{Ask, answer_batch};

@@ -6,10 +6,11 @@ ghost use Rattle.gcl_model.specs.WellFormed.{IsWellFormed};
 ghost use Rattle.query_lanes.specs.declared.asks.Asked.{Asked};
 ghost use Rattle.script_answers.specs.Answers.{query_lines};
 ghost use Rattle.query_lanes.specs.Answers.{answer_by};
-ghost use Rattle.script_answers.specs.inner.Asks.{IsAskOf, command_asking, found_lines};
+ghost use Rattle.script_answers.specs.inner.Asks.{IsAskOf, command_asking};
+ghost use Rattle.answer_text.specs.Texts.{found_lines};
 ghost use Rattle.script_answers.specs.inner.Tasks.{IsNamedTask, IsTaskFor, IsTaskOf};
 
-use crate::action::Action;
+use answer_text::Action;
 use gcl_model::{Bytes, Expr};
 use gcl_parser::{ParseFault, QueryFault, parse};
 use query_lanes::{Ask, Asked};

@@ -5,10 +5,10 @@ ghost use Rattle.gcl_model.specs.Limits.{version_end};
 ghost use Rattle.gcl_model.specs.WellFormed.{IsWellFormed};
 ghost use Rattle.script_answers.specs.Answers.{form_reply, unwatch_reply, watch_reply};
 ghost use Rattle.script_answers.specs.States.{State};
-ghost use Rattle.script_answers.specs.inner.Service.{watching_of};
+ghost use Rattle.answer_text.specs.Watching.{watching_of};
 ghost use Rattle.script_answers.specs.inner.Tasks.{IsWatchReply, WatchesOn};
 
-use crate::answer::Answer;
+use answer_text::Answer;
 use gcl_model::Expr;
 use gcl_parser::{ParseFault, parse};
 use script_lang::Refusal;

@@ -14,13 +14,9 @@ use Rattle.query_lanes.specs.declared.asks.Asked.TheVariants.{All, First, Number
 use Rattle.query_lanes.specs.declared.asks.Ask.{Ask}
 use Rattle.query_lanes.specs.declared.asks.Found.{Found}
 use Rattle.query_lanes.specs.declared.asks.Found.TheVariants.{List as Members, Total, Refused}
-use Rattle.script_answers.specs.Answers.{list_lines, query_lines, refusal_lines}
-
--- the lines of what was found of a query
-abbrev pub found_lines : Found → List (List ℕ)
-found_lines (Members list) = list_lines list
-found_lines (Total total) = total_line total ∷ []
-found_lines (Refused fault) = refusal_lines (Query fault)
+use Rattle.answer_text.specs.Texts.{list_lines, refusal_lines}
+use Rattle.script_answers.specs.Answers.{query_lines}
+pub use Rattle.answer_text.specs.Texts.{found_lines}
 
 -- the lines that answer a query over a text
 abbrev pub ask_lines : Text → Ask → List (List ℕ)

@@ -16,7 +16,8 @@ use Rattle.query_lanes.specs.Readers.{AreOf}
 use Rattle.query_lanes.specs.declared.asks.Ask.{Ask}
 use Rattle.script_lang.specs.Lines.{Line, text_of_lines}
 use Rattle.script_lang.specs.Answers.{is_refusal}
-use Rattle.script_answers.specs.States.{State, Keeps, Watched, Watches}
+use Rattle.script_answers.specs.States.{State, Keeps}
+use Rattle.answer_text.specs.Watching.{Watched, Watches}
 use Rattle.script_answers.specs.Answers.{answers, state_after, AllAnswered, AreRead}
 use Rattle.script_answers.specs.Stopped.{Ending, HoldsBut, IsStopped, finished, write_failed, files_failed, out_of_memory}
 use Rattle.script_answers.specs.inner.Asks.{AreAsked}
@@ -24,6 +25,7 @@ use Rattle.script_answers.specs.declared.limits.Limits.{Limits}
 use Rattle.script_answers.specs.declared.progress.Progress.{Progress}
 use Rattle.script_answers.specs.declared.run_fault.RunFault.{RunFault}
 use Rattle.script_answers.specs.declared.run_fault.RunFault.TheVariants.{Write, Files, NoMemory}
+pub use Rattle.answer_text.specs.Watching.{watched_of, watching_of}
 
 -- How a run stands: how many lines are completed, what the files hold, the engine, whether a merge is pending, the watches, and whether a
 -- refusal is among the answers
@@ -43,14 +45,6 @@ stand held opened progress = record { completed = opened.lines; held = held; eng
 pub record IsAt (held : Option Contents) (engine : EngineContent) (pending : Bool) (state : State) : Type 0 where
   pub files : held ≡ Some state.files
   pub keeps : Keeps engine pending state
-
--- a watch, by the form of its expression
-abbrev pub watched_of : Watch → Watched
-watched_of watch = record { number = watch.id; form = form_of watch.expr }
-
--- what a list of watches says: the numbers, and the forms of the expressions
-abbrev pub watching_of : WatchListContent → Watches
-watching_of list = record { live = map watched_of list.live; next = list.next }
 
 -- the same of a run that stands so, and the watches are those of the state
 pub record IsAtStand (here : Stand) (state : State) : Type 0 where

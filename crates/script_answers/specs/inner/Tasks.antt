@@ -11,21 +11,23 @@ use Rattle.standing_query.specs.Watches.{AreWellFormedWatches, WatchListContent}
 use Rattle.outside.specs.Contents.{Contents}
 use Rattle.script_lang.specs.Lines.{Line}
 use Rattle.script_lang.specs.Answers.{file_line, gone_line, merging_line, opened_line, saved_line, shards_line, watch_line, unwatched_line}
-use Rattle.script_answers.specs.Answers.{Reply, add_reply, answer, asks_query, del_reply, files_lines, listing_lines, names_kept_of_line, names_of_line, open_reply, refusal_lines, save_reply, state_merged, telling, unchanged, unwatch_reply, watch_reply, IsRead}
+use Rattle.script_answers.specs.Answers.{Reply, add_reply, answer, asks_query, del_reply, files_lines, names_kept_of_line, names_of_line, open_reply, save_reply, state_merged, telling, unchanged, unwatch_reply, watch_reply, IsRead}
+use Rattle.answer_text.specs.Texts.{listing_lines, refusal_lines}
 use Rattle.script_answers.specs.Images.{IsReading}
 use Rattle.script_answers.specs.States.{State, Keeps}
 use Rattle.script_lang.specs.declared.commands.Command.{Command}
 use Rattle.script_lang.specs.declared.commands.Command.TheVariants.{Blank, Add as ToAdd, Del, Files as ToList, Merge as ToMerge, Shards, Save as ToSave, Load, Watch as ToWatch, Unwatch as ToUnwatch, Wrong}
 use Rattle.script_lang.specs.declared.refusals.Refusal.TheVariants.{Command as NoCommand}
 use Rattle.script_answers.specs.inner.Asks.{AsksLine, IsAskOf}
-use Rattle.script_answers.specs.inner.Service.{watching_of}
-use Rattle.script_answers.specs.declared.action.Action.{Action}
-use Rattle.script_answers.specs.declared.action.Action.TheVariants.{Add, Delete, ListFiles, Merge, CountSlots, Save, Open, Watch, Unwatch, Refuse}
-use Rattle.script_answers.specs.declared.answer.Answer.{Answer}
-use Rattle.script_answers.specs.declared.answer.Answer.TheVariants.{Added, Gone, Files, Merging, Slots, Saved, Opened, Watching, Unwatched, Refused}
+use Rattle.answer_text.specs.Watching.{watching_of}
+use Rattle.answer_text.specs.declared.action.Action.{Action}
+use Rattle.answer_text.specs.declared.action.Action.TheVariants.{Add, Delete, ListFiles, Merge, CountSlots, Save, Open, Watch, Unwatch, Refuse}
+use Rattle.answer_text.specs.declared.answer.Answer.{Answer}
+use Rattle.answer_text.specs.declared.answer.Answer.TheVariants.{Added, Gone, Files, Merging, Slots, Saved, Opened, Watching, Unwatched, Refused}
 use Rattle.script_answers.specs.declared.task.Task.{Task}
 use Rattle.script_answers.specs.declared.task.Task.TheVariants.{Nothing, Ask, Act}
 use Rattle.script_answers.specs.declared.limits.Limits.{Limits}
+pub use Rattle.answer_text.specs.Given.{answer_lines, edits, is_change, merges}
 
 -- the reply to a line that asks for this, without what an edit changed for the watches
 abbrev pub action_reply : Limits → State → Action → Option Reply
@@ -40,13 +42,6 @@ action_reply limits state (Watch query) = Some (watch_reply state query)
 action_reply limits state (Unwatch number) = Some (unwatch_reply state number)
 action_reply limits state (Refuse refusal) = Some (unchanged state (refusal_lines refusal))
 
--- whether it may change the collection, which the watches are told
-abbrev pub edits : Action → Bool
-edits (Add name) = true
-edits (Delete id) = true
-edits (Open name) = true
-edits _ = false
-
 -- a reply, and what it changed for the watches where an edit was asked for
 abbrev pub telling_where : Bool → State → Reply → Reply
 telling_where asked state reply = if asked then telling state reply else reply
@@ -54,11 +49,6 @@ telling_where asked state reply = if asked then telling state reply else reply
 -- the whole reply to a line that asks for this
 abbrev pub told_reply : Limits → State → Action → Option Reply
 told_reply limits state action = option_map (telling_where (edits action) state) (action_reply limits state action)
-
--- whether a merge is pending after it
-abbrev pub merges : Action → Bool
-merges Merge = true
-merges _ = false
 
 -- the names that it asks the files for
 abbrev pub action_names : Action → List (List ℕ)
@@ -138,27 +128,6 @@ task_names _ = []
 abbrev pub task_kept : Task → List (List ℕ)
 task_kept (Act action) = action_kept action
 task_kept _ = []
-
--- the lines of an answer; those of a list of files are of the files of this version
-abbrev pub answer_lines : VersionContent → Answer → List (List ℕ)
-answer_lines version (Added id first last) = file_line id first last ∷ []
-answer_lines version (Gone id) = gone_line id ∷ []
-answer_lines version Files = listing_lines (files_of version.slots)
-answer_lines version Merging = merging_line ∷ []
-answer_lines version (Slots count) = shards_line count ∷ []
-answer_lines version (Saved bytes) = saved_line bytes ∷ []
-answer_lines version (Opened files) = opened_line files ∷ []
-answer_lines version (Watching number) = watch_line number ∷ []
-answer_lines version (Unwatched number) = unwatched_line number ∷ []
-answer_lines version (Refused refusal) = refusal_lines refusal
-
--- it says that the collection or a file was changed: such a line is completed once that is done
-abbrev pub is_change : Answer → Bool
-is_change (Added id first last) = true
-is_change (Gone id) = true
-is_change (Saved bytes) = true
-is_change (Opened files) = true
-is_change _ = false
 
 -- how many lines are completed by the change that it says
 abbrev pub completes : Answer → ℕ

@@ -2,8 +2,8 @@ use Rattle.std.proofs.Common.{◌≡◌, refl, subst, rules}
 use Rattle.std.proofs.lemmas.Result.{IfOk-weaker}
 use Rattle.script_answers.specs.Answers.{unchanged, unwatch_reply}
 use Rattle.script_answers.specs.inner.Tasks.{IsReadByAction}
-use Rattle.script_answers.specs.declared.action.Action.{Action}
-use Rattle.script_answers.specs.declared.action.Action.TheVariants.{Add, Delete, ListFiles, Merge, CountSlots, Save, Open, Watch, Unwatch, Refuse}
+use Rattle.answer_text.specs.declared.action.Action.{Action}
+use Rattle.answer_text.specs.declared.action.Action.TheVariants.{Add, Delete, ListFiles, Merge, CountSlots, Save, Open, Watch, Unwatch, Refuse}
 use Rattle.script_answers.proofs.WatchReplies.{does_attend, does_other, listed, slots_counted}
 use Rattle.script_answers.proofs.acting.act.Goals as goal
 

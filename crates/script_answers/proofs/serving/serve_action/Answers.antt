@@ -4,21 +4,22 @@ use Rattle.manifest_publish.specs.Accounts.{Account}
 use Rattle.gcl_model.proofs.Cases.{on_err}
 use Rattle.script_answers.specs.Faults.{of_files, of_write}
 use Rattle.script_answers.specs.States.{Keeps}
-use Rattle.script_answers.specs.Stopped.{GetsPart}
+use Rattle.answer_text.specs.Puts.{GetsPart}
 use Rattle.script_answers.specs.declared.run_fault.RunFault.TheVariants.{NoMemory}
 use Rattle.script_answers.specs.inner.Service.{fault_ending}
 use Rattle.script_lang.specs.Lines.{text_of_lines}
 use Rattle.std.proofs.lemmas.Grind.{flat_map-append}
-use Rattle.script_answers.specs.inner.Tasks.{Does, action_reply, answer_lines}
+use Rattle.script_answers.specs.inner.Tasks.{Does, action_reply}
+use Rattle.answer_text.specs.Given.{answer_lines, IsLocal, since}
 use Rattle.std.specs.Prelude.{IfSome}
 use Rattle.collection.specs.Engines.{last_of}
-use Rattle.script_answers.specs.inner.Telling.{IsLocal, since, told_since}
+use Rattle.answer_text.specs.Watching.{told_since}
 use Rattle.script_answers.proofs.LocalEdits.{local_since}
 use Rattle.script_answers.proofs.ActionSteps.{done_told, halts_made, halts_unmade, halts_unsaid, serves_action}
-use Rattle.script_answers.proofs.PutLemmas.{all_behind, part_behind}
+use Rattle.answer_text.proofs.PutLemmas.{all_behind, part_behind}
 use Rattle.script_answers.proofs.Scripts.{all_held}
 use Rattle.script_answers.proofs.Service.{ending_is, lost_write, named_fault, no_files}
-use Rattle.script_answers.proofs.TellingLemmas.{refused_alone, told-plain}
+use Rattle.answer_text.proofs.ToldLemmas.{refused_alone, told-plain}
 use Rattle.script_answers.proofs.serving.serve_action.Goals as goal
 
 pub returns-in_err-merge_pending-clause-halts : goal.returns-in_err-merge_pending-clause-halts

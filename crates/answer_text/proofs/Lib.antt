@@ -1,0 +1,5 @@
+-- Lemmas.
+pub mod LineLemmas
+pub mod PageLemmas
+pub mod PutLemmas
+pub mod ToldLemmas

@@ -1,0 +1,4 @@
+pub mod Given
+pub mod Puts
+pub mod Texts
+pub mod Watching

@@ -1,7 +1,0 @@
-use Rattle.std.proofs.Common.{sym, ◌∙◌, ap}
-use Rattle.live_version.specs.Contents.{files_of}
-use Rattle.script_answers.proofs.Replies.{listing_plain}
-use Rattle.script_answers.proofs.answer.Answer.is_refused.Goals as goal
-
-pub returns-in-Files : goal.returns-in-Files
-returns-in-Files c = λ version. rw c.in-Files.is (sym (listing_plain (files_of version.slots)))
