@@ -47,7 +47,11 @@ fn main(rt: HostRuntime) -> ExitCode {
         Ok(words) => words,
         Err(_) => return refuse(&rt, "gclgrep: out of memory"),
     };
-    let mut files = input::WithInput::new(StdFiles::new(&rt), StdSource::new(&rt, rt.stdin()));
+    let mut files = input::WithInput::new(
+        StdFiles::new(&rt),
+        StdSource::new(&rt, rt.stdin()),
+        input::SystemOpener::new(&rt),
+    );
     let mut sink = StdSink::new(&rt, rt.stdout());
     answer(
         &rt,

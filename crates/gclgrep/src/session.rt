@@ -6,8 +6,8 @@ use crate::help::{HELP, USAGE, VERSION};
 use crate::reader_gone::ReaderGone;
 use crate::tell::{Says, say};
 use gcl_model::{Ledger, NoLedger, Steps};
-use grep_run::{Context, Ended, FileStop, Remarks, Status, end_number, run};
-use outside::{Files, Sink};
+use grep_run::{Context, Ended, FileStop, Remarks, SharedFiles, Status, end_number, run};
+use outside::Sink;
 use std::alloc::Global;
 use std::marker::Brand;
 use std::process::ExitCode;
@@ -16,7 +16,7 @@ use std::sync::ledger::Blank;
 use std::thread::Threads;
 
 /// Runs with a counter of look-ups that keeps nothing.
-fn run_uncounted<B: ledger::Ledger, R: Threads + Sync, F: Files, K: Sink, N: Remarks>(
+fn run_uncounted<B: ledger::Ledger, R: Threads + Sync, F: SharedFiles, K: Sink, N: Remarks>(
     context: &Context<'_, R>,
     words: &[String],
     files: &mut F,
@@ -73,7 +73,7 @@ fn tell_file<R: Eprint>(rt: &R, stop: FileStop) {
 }
 
 /// Does what the words ask for, says on standard error what was wrong, and gives the exit status.
-pub fn answer<R: Eprint + Threads + Sync, F: Files, K: ReaderGone>(
+pub fn answer<R: Eprint + Threads + Sync, F: SharedFiles, K: ReaderGone>(
     rt: &R,
     alloc: Global,
     words: &[String],

@@ -1,4 +1,4 @@
-use crate::input::WithInput;
+use crate::input::{Opener, WithInput};
 use crate::reader_gone::ReaderGone;
 use crate::session::answer;
 use gcl_model::Bytes;
@@ -147,6 +147,24 @@ fn files(alloc: Global, fails: Vec<u64>) -> Result<MemFiles, AllocError> {
     Ok(MemFiles::new(alloc, entries, fails))
 }
 
+/// Opens the files again for each thread, or for none.
+#[derive(Drop)]
+struct MemOpener {
+    alloc: Global,
+    opens: bool,
+}
+
+impl Opener for MemOpener {
+    type Opened = MemFiles;
+
+    fn open(&self) -> Option<MemFiles> {
+        if !self.opens {
+            return None;
+        }
+        files(self.alloc, Vec::new(self.alloc)).ok()
+    }
+}
+
 fn words_of(alloc: Global, texts: &[&str]) -> Result<Vec<String>, AllocError> {
     let mut words = Vec::new(alloc);
     for text in texts {
@@ -160,7 +178,7 @@ fn each_row_is_written_as_it_must(rt: HostRuntime) -> Result<(), Fail> {
     let alloc = rt.alloc();
     for row in &ROWS {
         let words = words_of(alloc, row.words)?;
-        let mut files = files(alloc, Vec::new(alloc))?;
+        let mut files = with_input(alloc, 0, 0, true)?;
         let mut sink = MemSink::new(alloc, Vec::new(alloc));
         let status = answer(&rt, alloc, words.as_slice(), &mut files, &mut sink);
         let written = str::from_utf8(sink.written()).unwrap_or("no text");
@@ -245,11 +263,12 @@ fn with_input(
     alloc: Global,
     file: u64,
     source: u64,
-) -> Result<WithInput<MemFiles, MemSource>, AllocError> {
+    opens: bool,
+) -> Result<WithInput<MemFiles, MemSource, MemOpener>, AllocError> {
     let files = files(alloc, call(alloc, file)?)?;
     let bytes = Bytes::copy_of(alloc, b"to be")?;
     let source = MemSource::new(alloc, bytes, call(alloc, source)?);
-    Ok(WithInput::new(files, source))
+    Ok(WithInput::new(files, source, MemOpener { alloc, opens }))
 }
 
 #[test]
@@ -259,7 +278,7 @@ fn each_call_of_sink_files_and_source_fails_in_turn(rt: HostRuntime) -> Result<(
         let words = words_of(alloc, &[threads, "-c", "\"to\"", "a", "-", "e"])?;
         for row in &FAILING {
             let [write, load, read] = row.calls;
-            let mut files = with_input(alloc, load, read)?;
+            let mut files = with_input(alloc, load, read, false)?;
             let mut sink = MemSink::new(alloc, call(alloc, write)?);
             let status = answer(&rt, alloc, words.as_slice(), &mut files, &mut sink);
             let written = str::from_utf8(sink.written()).unwrap_or("no text");

@@ -1,5 +1,4 @@
 pub mod VisitLemmas
-pub mod WorkLemmas
 pub mod AheadLemmas
 pub mod FileLemmas
 pub mod DefineLemmas

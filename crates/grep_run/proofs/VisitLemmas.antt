@@ -137,3 +137,13 @@ all_of told r names i summary old new faults f steps s so_far all = record {
     whole : (i ≡ length names) ⊎ ((r.mode ≡ Quiet) × (summary.found ≡ true)) → (length so_far.visits ≡ length names) ⊎ ((r.mode ≡ Quiet) × (summary.found ≡ true))
     whole (inl is) = inl (so_far.count_is ∙ is)
     whole (inr quiet) = inr quiet
+
+-- nothing more was written
+pub begun_so_far : (told : Option Contents) (r : Request) (names : List (List ℕ)) (i : ℕ) (summary : Summary) (old new : Option (List ℕ)) (faults f steps s : ℕ) →
+    SoFar told r names i summary old new faults f steps s → AreBegun told r names old new
+begun_so_far told r names i summary old new faults f steps s so_far = record {
+  visits = so_far.visits;
+  are = so_far.are;
+  part = part-as old new (text_of_visits r so_far.visits ++ []) (text_of_visits r so_far.visits) (append-nil (text_of_visits r so_far.visits))
+      (record { left = []; moves = moves-written old new (text_of_visits r so_far.visits) [] so_far.written });
+}

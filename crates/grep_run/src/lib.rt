@@ -4,23 +4,25 @@
 //! searched, one after another.
 #![tactic(auto)]
 
+mod ahead;
 mod asked;
-mod batch;
+mod beside;
 mod buffer;
 mod context;
 mod defining;
 mod definitions_file;
 mod fault;
 mod files;
-mod loading;
+mod hand;
 mod one_file;
 mod outcome;
 mod remarks;
 mod room_sink;
 mod running;
 mod searching;
-mod sharing;
+mod shared_files;
 mod status;
+mod taking;
 mod tally;
 mod wish;
 mod work;
@@ -36,6 +38,7 @@ pub use outcome::{Outcome, Summary};
 pub use remarks::{NoRemarks, Remarks};
 pub use running::{Ended, end_number, run};
 pub use searching::search;
+pub use shared_files::SharedFiles;
 pub use status::{Status, number};
 pub use tally::{ElementTally, Tally, TermTally};
 pub use wish::Wish;

@@ -9,10 +9,11 @@ use crate::defining::{DefineStop, define_all};
 use crate::definitions_file::{FileStop, file_definitions};
 use crate::remarks::Remarks;
 use crate::searching::search;
+use crate::shared_files::SharedFiles;
 use crate::status::{Status, number};
 use gcl_model::{Bytes, Ledger, Steps};
 use grep_words::{SearchWords, Task, task_of};
-use outside::{Files, Sink};
+use outside::Sink;
 use query_names::Definitions;
 use std::alloc::Global;
 use std::thread::Threads;
@@ -65,7 +66,7 @@ fn define_both<N: Remarks>(
 }
 
 /// Searches as the words ask for.
-fn search_by_words<R: Threads + Sync, F: Files, K: Sink, S: Ledger, N: Remarks>(
+fn search_by_words<R: Threads + Sync, F: SharedFiles, K: Sink, S: Ledger, N: Remarks>(
     context: &Context<'_, R>,
     words: &SearchWords,
     files: &mut F,
@@ -114,7 +115,7 @@ fn search_by_words<R: Threads + Sync, F: Files, K: Sink, S: Ledger, N: Remarks>(
 /// Does what the words of the command line ask for: all that the program does, but for the texts of `--help` and `--version`.
 ///
 /// Words outside the grammar, and a definition or a query that is refused, write nothing; the search is that of `search`.
-pub fn run<R: Threads + Sync, F: Files, K: Sink, S: Ledger, N: Remarks>(
+pub fn run<R: Threads + Sync, F: SharedFiles, K: Sink, S: Ledger, N: Remarks>(
     context: &Context<'_, R>,
     words: &[String],
     files: &mut F,

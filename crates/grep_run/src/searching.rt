@@ -7,25 +7,26 @@ ghost use Rattle.grep_run.specs.Visits.{AreBegun, AreSearched};
 ghost use Rattle.grep_run.specs.Searches.{Ends, FilesEnd, IsRefusal, TextEnds, request_with};
 
 use crate::asked::{Asked, Query};
-use crate::batch::search_beside;
+use crate::beside::search_beside;
 use crate::context::Context;
 use crate::fault::SearchFault;
 use crate::files::search_files;
 use crate::outcome::Summary;
 use crate::remarks::Remarks;
+use crate::shared_files::SharedFiles;
 use crate::status::{Status, end_of, is_quiet};
 use crate::tally::Tally;
 use crate::wish::Wish;
 use file_answers::Asking;
 use gcl_model::{Bytes, Expr, Ledger, Steps};
 use gcl_parser::{ParseFault, parse};
-use outside::{Files, Sink};
+use outside::Sink;
 use query_names::{NameFault, put_in};
 use std::thread::Threads;
 
 /// Searches the files of these names, side by side where that is asked for. Where the first answer ends the search, one file comes after
 /// another, so that no file behind it is gone to.
-fn search_each<R: Threads + Sync, F: Files, K: Sink, S: Ledger, N: Remarks>(
+fn search_each<R: Threads + Sync, F: SharedFiles, K: Sink, S: Ledger, N: Remarks>(
     context: &Context<'_, R>,
     files: &mut F,
     sink: &mut K,
@@ -49,7 +50,7 @@ fn search_each<R: Threads + Sync, F: Files, K: Sink, S: Ledger, N: Remarks>(
 }
 
 /// Searches the files of these names, and says how it ended.
-fn search_for<R: Threads + Sync, F: Files, K: Sink, S: Ledger, N: Remarks>(
+fn search_for<R: Threads + Sync, F: SharedFiles, K: Sink, S: Ledger, N: Remarks>(
     context: &Context<'_, R>,
     files: &mut F,
     sink: &mut K,
@@ -72,7 +73,7 @@ fn search_for<R: Threads + Sync, F: Files, K: Sink, S: Ledger, N: Remarks>(
 }
 
 /// Searches the files for an expression, and tells what they have of the words that it names.
-fn search_expr<R: Threads + Sync, F: Files, K: Sink, S: Ledger, N: Remarks>(
+fn search_expr<R: Threads + Sync, F: SharedFiles, K: Sink, S: Ledger, N: Remarks>(
     context: &Context<'_, R>,
     files: &mut F,
     sink: &mut K,
@@ -107,7 +108,7 @@ fn search_expr<R: Threads + Sync, F: Files, K: Sink, S: Ledger, N: Remarks>(
 }
 
 /// Searches the files for a query in which all names are put in.
-fn search_text<R: Threads + Sync, F: Files, K: Sink, S: Ledger, N: Remarks>(
+fn search_text<R: Threads + Sync, F: SharedFiles, K: Sink, S: Ledger, N: Remarks>(
     context: &Context<'_, R>,
     files: &mut F,
     sink: &mut K,
@@ -134,7 +135,7 @@ fn search_text<R: Threads + Sync, F: Files, K: Sink, S: Ledger, N: Remarks>(
 ///
 /// A query that is refused reads and writes nothing. A file that cannot be loaded, or is longer than a file may be, is left out, and the
 /// search goes on; a write that fails ends it. What was written is the beginning of the texts of the files that were searched, in order.
-pub fn search<R: Threads + Sync, F: Files, K: Sink, S: Ledger, N: Remarks>(
+pub fn search<R: Threads + Sync, F: SharedFiles, K: Sink, S: Ledger, N: Remarks>(
     context: &Context<'_, R>,
     files: &mut F,
     sink: &mut K,

@@ -1,9 +1,10 @@
 ghost use Rattle.std.specs.Prelude.{◌≡◌, ◌≤◌, ◌+◌, ◌*◌, length, IfSome};
 ghost use Rattle.gcl_model.specs.Cost.{cost};
 ghost use Rattle.gcl_model.specs.FormOf.{form_of};
+ghost use Rattle.gcl_model.specs.Limits.{most_file};
 ghost use Rattle.gcl_model.specs.WellFormed.{IsWellFormed};
 ghost use Rattle.grep_run.specs.Requests.{request_of};
-ghost use Rattle.grep_run.specs.inner.Works.{IsFresh, IsSound, visit_at};
+ghost use Rattle.grep_run.specs.inner.Works.{IsAnswer};
 
 use crate::one_file::search_bytes;
 use crate::room_sink::RoomSink;
@@ -25,30 +26,36 @@ pub(crate) struct Answered {
 /// A file that was gone to.
 #[derive(Drop)]
 pub(crate) enum Gone {
-    /// Its bytes. Behind its search its text is too long to be held, and is made as it is written.
-    Loaded(Bytes),
     /// What its search gave. Its bytes were let go, and stand in clauses alone.
-    Searched(Snapshot<Bytes>, Answered),
+    Searched(Snapshot<Vec<u8>>, Answered),
+    /// Its bytes. Its text is too long to be held, and is made as it is written.
+    Loaded(Bytes),
     TooLong,
-    Failed,
 }
 
-impl Gone {
-    /// How many bytes of it are held to be searched.
-    pub(crate) fn size(&self) -> usize {
-        match self {
-            Gone::Loaded(bytes) => bytes.len(),
-            Gone::Searched(_, _) | Gone::TooLong | Gone::Failed => 0,
-        }
-    }
-}
-
-/// A file that is searched beside others.
+/// A file that was gone to before its turn.
 #[derive(Drop)]
 pub(crate) struct Work {
+    /// How many names are in front of its own.
+    pub(crate) place: usize,
     pub(crate) name: Bytes,
     pub(crate) gone: Gone,
 }
+
+impl Work {
+    /// As how many bytes it counts until it is written.
+    pub(crate) fn size(&self) -> usize {
+        let held = match &self.gone {
+            Gone::Searched(_, answered) => answered.text.len(),
+            Gone::Loaded(bytes) => bytes.len(),
+            Gone::TooLong => 0,
+        };
+        held.saturating_add(WORK)
+    }
+}
+
+/// As how many bytes a file counts next to its text.
+const WORK: usize = 256;
 
 /// What is the text of a file?
 #[derive(Clone, Copy)]
@@ -91,23 +98,16 @@ impl Question for TextOf<'_> {
     }
 }
 
-/// Searches a file that was loaded.
-pub(crate) fn answer(alloc: Global, wish: &Wish<'_>, work: &mut Work)
+/// Searches a file that was loaded; None where there is no room for its text.
+pub(crate) fn answer(alloc: Global, wish: &Wish<'_>, name: &[u8], bytes: &[u8]) -> Option<Answered>
     requires well_formed { IsWellFormed (form_of wish.now.asking.expr.now) }
-    requires fresh { IsFresh work.old.gone }
-    ensures visit { visit_at work.new ≡ visit_at work.old }
-    ensures sound { IsSound (request_of wish.now) work.new }
+    requires short { length bytes.now ≤ most_file }
+    ensures { IfSome result (λ answered. IsAnswer (request_of wish.now) name.now bytes.now answered) }
 {
-    let Gone::Loaded(bytes) = &work.gone else {
-        return;
-    };
-    let answer = uncounted(&TextOf {
+    uncounted(&TextOf {
         alloc,
         wish,
-        name: work.name.as_slice(),
-        bytes: bytes.as_slice(),
-    });
-    if let Some(answered) = answer {
-        work.gone = Gone::Searched(Snapshot::of(bytes), answered);
-    }
+        name,
+        bytes,
+    })
 }
