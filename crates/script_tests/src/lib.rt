@@ -1,8 +1,8 @@
 //! Tests of the public calls of the crates that read scripts and words, make a corpus and answer batches.
 //!
 //! They stand apart from those crates, since a crate that has tests is proved twice. `script` is of `script_lang`,
-//! `corpus` of `made_corpus`, `options` of `command_words`, `batches` and `batch_pages` of `query_lanes`, and `readers` of
-//! `query_search`.
+//! `corpus` of `made_corpus`, `options` of `command_words`, `batches` and `batch_pages` of `query_lanes`, and `readers`
+//! and `prefixes` of `query_search`.
 //!
 //! Beside them there are `fixtures`: what several tests begin with. Of an engine of no file with four readers each
 //! reader is of that engine.
@@ -17,6 +17,8 @@ mod corpus;
 pub mod fixtures;
 #[cfg(test)]
 mod options;
+#[cfg(test)]
+mod prefixes;
 #[cfg(test)]
 mod readers;
 #[cfg(test)]

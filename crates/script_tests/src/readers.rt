@@ -91,7 +91,11 @@ fn engine_of<R: Wait>(rt: &R, alloc: Global, bytes: &[u8]) -> Result<Engine, All
 }
 
 /// A new search of the engine's version.
-fn search_of(alloc: Global, engine: &Engine, expr: &Arc<Expr>) -> Result<Search, AllocError>
+pub(crate) fn search_of(
+    alloc: Global,
+    engine: &Engine,
+    expr: &Arc<Expr>,
+) -> Result<Search, AllocError>
     requires { IsWellFormed (form_of expr.now.value) }
 {
     let pass = engine.pass()?;
@@ -99,7 +103,11 @@ fn search_of(alloc: Global, engine: &Engine, expr: &Arc<Expr>) -> Result<Search,
 }
 
 /// All that is to come, by pages of this size.
-fn listed(alloc: Global, search: &mut Search, size: u64) -> Result<IntervalList, AllocError> {
+pub(crate) fn listed(
+    alloc: Global,
+    search: &mut Search,
+    size: u64,
+) -> Result<IntervalList, AllocError> {
     let mut all = IntervalList::new(alloc);
     for _page in 0..10_000u64 {
         let page = search.page(alloc, size)?;
