@@ -1,7 +1,9 @@
 #!/usr/bin/env bash
-# Batches of queries over a text of 50 MB, less the time of adding it, as ratios of one run: 1,000 queries of about a millisecond each with
-# four readers to those with one (target 0.4 on four processors, 0.65 on two), 10,000 cheap ones likewise (1.3), and a batch beside a merge
-# of the 50 MB to the same batch alone (1.5). It makes its texts.
+# Batches of queries over a text of 50 MB, as ratios of one run: 1,000 queries of about a millisecond each with four readers to those with one
+# (target 0.4 on four processors, 0.65 on two), 10,000 cheap ones likewise (1.3), and a batch beside a merge of the 50 MB to the same batch
+# alone (1.5). It makes its texts. Four programs hold the text, so that lines are timed without adding it: they are asked in turn, and the
+# quickest of several times counts. Asked at the same time, they tell how many processors the machine lends: where other work takes some, the
+# first ratio says little of the program.
 . "$(dirname "$0")/common.sh"
 need_gclq
 python3 - "$work" <<'P'
@@ -20,13 +22,52 @@ for name, size in (("most", 42), ("rest", 8)):
             written += len(line)
 P
 cd "$work"
-# the time of some lines behind the two adds and these words
-script() { printf 'add most\nadd rest\n'; printf '%s' "$1"; for _ in $(seq "$2"); do printf '%s\n' "$3"; done; }
-seconds() { script "$1" "$2" "$3" > lines; read -r all _ <<< "$(measure lines "$program" --readers "$4")"; awk -v a="$all" -v b="$added" 'BEGIN { print a - b }'; }
-script '' 0 '' > adds
-read -r added _ <<< "$(measure adds "$program")"
-printf 'added in %.2f s on %s processors\n' "$added" "$(nproc)"
-compare() { awk -v a="$1" -v b="$2" -v what="$3" -v target="$4" 'BEGIN { printf "%s: %.3f s to %.3f s: ratio %.2f (target %s)\n", what, a, b, a / b, target }'; }
-compare "$(seconds '' 1000 'count "great small"' 4)" "$(seconds '' 1000 'count "great small"' 1)" '1,000 phrases, four readers to one' '0.4, on two processors 0.65'
-compare "$(seconds '' 10000 'count "rare"' 4)" "$(seconds '' 10000 'count "rare"' 1)" '10,000 rare words, four readers to one' 1.3
-compare "$(seconds $'merge\n' 64 'count "of the"' 4)" "$(seconds '' 64 'count "of the"' 4)" 'a batch beside a merge to the batch alone' 1.5
+python3 - "$program" <<'P'
+import os, subprocess, sys, time
+from asking import ask
+
+def start(readers):
+    run = subprocess.Popen([sys.argv[1], "--readers", str(readers)], stdin=subprocess.PIPE, stdout=subprocess.PIPE)
+    ask(run, "add most")
+    ask(run, "add rest")
+    return run
+
+def send(run, query, times, before=""):
+    run.stdin.write((before + f"{query}\n" * times).encode())
+    run.stdin.flush()
+
+def wait(run, times):
+    """Reads so many answers of counts."""
+    while times > 0:
+        times -= os.read(run.stdout.fileno(), 1 << 20).count(b"=")
+
+def seconds(query, times, *runs, before=""):
+    begin = time.perf_counter()
+    for run in runs:
+        send(run, query, times, before)
+    for run in runs:
+        wait(run, times)
+    return time.perf_counter() - begin
+
+def compare(what, a, b, target):
+    print(f"{what}: {a:.3f} s to {b:.3f} s: ratio {a / b:.2f} (target {target})")
+
+four, *ones = start(4), start(1), start(1), start(1), start(1)
+one = ones[0]
+middling, cheap, longer = 'count "great" .. "small"', 'count "rare"', 'count "of the"'
+took = [(seconds(middling, 1000, four), seconds(middling, 1000, one), seconds(middling, 1000, *ones)) for _ in range(5)]
+of_four, of_one, at_once = map(min, zip(*took))
+print(f"{os.cpu_count()} processors, of which the machine lent {4 * of_one / at_once:.1f}; a query takes {of_one:.2f} ms")
+compare("1,000 queries, four readers to one", of_four, of_one, "0.4, on two processors 0.65")
+took = [(seconds(cheap, 10000, four), seconds(cheap, 10000, one)) for _ in range(40)]
+compare("10,000 rare words, four readers to one", *map(min, zip(*took)), 1.3)
+alone = min(seconds(longer, 64, four) for _ in range(5))
+# a version that was merged has one slot, so each merge wants a program of its own
+beside = []
+for run in four, start(4), start(4):
+    beside.append(seconds(longer, 64, run, before="merge\n"))
+    run.kill()
+for run in ones:
+    run.kill()
+compare("a batch beside a merge to the batch alone", min(beside), alone, 1.5)
+P

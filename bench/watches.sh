@@ -1,21 +1,24 @@
 #!/usr/bin/env bash
 # Opens an image of made text (5 MB, and 50), adds 1,000 small files of 2 KB to it, and deletes 200 of them: without watches, with 4 and with
-# 16 of the kinds that people use. Prints the seconds of the adds and of the deletions, less those of opening and of beginning the watches,
-# their ratio to those without watches (targets 1.6 with 4 watches and 3 with 16), and the ratio of 50 MB to 5 (target 1.3). The last
-# line is a watch whose lists have to be gone through whole.
+# 16 of the kinds that people use. Prints the seconds of the adds and of the deletions, the least of five runs, their ratio to those without
+# watches (targets 1.6 with 4 watches and 3 with 16), and the ratio of 50 MB to 5 (target 1.3). The last line is a watch whose lists have
+# to be gone through whole.
 . "$(dirname "$0")/common.sh"
 need_gclq
 cd "$work"
-python3 - <<'P'
-import random
+python3 - "$program" <<'P'
+import itertools, random, subprocess, sys
+from asking import do
+
+[program] = sys.argv[1:]
 random.seed(11)
 words = [f"w{n}" for n in range(20000)]
-weights = [1 / (n + 10) for n in range(20000)]
+sums = list(itertools.accumulate(1 / (n + 10) for n in range(20000)))
 
 def text(size):
     lines, length = [], 0
     while length < size:
-        line = "<l>" + " ".join(random.choices(words, weights, k=12)) + "</l>"
+        line = "<l>" + " ".join(random.choices(words, cum_weights=sums, k=12)) + "</l>"
         lines.append(line)
         length += len(line) + 1
     return "\n".join(lines)
@@ -37,32 +40,26 @@ def kinds(n):
 watched = [query for n in (0, 5, 25, 300) for query in kinds(n)][:16]
 adds = [f"add small{file % 50}" for file in range(1000)]
 dels = [f"del {10 + file}" for file in range(0, 1000, 5)]
-sets = {"0": [], "4": watched[:4], "16": watched, "far": ['"w0" /< ("w1".."never")']}
-for megabytes in (5, 50):
-    for name, queries in sets.items():
-        begin = [f"open image{megabytes}"] + [f"watch {query}" for query in queries]
-        for part, lines in {"opened": [], "added": adds, "deleted": adds + dels}.items():
-            with open(f"{part}.{megabytes}.{name}", "w") as out:
-                out.write("\n".join(begin + lines) + "\n")
-P
-for megabytes in 5 50; do
-  "$program" < make$megabytes > /dev/null
-  for watches in 0 4 16 far; do
-    for part in opened added deleted; do
-      read -r "$part" _ <<< "$(measure $part.$megabytes.$watches "$program")"
-    done
-    echo "$megabytes $watches $opened $added $deleted"
-  done
-done | python3 -c '
-import sys
+sets = {"no": [], "4": watched[:4], "16": watched, "the far": ['"w0" /< ("w1".."never")']}
+
+def run_once(megabytes, queries):
+    """The seconds of the adds, and of the deletions."""
+    run = subprocess.Popen([program], stdin=subprocess.PIPE, stdout=subprocess.PIPE)
+    do(run, [f"open image{megabytes}"] + [f"watch {query}" for query in queries])
+    took = do(run, adds), do(run, dels)
+    run.stdin.close()
+    run.wait()
+    return took
+
 took = {}
-for line in sys.stdin:
-    megabytes, watches, opened, added, deleted = line.split()
-    took[megabytes, watches] = float(added) - float(opened), float(deleted) - float(added)
-for (megabytes, watches), parts in took.items():
-    words = f"{megabytes:>2} MB, {watches:>3} watches:"
-    for name, part, plain, small in zip(("1,000 adds", "200 deletions"), parts, took[megabytes, "0"], took["5", watches]):
-        words += f"  {name} {part:.3f} s, {part / plain:.2f} times"
-        words += f", {part / small:.2f} of 5 MB" if megabytes == "50" else ""
-    print(words)
-'
+for megabytes in (5, 50):
+    subprocess.run([program], stdin=open(f"make{megabytes}"), stdout=subprocess.DEVNULL, check=True)
+    for name, queries in sets.items():
+        runs = [run_once(megabytes, queries) for _ in range(5 if name != "the far" else 1)]
+        took[megabytes, name] = tuple(map(min, zip(*runs)))
+        words = f"{megabytes:>2} MB, {name} watches:"
+        for kind, part, plain, small in zip(("1,000 adds", "200 deletions"), took[megabytes, name], took[megabytes, "no"], took[5, name]):
+            words += f"  {kind} {1e3 * part:.1f} ms, {part / plain:.2f} times"
+            words += f", {part / small:.2f} of 5 MB" if megabytes == 50 else ""
+        print(words, flush=True)
+P
