@@ -1,8 +1,9 @@
 #!/usr/bin/env bash
-# What the watches are told is what changed: scripts of edits and merges over three small files, each with four watches (one whose negation
-# reaches far back, one with a width, one with a prefix term, one of an element). After each line the four queries are listed, and what the
-# watches were told has to be the difference of the lists before and after it. Before each script that opens, an image was saved. Then the
-# answers to the lines that begin and end a watch, and their refusals.
+# What the watches are told is what changed: scripts of edits and merges over three small files, each with six watches (one whose negation
+# reaches far back, one with a width, one with a prefix term, one of an element, and two that readers follow: through whole lists, since a
+# containment has a chain with another one, and over a window of the text, since there are many words). After each line the six queries are
+# listed, and what the watches were told has to be the difference of the lists before and after it. Before each script that opens, an image
+# was saved. Then the answers to the lines that begin and end a watch, and their refusals.
 . "$(dirname "$0")/common.sh"
 
 printf 'to be or not to be' > speech
@@ -13,7 +14,8 @@ cat > compare.py << 'P'
 import itertools, subprocess, sys
 from concurrent.futures import ThreadPoolExecutor
 
-QUERIES = ['"be" /< ("to".."x")', '[2] > "be"', '"no"*', '"<p>".."</p>"']
+QUERIES = ['"be" /< ("to".."x")', '[2] > "be"', '"no"*', '"<p>".."</p>"', '"be" /< (("to" + ("or" < [2])) .. "x")',
+           "(" + " + ".join(f'"{word}"' for word in "to be or not x nothing noted a b c d e f g h i j k".split()) + ') < ("to".."x")']
 EDITS = ["add speech", "add end", "add page", "del 0", "del 1", "open image", "merge"]
 STEPS = 5
 
