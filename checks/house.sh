@@ -2,6 +2,7 @@
 # The rules of this repository that neither the prover nor the tests see. Prints each place that breaks one, and fails if there is any:
 # - the pages name only files, functions, definitions and must-fail edits that exist;
 # - README and CRATES name each crate, each library has a must-fail edit, and a crate's root file begins with what the crate is;
+# - crates.txt gives a crate only libraries that its files name: it waits for each of them to be proved;
 # - each page but README and GREP begins with the question that it answers;
 # - a function has at most 7 arguments, 12 clauses and 40 lines of body, and a line of src/ at most 140 characters;
 # - the pages keep to plain English: words that make a native reader stumble come no more often than they do;
@@ -24,7 +25,12 @@ KIT = ["left_right", "crossbeam_utils", "atomic_table"]  # crates that are used 
 FREE = ["docs/DECISIONS.md", "docs/PROVING.md", "docs/SPEED.md", "bench/README.md"] + glob.glob("docs/notes/*.md")
 pages = ["README.md", "CONTRIBUTING.md", "CHANGELOG.md", "bench/README.md"]
 pages += sorted(glob.glob("docs/**/*.md", recursive=True)) + sorted(glob.glob("clients/*/README.md"))
-crates = [line.split("#")[0].split(":")[0].split()[0] for line in lines_of("crates.txt") if line.split("#")[0].strip()]
+uses = {}
+for line in lines_of("crates.txt"):
+    head, _, libraries = line.split("#")[0].partition(":")
+    if head.strip():
+        uses[head.split()[0]] = libraries.split()
+crates = list(uses)
 edits = {os.path.basename(path)[:-5] for path in glob.glob("crates/*/must-fail/*.edit")}
 sources = [path for kind in ("rt", "antt") for path in glob.glob(f"crates/*/*/**/*.{kind}", recursive=True) if "/out/" not in path]
 words = {word for path in sources for word in re.findall(r"\w+", open(path, encoding="utf-8").read())}
@@ -62,6 +68,11 @@ for crate in crates:
     for page in ("README.md", "docs/CRATES.md"):
         if f"`{crate}`" not in "\n".join(lines_of(page)):
             report(page, f"does not name the crate {crate}")
+    files = [path for kind in ("rt", "antt", "edit") for path in glob.glob(f"crates/{crate}/*/**/*.{kind}", recursive=True) if "/out/" not in path]
+    named = {word for path in files for word in re.findall(r"\w+", open(path, encoding="utf-8").read())}
+    for library in uses[crate]:
+        if library not in named:
+            report("crates.txt", f"no file of {crate} names {library}")
     if root.endswith("lib.rt") and not glob.glob(f"crates/{crate}/must-fail/*.edit"):
         report(f"crates/{crate}", "has no must-fail edit")
 

@@ -3,6 +3,7 @@ use Rattle.std.proofs.Common.{◌≡◌, ℕ, ◌<◌, ◌≤◌, Bool, true, fa
 use Rattle.std.specs.List.{AllByRecursion}
 use Rattle.std.proofs.lemmas.Bool.{true≢false, cases_Bool, and_from, and_left, and_right, leb-true, leb-false, le-leb, lt-leb}
 use Rattle.std.proofs.lemmas.List.Sums.{take_while-cons}
+use Rattle.gcl_locality.specs.Windows.{start_or}
 use Rattle.gcl_model.specs.Access.{first_end}
 use Rattle.gcl_model.specs.Extents.{Extent, IsAhead, IsRising}
 use Rattle.gcl_model.specs.Forms.{Form}
@@ -16,7 +17,7 @@ use Rattle.gcl_locality.specs.Changed.{touches}
 use Rattle.live_version.specs.Contents.{VersionContent}
 use Rattle.query_search.specs.Pages.{Way, leaping, reading, ended, reads, IsWayOver}
 use Rattle.query_search.proofs.SearchLemmas.{none_at_end, none_from, start_before}
-use Rattle.near_search.specs.Contents.{IsNearWay, start_of, start_or_end, starts_by}
+use Rattle.near_search.specs.Contents.{IsNearWay, start_of, starts_by}
 
 -- where all members end at the lower address or later, those up to the last one that starts at the upper address touch both
 upto_touches : (low high : ℕ) (list : List Extent) → IsRising list → AllByRecursion (λ (a : Extent). low ≤ a.end) list → take_while (starts_by high) list ≡ filter (touches low high) list
@@ -85,7 +86,7 @@ touching_none low high (x ∷ list) is =
     ]
 
 -- where the first member that ends at the lower address or later starts after the upper one, none touches both
-pub none_touch : (low high n : ℕ) (list : List Extent) → IsRising list → high < start_or_end n (first_end list low) → filter (touches low high) list ≡ []
+pub none_touch : (low high n : ℕ) (list : List Extent) → IsRising list → high < start_or n (first_end list low) → filter (touches low high) list ≡ []
 none_touch low high n [] r gt = refl
 none_touch low high n (x ∷ list) r gt =
     elim (cases_Bool (leb low x.end)) [
@@ -96,7 +97,7 @@ none_touch low high n (x ∷ list) r gt =
             all_weaker (IsAhead x) (λ (a : Extent). touches low high a ≡ false)
                 (λ a ahead. let later : x.start < a.start = ahead.0 in and_right (leb low a.end) (leb a.start high) (lt-leb a.start high (omega arith))) list r.0,
           )
-      | inr f ↦ let later : high < start_or_end n (first_end list low) = rw f at gt in not_touching low high x list f ∙ none_touch low high n list r.1 later
+      | inr f ↦ let later : high < start_or n (first_end list low) = rw f at gt in not_touching low high x list f ∙ none_touch low high n list r.1 later
     ]
 
 touching_first : (low high : ℕ) (x : Extent) (list : List Extent) → leb low x.end ≡ true → leb x.start high ≡ true → filter (touches low high) (x ∷ list) ≡ x ∷ filter (touches low high) list
@@ -144,7 +145,7 @@ pub touching_start : (text : Text) (form : Form) (low high : ℕ) →
 touching_start text form low high = here (first_end (concordance text form) low) refl
   where
     here : (o : Option Extent) → first_end (concordance text form) low ≡ o →
-        take_while (starts_by high) (members_from (concordance text form) (start_or_end text.next o)) ≡ filter (touches low high) (concordance text form)
+        take_while (starts_by high) (members_from (concordance text form) (start_or text.next o)) ≡ filter (touches low high) (concordance text form)
     here None is = ap (λ (l : List Extent). take_while (starts_by high) l) (none_at_end text form text.next refl) ∙ sym (touching_none low high (concordance text form) is)
     here (Some a) is = touching_from low high (concordance text form) a (concordance_rises text form) is
 
@@ -154,8 +155,8 @@ pub touching_part : (text part : Text) (form : Form) (low high : ℕ) → part.n
     take_while (starts_by high) (members_from (concordance part form) (start_of text form low)) ≡ filter (touches low high) (concordance text form)
 touching_part text part form low high within same le = here (first_end (concordance text form) low) refl le
   where
-    here : (o : Option Extent) → first_end (concordance text form) low ≡ o → start_or_end text.next o ≤ high →
-        take_while (starts_by high) (members_from (concordance part form) (start_or_end text.next o)) ≡ filter (touches low high) (concordance text form)
+    here : (o : Option Extent) → first_end (concordance text form) low ≡ o → start_or text.next o ≤ high →
+        take_while (starts_by high) (members_from (concordance part form) (start_or text.next o)) ≡ filter (touches low high) (concordance text form)
     here None is le =
         let before : AllByRecursion (λ (a : Extent). a.start < text.next) (concordance part form) =
         all_weaker (λ (a : Extent). a.start < part.next) (λ (a : Extent). a.start < text.next) (λ a lt. omega (arith, lt, within)) (concordance part form) (start_before part form) in

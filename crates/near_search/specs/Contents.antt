@@ -1,5 +1,6 @@
 -- Members near two addresses, page by page.
 use Rattle.std.specs.Prelude.{◌≡◌, ℕ, Bool, nat_le, List, Option, None, Some}
+use Rattle.gcl_locality.specs.Windows.{start_or}
 use Rattle.gcl_model.specs.Access.{first_end}
 use Rattle.gcl_model.specs.Extents.{Extent}
 use Rattle.gcl_model.specs.Forms.{Form}
@@ -15,14 +16,9 @@ use Rattle.reader_pass.specs.Members.{access_most}
 abbrev pub starts_by : ℕ → Extent → Bool
 starts_by high a = nat_le a.start high
 
--- where an interval starts, and p where there is none
-abbrev pub start_or_end : ℕ → Option Extent → ℕ
-start_or_end p None = p
-start_or_end p (Some a) = a.start
-
 -- where the first member starts that ends at `low` or later, and the end of the addresses where there is none
 abbrev pub start_of : Text → Form → ℕ → ℕ
-start_of text form low = start_or_end text.next (first_end (concordance text form) low)
+start_of text form low = start_or text.next (first_end (concordance text form) low)
 
 -- the members that are to come, and how the next ones are found
 pub record NearContent : Type 0 where

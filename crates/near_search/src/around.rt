@@ -1,5 +1,5 @@
 //! Which part of the text of a version tells the members that touch two addresses.
-ghost use Rattle.std.specs.Prelude.{◌≡◌, ◌+◌, ◌*◌, ◌<◌, ◌≤◌, map, max, min};
+ghost use Rattle.std.specs.Prelude.{◌≡◌, ◌+◌, ◌*◌, ◌<◌, ◌≤◌, map};
 ghost use Rattle.gcl_locality.specs.Windows.{all_told_from, all_told_upto, told_from, told_upto};
 ghost use Rattle.gcl_locality.specs.Windows.{end_behind, start_before, window_from, window_upto};
 ghost use Rattle.gcl_model.specs.FormOf.{form_of, forms_from};
@@ -14,17 +14,6 @@ use gcl_locality::{end_behind, start_before};
 use gcl_model::{Expr, Leaves, Ledger, Steps};
 use live_version::Version;
 use standing_query::Addresses;
-
-/// Those of both together.
-fn together(one: Addresses, other: Addresses) -> Addresses
-    ensures low { result.low ≡ min one.low other.low }
-    ensures high { result.high ≡ max one.high other.high }
-{
-    Addresses {
-        low: one.low.min(other.low),
-        high: one.high.max(other.high),
-    }
-}
 
 /// From the start of the last member before the addresses to the end of the first one behind them: each member that reaches them lies
 /// between.
@@ -78,13 +67,13 @@ fn told<S: Ledger>(
         Expr::Containing(a, b) | Expr::NotContaining(a, b) => {
             let first = told(a, version, inner, steps);
             let second = told(b, version, inner, steps);
-            together(first, second)
+            first.with(second)
         }
         Expr::ContainedIn(a, b) | Expr::NotContainedIn(a, b) => {
             let first = told(a, version, inner, steps);
             let outer = around(b, version, inner, steps);
             let second = told(b, version, outer, steps);
-            together(first, second)
+            first.with(second)
         }
     }
 }
@@ -111,7 +100,7 @@ fn all_told<S: Ledger>(
     while left > 0 {
         left -= 1;
         let one = told(&exprs[left], version, inner, steps);
-        all = together(one, all);
+        all = one.with(all);
     }
     all
 }

@@ -40,8 +40,8 @@ impl Addresses {
         }
     }
 
-    /// Those of two expressions together.
-    fn with(self, other: Addresses) -> Addresses
+    /// From the lower of the two lower addresses to the upper of the two upper ones.
+    pub fn with(self, other: Addresses) -> Addresses
         ensures low { result.low ≡ min self.low other.low }
         ensures high { result.high ≡ max self.high other.high }
     {

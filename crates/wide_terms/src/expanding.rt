@@ -55,26 +55,39 @@ fn expanded<T: WordTable>(
         Expr::One(operands) => Ok(Expr::One(expanded_each(alloc, table, operands, counter)?)),
         Expr::Seq(operands) => Ok(Expr::Seq(expanded_each(alloc, table, operands, counter)?)),
         Expr::Containing(a, b) => {
-            let first = expanded(alloc, table, a, counter)?;
-            let second = expanded(alloc, table, b, counter)?;
-            contained(alloc, Containment::Containing, first, second)
+            expanded_pair(alloc, table, Containment::Containing, a, b, counter)
         }
         Expr::ContainedIn(a, b) => {
-            let first = expanded(alloc, table, a, counter)?;
-            let second = expanded(alloc, table, b, counter)?;
-            contained(alloc, Containment::ContainedIn, first, second)
+            expanded_pair(alloc, table, Containment::ContainedIn, a, b, counter)
         }
         Expr::NotContaining(a, b) => {
-            let first = expanded(alloc, table, a, counter)?;
-            let second = expanded(alloc, table, b, counter)?;
-            contained(alloc, Containment::NotContaining, first, second)
+            expanded_pair(alloc, table, Containment::NotContaining, a, b, counter)
         }
         Expr::NotContainedIn(a, b) => {
-            let first = expanded(alloc, table, a, counter)?;
-            let second = expanded(alloc, table, b, counter)?;
-            contained(alloc, Containment::NotContainedIn, first, second)
+            expanded_pair(alloc, table, Containment::NotContainedIn, a, b, counter)
         }
     }
+}
+
+/// The containment of two expressions that are expanded first.
+#[cycle(expand)]
+fn expanded_pair<T: WordTable>(
+    alloc: Global,
+    table: &T,
+    containment: Containment,
+    first: &Expr,
+    second: &Expr,
+    counter: &mut T::Counter,
+) -> Result<Expr, AllocError>
+    ensures value { IfOk result (λ expanded. form_of expanded ≡ containment_form containment
+        (expansion (T.text table.now) (form_of first.now)) (expansion (T.text table.now) (form_of second.now))) }
+    ensures counted { T.count counter.old ≤ T.count counter.new }
+    ensures cost { T.count counter.new ≤ T.count counter.old
+        + (sum_of_prefixes (T.most table.now) (form_of first.now) + sum_of_prefixes (T.most table.now) (form_of second.now)) }
+{
+    let first = expanded(alloc, table, first, counter)?;
+    let second = expanded(alloc, table, second, counter)?;
+    contained(alloc, containment, first, second)
 }
 
 #[cycle(expand)]
