@@ -1,6 +1,6 @@
 -- What is left of the cost to readers that move.
-use Rattle.std.proofs.Common.{◌≡◌, ℕ, ◌+◌, ◌*◌, ◌<◌, ◌≤◌, Bool, true, false, cond, leb, List, [], ◌∷◌, ◌++◌, length, take, drop, filter, Option, Some, None, refl, sym, ap, ◌∙◌, arith, inl, inr}
-use Rattle.std.proofs.Math.Nat.{mul-le-mul_left}
+use Rattle.std.proofs.Common.{◌≡◌, ℕ, ◌+◌, ◌*◌, ◌<◌, ◌≤◌, Bool, true, false, cond, leb, List, [], ◌∷◌, ◌++◌, length, take, drop, filter, Option, Some, None, refl, sym, ap, ◌∙◌, arith, inl, inr, le_refl}
+use Rattle.std.proofs.Math.Nat.{mul-le-mul_left, mul-le-mul_right}
 use Rattle.std.proofs.lemmas.Bool.{leb-true, le-leb, lt-leb, cases_lt}
 use Rattle.gcl_model.specs.declared.expr.Expr.{Expr}
 use Rattle.gcl_model.specs.Extents.{Extent, IsRising}
@@ -9,6 +9,7 @@ use Rattle.gcl_model.specs.Forms.{Form, term, forms_count}
 use Rattle.gcl_model.specs.Limits.{address_end}
 use Rattle.gcl_model.proofs.Meanings.{concordance_rises}
 use Rattle.gcl_eval.proofs.Listing.{no_member, next_member}
+use Rattle.gcl_eval.proofs.Found.{member_of_text}
 use Rattle.std.proofs.lemmas.List.{take-append-drop}
 use Rattle.gcl_model.specs.FormOf.{form_of, containment_form}
 use Rattle.gcl_model.specs.Meaning.{concordance}
@@ -19,26 +20,18 @@ use Rattle.gcl_model.proofs.Covers.{Has}
 use Rattle.gcl_eval.specs.Members.{members_from}
 use Rattle.gcl_eval.specs.Operands.{operand_forms}
 use Rattle.gcl_contain.proofs.Accesses.{found_first}
+use Rattle.phrase_walk.specs.Rounds.{fewest_between, walk_end}
+use Rattle.phrase_walk.proofs.Between.{fewer_filter, fewest_between_wider, fewest_between_parts, fewest_between_most}
 use Rattle.gcl_readers.specs.declared.front.Front.{Front}
 use Rattle.gcl_readers.specs.declared.front.Front.TheVariants.{Before, On, Between, End}
 use Rattle.gcl_readers.specs.declared.front.Place.{Place}
 use Rattle.gcl_readers.specs.Fronts.{IsFrontOf, IsUnknown, asked_of, front_at, start_left}
 use Rattle.gcl_readers.specs.Standing.{nodes, front_of, with_front, Stands}
-use Rattle.gcl_readers.specs.MergeCost.{member_cost, not_asked, own_left, cost_below, costs_left, cost_left}
+use Rattle.gcl_readers.specs.MergeCost.{member_cost, tokens_of, find_cost, not_asked, places_left, own_left, cost_below, costs_left, cost_left}
 use Rattle.gcl_readers.proofs.Members.{first_up_to, none_after}
 use Rattle.gcl_readers.proofs.Standings.{take_front, drop_front}
 
 -- counts of members
-fewer_filter : (p q : Extent → Bool) → ((a : Extent) → p a ≡ true → q a ≡ true) → (list : List Extent) → length (filter p list) ≤ length (filter q list)
-fewer_filter p q each [] = omega arith
-fewer_filter p q each (a ∷ list) = here (p a) (q a) (each a) (fewer_filter p q each list)
-  where
-    here : (b c : Bool) → (b ≡ true → c ≡ true) → length (filter p list) ≤ length (filter q list) → length (cond b (a ∷ filter p list) (filter p list)) ≤ length (cond c (a ∷ filter q list) (filter q list))
-    here true true h le = omega arith
-    here true false h le = absurd (let e : false ≡ true = h refl in cc)
-    here false true h le = omega arith
-    here false false h le = le
-
 less_filter : (p q : Extent → Bool) → ((a : Extent) → p a ≡ true → q a ≡ true) → (m : Extent) → p m ≡ false → q m ≡ true → (list : List Extent) → Has list m → length (filter p list) + 1 ≤ length (filter q list)
 less_filter p q each m out in_q [] h = absurd h
 less_filter p q each m out in_q (a ∷ list) (inl e) =
@@ -105,9 +98,52 @@ back_asked list r (Between a (Some next)) m has is le lt = elim (cases_lt m.star
 ]
 back_asked list r End m has is le lt = absurd (omega arith)
 
+-- places that are left to the walks of a phrase
+to_left : (text : Text) (tokens : List (List ℕ)) (front : Front) → places_left text tokens front ≡ places_left text tokens (asked_of front)
+to_left text tokens Before = refl
+to_left text tokens (On a) = refl
+to_left text tokens (Between a None) = refl
+to_left text tokens (Between a (Some next)) = refl
+to_left text tokens End = refl
+
+same_left : (text : Text) (tokens : List (List ℕ)) (old new : Front) → asked_of new ≡ asked_of old → places_left text tokens new ≡ places_left text tokens old
+same_left text tokens old new e = to_left text tokens new ∙ ap (places_left text tokens) e ∙ sym (to_left text tokens old)
+
+-- no tokens have no places
+none_left : (text : Text) (front : Front) → places_left text [] front ≡ 0
+none_left text Before = refl
+none_left text (On a) = refl
+none_left text (Between a None) = refl
+none_left text (Between a (Some next)) = refl
+none_left text End = refl
+
+-- what is left at a front takes in what stands from any later address on
+left_most : (text : Text) (tokens : List (List ℕ)) (front : Front) (k : ℕ) → IsUnknown front k → fewest_between text.words tokens k text.next ≤ places_left text tokens front
+left_most text tokens Before k un = fewest_between_most text.words tokens k text.next
+left_most text tokens (On a) k un = fewest_between_wider text.words tokens k text.next (a.start + 1) text.next (omega arith) (le_refl text.next)
+left_most text tokens (Between a None) k un = absurd un
+left_most text tokens (Between a (Some next)) k un = let lt = un.1 in fewest_between_wider text.words tokens k text.next (next.start + 1) text.next (omega arith) (le_refl text.next)
+left_most text tokens End k un = absurd un
+
+-- what a walk left behind is no longer left
+left_behind : (text : Text) (tokens : List (List ℕ)) (form : Form) (front : Front) (k : ℕ) → IsUnknown front k → (o : Option Extent) → o ≡ first_start (concordance text form) k →
+    fewest_between text.words tokens k (walk_end text o) + places_left text tokens (front_at o) ≤ places_left text tokens front
+left_behind text tokens form front k un None is = let le = left_most text tokens front k un in omega arith
+left_behind text tokens form front k un (Some a) is =
+    let f = found_first (λ c. c.start) (concordance text form) (concordance_rises text form) k a (sym is) in
+    let far = f.far in
+    let of = member_of_text text form a f.member in
+    let proper = of.proper in
+    let below = of.below in
+    let parts = fewest_between_parts text.words tokens k (a.start + 1) text.next (omega arith) (omega arith) in
+    let le = left_most text tokens front k un in
+    omega arith
+
 -- products
-times_less : (n o c : ℕ) → n + 1 ≤ o → n * c + c ≤ o * c
-times_less n o c le = omega (arith, mul-le-mul_left c le)
+times_less : (p l m n o c : ℕ) → p + l ≤ m → n + 1 ≤ o → (p + 1) * c + (l + n) * c ≤ (m + o) * c
+times_less p l m n o c passed le =
+    let all : (p + 1 + (l + n)) * c ≤ (m + o) * c = mul-le-mul_right c (omega (arith, passed, le)) in
+    omega (arith, all)
 
 times_near : (n o c : ℕ) → n ≤ o + 1 → n * c ≤ o * c + c
 times_near n o c le = omega (arith, mul-le-mul_left c le)
@@ -122,15 +158,19 @@ put_cost text most form (place ∷ places) below front some = refl
 pub told_cost : (text : Text) (most : ℕ) (form : Form) (places : List Place) (front : Front) → 0 < length places → asked_of front ≡ asked_of (front_of places) →
     cost_left text most form (with_front places front) ≡ cost_left text most form places
 told_cost text most form [] front some e = absurd (omega arith)
-told_cost text most form (place ∷ places) front some e = ap (λ n. n * member_cost text most form + cost_below text most form places) (same_asked (concordance text form) place.front front e)
+told_cost text most form (place ∷ places) front some e =
+    ap (λ n. (n + not_asked (concordance text form) front) * member_cost text most form + cost_below text most form places) (same_left text (tokens_of form) place.front front e)
+    ∙ ap (λ n. (places_left text (tokens_of form) place.front + n) * member_cost text most form + cost_below text most form places) (same_asked (concordance text form) place.front front e)
 
 -- one that looked for the next member
 pub look_cost : (text : Text) (most : ℕ) (form : Form) (places below : List Place) (k : ℕ) (o : Option Extent) → 0 < length places → IsUnknown (front_of places) k → o ≡ first_start (concordance text form) k →
-    (new old : ℕ) → new + cost_below text most form below ≤ old + cost_below text most form (drop 1 places) + member_cost text most form →
+    (new old : ℕ) → new + cost_below text most form below ≤ old + cost_below text most form (drop 1 places) + find_cost text most form k o →
     new + cost_left text most form (with_front (take 1 places ++ below) (front_at o)) ≤ old + cost_left text most form places
 look_cost text most form places below k o some un is new old le =
     let n = asked_less (concordance text form) (concordance_rises text form) (front_of places) k un o is in
-    let t = times_less (not_asked (concordance text form) (front_at o)) (not_asked (concordance text form) (front_of places)) (member_cost text most form) n in
+    let p = left_behind text (tokens_of form) form (front_of places) k un o is in
+    let t = times_less (fewest_between text.words (tokens_of form) k (walk_end text o)) (places_left text (tokens_of form) (front_at o)) (places_left text (tokens_of form) (front_of places))
+    (not_asked (concordance text form) (front_at o)) (not_asked (concordance text form) (front_of places)) (member_cost text most form) p n in
     omega (arith, put_cost text most form places below (front_at o) some)
 
 -- a term that looked back
@@ -140,6 +180,7 @@ back_cost text most token [] m some has is le lt = absurd (omega arith)
 back_cost text most token (place ∷ places) m some has is le lt =
     let n = back_asked (concordance text (term token)) (concordance_rises text (term token)) place.front m has is le lt in
     let t = times_near (not_asked (concordance text (term token)) (On m)) (not_asked (concordance text (term token)) place.front) most n in
+    let old : own_left text most (term token) place.front ≡ (0 + not_asked (concordance text (term token)) place.front) * most = ap (λ l. (l + not_asked (concordance text (term token)) place.front) * most) (none_left text place.front) in
     omega arith
 
 pub asked_front : (o : Option Extent) → asked_of (front_at o) ≡ front_at o

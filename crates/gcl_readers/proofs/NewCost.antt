@@ -3,16 +3,17 @@ use Rattle.std.proofs.Common.{◌≡◌, ℕ, ◌+◌, ◌*◌, ◌++◌, length
 use Rattle.gcl_model.specs.Texts.{Text}
 use Rattle.gcl_model.specs.Forms.{Form, Forms, term, phrase, width, both, one, seq, containing, contained_in, not_containing, not_contained_in, no_forms, more_forms}
 use Rattle.gcl_model.specs.Meaning.{concordance}
+use Rattle.gcl_model.specs.Cost.{fewest_places}
 use Rattle.gcl_eval.proofs.Listing.{all_members}
 use Rattle.gcl_readers.specs.declared.front.Front.TheVariants.{Before}
 use Rattle.gcl_readers.specs.Standing.{nodes}
 use Rattle.gcl_readers.specs.NewPlaces.{new_places, new_places_of}
-use Rattle.gcl_readers.specs.MergeCost.{member_cost, merge_cost, merge_costs, own_left, costs_left, cost_left}
+use Rattle.gcl_readers.specs.MergeCost.{member_cost, tokens_of, merge_cost, merge_costs, own_left, costs_left, cost_left}
 use Rattle.gcl_readers.proofs.Standings.{take_front, drop_front}
 use Rattle.gcl_readers.proofs.NewStands.{len_new}
 
-own_new : (text : Text) (most : ℕ) (form : Form) → own_left text most form Before ≡ (length (concordance text form) + 1) * member_cost text most form
-own_new text most form = ap (λ l. (length l + 1) * member_cost text most form) (all_members (concordance text form))
+own_new : (text : Text) (most : ℕ) (form : Form) → own_left text most form Before ≡ (fewest_places text.words (tokens_of form) + (length (concordance text form) + 1)) * member_cost text most form
+own_new text most form = ap (λ l. (fewest_places text.words (tokens_of form) + (length l + 1)) * member_cost text most form) (all_members (concordance text form))
 
 times_none : (n : ℕ) → n * 0 ≡ 0
 times_none n = omega arith

@@ -3,14 +3,14 @@ use Rattle.std.specs.Prelude.{◌≡◌, List, [], ◌∷◌, Some, None, codes}
 use Rattle.std.proofs.Common.{refl}
 use Rattle.gcl_model.specs.Extents.{Extent, extent}
 use Rattle.gcl_model.specs.Texts.{Text}
-use Rattle.gcl_model.specs.Forms.{Form, term, both, containing, no_forms, more_forms}
+use Rattle.gcl_model.specs.Forms.{Form, term, phrase, both, containing, no_forms, more_forms}
 use Rattle.gcl_readers.specs.declared.front.Front.TheVariants.{Before, On, Between, End}
 use Rattle.gcl_readers.specs.Fronts.{left_of, asked_of, after, past}
 use Rattle.gcl_readers.specs.Agreement.{all_left}
 use Rattle.gcl_readers.specs.Standing.{nodes, starts_at}
 use Rattle.gcl_readers.specs.NewPlaces.{new_places_of}
 use Rattle.gcl_readers.specs.Reading.{behind_page}
-use Rattle.gcl_readers.specs.MergeCost.{not_asked, merge_cost}
+use Rattle.gcl_readers.specs.MergeCost.{not_asked, own_left, find_cost, merge_cost}
 
 -- `to be or to be` at 1 to 5
 abbrev to_be : Text
@@ -37,6 +37,24 @@ cost_of_both = refl
 -- "to" > "be" makes none of its own
 cost_of_containing : merge_cost to_be 1 (containing to be) ≡ 6
 cost_of_containing = refl
+
+-- "to be" has (1, 2) and (4, 5), and each of its two tokens two places: two look-ups for each place of the rarest, for each member and at
+-- the end
+abbrev to_be_row : Form
+to_be_row = phrase (codes "to" ∷ codes "be" ∷ [])
+
+cost_of_phrase : merge_cost to_be 1 to_be_row ≡ 10
+cost_of_phrase = refl
+
+-- at (1, 2) one place of each is left, one member and the end; to find (4, 5) takes that place and that member
+left_of_phrase : own_left to_be 1 to_be_row (On (extent 1 2)) ≡ 6
+left_of_phrase = refl
+
+cost_to_find : find_cost to_be 1 to_be_row 2 (Some (extent 4 5)) ≡ 4
+cost_to_find = refl
+
+left_of_phrase-last : own_left to_be 1 to_be_row (On (extent 4 5)) ≡ 2
+left_of_phrase-last = refl
 
 -- of three members
 abbrev three : List Extent

@@ -10,7 +10,7 @@ ghost use Rattle.gcl_model.specs.Meaning.{concordance};
 ghost use Rattle.gcl_model.specs.WellFormed.{IsWellFormed};
 ghost use Rattle.gcl_readers.specs.Fronts.{IsUnknown, front_at, member_of, start_or_end};
 ghost use Rattle.gcl_readers.specs.Standing.{Stands, StandBelow, Tell, TellsFrom, IsKept, IsNode, left_to, start_at, front_of};
-ghost use Rattle.gcl_readers.specs.MergeCost.{member_cost, cost_below, cost_left};
+ghost use Rattle.gcl_readers.specs.MergeCost.{find_cost, cost_below, cost_left};
 
 use crate::chains::{both_find, one_find, seq_find};
 use crate::containments::containment_find;
@@ -103,7 +103,7 @@ fn find<C: CountedLeaves>(
     ensures tells { Tell (C.text source.now) (form_of expr.now) (front_at result) places.new }
     ensures len { length places.new ≡ length places.old }
     ensures counted { C.count counter.old ≤ C.count counter.new }
-    ensures cost { C.count counter.new + cost_below (C.text source.now) (C.most source.now) (form_of expr.now) places.new ≤ C.count counter.old + cost_below (C.text source.now) (C.most source.now) (form_of expr.now) places.old + member_cost (C.text source.now) (C.most source.now) (form_of expr.now) }
+    ensures cost { C.count counter.new + cost_below (C.text source.now) (C.most source.now) (form_of expr.now) places.new ≤ C.count counter.old + cost_below (C.text source.now) (C.most source.now) (form_of expr.now) places.old + find_cost (C.text source.now) (C.most source.now) (form_of expr.now) k result }
 {
     match expr {
         Expr::Term(token) => term_find(token, source, k, counter),

@@ -1,19 +1,20 @@
 -- The steps of the walks, token by token.
-use Rattle.std.proofs.Common.{◌≡◌, ℕ, ◌+◌, ◌-◌, ◌*◌, ◌<◌, ◌≤◌, ◌⊎◌, List, length, Some, None, false, inl, inr, refl, sym, subst, ◌∙◌, arith}
+use Rattle.std.proofs.Common.{◌≡◌, ℕ, ◌+◌, ◌-◌, ◌*◌, ◌<◌, ◌≤◌, ◌⊎◌, List, length, Option, Some, None, false, inl, inr, refl, sym, subst, ◌∙◌, arith, le_refl}
 use Rattle.std.proofs.lemmas.Bool.{true≢false, cases_lt}
 use Rattle.std.proofs.Math.Nat.{mul-le-mul_right}
-use Rattle.gcl_model.specs.Extents.{extent}
+use Rattle.gcl_model.specs.Extents.{Extent, extent}
 use Rattle.gcl_model.specs.Access.{first_start, last_start}
 use Rattle.gcl_model.specs.Texts.{Text, IsText, any_pair, next_place, previous_place, places}
 use Rattle.gcl_model.specs.Forms.{phrase}
 use Rattle.gcl_model.specs.Meaning.{concordance}
 use Rattle.gcl_model.specs.Cost.{fewest_places}
 use Rattle.gcl_model.proofs.Pairs.{pair_there}
-use Rattle.phrase_walk.specs.Rounds.{rounds_cost}
+use Rattle.phrase_walk.specs.Rounds.{rounds_cost, places_between, fewest_between, walk_end, passed_cost}
 pub use Rattle.phrase_walk.specs.Starts.{LeadsTo, NoneBefore, NoneFrom}
 use Rattle.phrase_walk.proofs.Places.{Held, held_within, next_tells, none_next, previous_tells, none_previous}
 use Rattle.phrase_walk.proofs.Rows.{InRow, token_at, IsInPlace, row_place, places_row, fewest_of_each}
 use Rattle.phrase_walk.proofs.Passed.{places_before, before_most, before_rises, before_more}
+use Rattle.phrase_walk.proofs.Between.{between_wider, between_more, fewest_between_of_each, fewest_between_most}
 use Rattle.phrase_walk.proofs.Members.{row_within, first_row, no_first_row, last_row, no_last_row}
 use Rattle.phrase_walk.proofs.Ring.{ring_agrees, ring_rounds}
 use Rattle.phrase_walk.proofs.Asked.{IsAskedWithin, asked_stays, asked_moves, asked_bound}
@@ -58,13 +59,13 @@ closer_on end start turn place m agreed following few from below (inl (e, n)) =
 closer_on end start turn place m agreed following few from below (inr (e, n)) =
     closer (end - start) (end - (place - turn)) m agreed following few (omega (arith, n, few)) (omega (arith, n)) (inr (omega (arith, e, from, below)))
 
--- how many places of a token lie before its place in the row from s on
-abbrev pub passed_upto : Text → List (List ℕ) → ℕ → ℕ → ℕ
-passed_upto text tokens s i = places_before text.words (token_at tokens i) (s + i)
+-- how many places of a token a walk from k on has left behind: from its place in the row from k on and before its place in the row from s on
+abbrev pub passed_upto : Text → List (List ℕ) → ℕ → ℕ → ℕ → ℕ
+passed_upto text tokens k s i = places_between text.words (token_at tokens i) (k + i) (s + i)
 
--- the tokens in order, asked up to here for the row from s on
-abbrev pub IsAskedForward : (text : Text) (tokens : List (List ℕ)) (turn agreed s most old now : ℕ) → Type 0
-IsAskedForward text tokens turn agreed s most old now = IsAskedWithin (length tokens) turn agreed (passed_upto text tokens s) (IsInPlace text tokens s) most old now
+-- the tokens in order, asked from k on up to here for the row from s on
+abbrev pub IsAskedForward : (text : Text) (tokens : List (List ℕ)) (k turn agreed s most old now : ℕ) → Type 0
+IsAskedForward text tokens k turn agreed s most old now = IsAskedWithin (length tokens) turn agreed (passed_upto text tokens k s) (IsInPlace text tokens s) most old now
 
 -- backward, the last token is asked first: this is the number of the one that is asked at this turn
 abbrev pub from_last : List (List ℕ) → ℕ → ℕ
@@ -139,56 +140,72 @@ module _ (text : Text) (tokens : List (List ℕ)) (sound : IsText text) (some : 
       omega (arith, below, ge, past, some)))
 
   -- the token stands in its place of a row that does not start before the one that was reached
-  module _ (turn agreed s most old now after q : ℕ) (few : agreed < length tokens) (step : after ≤ now + most) (above : s + turn ≤ q) (held : Held text (token_at tokens turn) q) where
+  module _ (k turn agreed s most old now after q : ℕ) (few : agreed < length tokens) (step : after ≤ now + most) (start : k ≤ s) (above : s + turn ≤ q) (held : Held text (token_at tokens turn) q) where
     held_next : (t : ℕ) → q - turn ≡ t → IsInPlace text tokens t turn
     held_next t e =
         let same : q ≡ t + turn = omega (arith, above, e) in
         subst (Held text (token_at tokens turn)) same held
 
-    forward_stays : q - turn ≡ s → IsAskedForward text tokens turn agreed s most old now → IsAskedForward text tokens (turn + 1) (agreed + 1) s most old after
-    forward_stays e asked = asked_stays (length tokens) turn agreed few (passed_upto text tokens s) (IsInPlace text tokens s) most old now after step asked (held_next s e)
+    forward_stays : q - turn ≡ s → IsAskedForward text tokens k turn agreed s most old now → IsAskedForward text tokens k (turn + 1) (agreed + 1) s most old after
+    forward_stays e asked = asked_stays (length tokens) turn agreed few (passed_upto text tokens k s) (IsInPlace text tokens s) most old now after step asked (held_next s e)
 
-    forward_moves : (q - turn ≡ s → ⊥) → IsAskedForward text tokens turn agreed s most old now → IsAskedForward text tokens (turn + 1) 1 (q - turn) most old after
+    forward_moves : (q - turn ≡ s → ⊥) → IsAskedForward text tokens k turn agreed s most old now → IsAskedForward text tokens k (turn + 1) 1 (q - turn) most old after
     forward_moves moved asked =
-        asked_moves (length tokens) turn agreed few (passed_upto text tokens s) (IsInPlace text tokens s) most old now after step asked
-        (passed_upto text tokens (q - turn)) (IsInPlace text tokens (q - turn))
-        (λ i lt. before_rises text.words (token_at tokens i) (s + i) (q - turn + i) (omega (arith, above)))
-        (λ i lt held. before_more text.words (token_at tokens i) (s + i) (s + i) (q - turn + i) held (omega arith) (omega (arith, above, moved)))
+        asked_moves (length tokens) turn agreed few (passed_upto text tokens k s) (IsInPlace text tokens s) most old now after step asked
+        (passed_upto text tokens k (q - turn)) (IsInPlace text tokens (q - turn))
+        (λ i lt. between_wider text.words (token_at tokens i) (k + i) (s + i) (k + i) (q - turn + i) (le_refl (k + i)) (omega (arith, above)))
+        (λ i lt held. between_more text.words (token_at tokens i) (s + i) (k + i) (s + i) (q - turn + i) held (omega (arith, start)) (omega arith) (omega (arith, above, moved)))
         (held_next (q - turn) refl)
 
   -- after a token was asked, whether it agreed or leads on
-  pub forward_on : (turn agreed following s most old now after q : ℕ) → agreed < length tokens → after ≤ now + most → s + turn ≤ q → Held text (token_at tokens turn) q →
+  pub forward_on : (k turn agreed following s most old now after q : ℕ) → agreed < length tokens → after ≤ now + most → k ≤ s → s + turn ≤ q → Held text (token_at tokens turn) q →
       Leads (q - turn) s agreed following →
-      IsAskedForward text tokens turn agreed s most old now → IsAskedForward text tokens (turn + 1) following (q - turn) most old after
-  forward_on turn agreed following s most old now after q few step above held (inl (e, n)) asked =
-      subst (λ t. IsAskedForward text tokens (turn + 1) following t most old after) (sym e)
-      (subst (λ f. IsAskedForward text tokens (turn + 1) f s most old after) (sym n) (forward_stays turn agreed s most old now after q few step above held e asked))
-  forward_on turn agreed following s most old now after q few step above held (inr (moved, n)) asked =
-      subst (λ f. IsAskedForward text tokens (turn + 1) f (q - turn) most old after) (sym n) (forward_moves turn agreed s most old now after q few step above held moved asked)
+      IsAskedForward text tokens k turn agreed s most old now → IsAskedForward text tokens k (turn + 1) following (q - turn) most old after
+  forward_on k turn agreed following s most old now after q few step start above held (inl (e, n)) asked =
+      subst (λ t. IsAskedForward text tokens k (turn + 1) following t most old after) (sym e)
+      (subst (λ f. IsAskedForward text tokens k (turn + 1) f s most old after) (sym n) (forward_stays k turn agreed s most old now after q few step start above held e asked))
+  forward_on k turn agreed following s most old now after q few step start above held (inr (moved, n)) asked =
+      subst (λ f. IsAskedForward text tokens k (turn + 1) f (q - turn) most old after) (sym n) (forward_moves k turn agreed s most old now after q few step start above held moved asked)
 
   -- where each token agreed, this is the first row
-  pub forward_found : (k s turn most old now : ℕ) → turn ≤ length tokens → k ≤ s → NoneBefore text tokens k s → IsAskedForward text tokens turn (length tokens) s most old now →
+  pub forward_found : (k s turn most old now : ℕ) → turn ≤ length tokens → k ≤ s → NoneBefore text tokens k s → IsAskedForward text tokens k turn (length tokens) s most old now →
       Some (extent s (s + (length tokens - 1))) ≡ first_start (concordance text (phrase tokens)) k
   forward_found k s turn most old now within from before asked =
-      let row : InRow text tokens s = places_row text tokens s (ring_agrees (length tokens) asked.rounds turn (passed_upto text tokens s) (IsInPlace text tokens s) within asked.ring) in
+      let row : InRow text tokens s = places_row text tokens s (ring_agrees (length tokens) asked.rounds turn (passed_upto text tokens k s) (IsInPlace text tokens s) within asked.ring) in
       sym (first_row text sound tokens k s (s + (length tokens - 1)) some from row (omega (arith, some))
       (λ r ge other. elim (cases_lt r s) [ inl lt ↦ absurd (before r ge lt other) | inr le ↦ le ]))
 
-  forward_rounds : (turn agreed s most old now : ℕ) → (asked : IsAskedForward text tokens turn agreed s most old now) → asked.rounds ≤ fewest_places text.words tokens
-  forward_rounds turn agreed s most old now asked =
-      fewest_of_each text.words tokens asked.rounds some
-      (ring_rounds (length tokens) asked.rounds turn agreed (passed_upto text tokens s) (λ i. length (places text.words (token_at tokens i))) (IsInPlace text tokens s)
-      (λ i lt. before_most text.words (token_at tokens i) (s + i))
-      (λ i lt held.
-      let more : places_before text.words (token_at tokens i) (s + i) + 1 ≤ places_before text.words (token_at tokens i) (s + i + 1) = before_more text.words (token_at tokens i) (s + i) (s + i) (s + i + 1) held (omega arith) (omega arith) in
-      let upto : places_before text.words (token_at tokens i) (s + i + 1) ≤ length (places text.words (token_at tokens i)) = before_most text.words (token_at tokens i) (s + i + 1) in
-      omega (arith, more, upto))
+  -- a walk that goes on no further than to the end has made no more rounds than the rarest token has places that are left behind then
+  forward_rounds : (k turn agreed s end most old now : ℕ) → k ≤ s → s < end → (asked : IsAskedForward text tokens k turn agreed s most old now) → asked.rounds ≤ fewest_between text.words tokens k end
+  forward_rounds k turn agreed s end most old now from below asked =
+      fewest_between_of_each text.words tokens k end asked.rounds some
+      (ring_rounds (length tokens) asked.rounds turn agreed (passed_upto text tokens k s) (passed_upto text tokens k end) (IsInPlace text tokens s)
+      (λ i lt. between_wider text.words (token_at tokens i) (k + i) (s + i) (k + i) (end + i) (le_refl (k + i)) (omega (arith, below)))
+      (λ i lt held. between_more text.words (token_at tokens i) (s + i) (k + i) (s + i) (end + i) held (omega (arith, from)) (omega arith) (omega (arith, below)))
       asked.ring)
 
-  pub forward_cost : (turn agreed s most old now after : ℕ) → turn < length tokens → after ≤ now + most → IsAskedForward text tokens turn agreed s most old now → after ≤ old + rounds_cost text.words most tokens
-  forward_cost turn agreed s most old now after within step asked =
-      asked_bound (length tokens) turn (fewest_places text.words tokens) most old now after asked.rounds within
-      (forward_rounds turn agreed s most old now asked) asked.cost step
+  forward_end : (k turn agreed s end most old now after : ℕ) → turn < length tokens → k ≤ s → s < end → after ≤ now + most → IsAskedForward text tokens k turn agreed s most old now →
+      after ≤ old + (fewest_between text.words tokens k end + 1) * (length tokens * most)
+  forward_end k turn agreed s end most old now after within from below step asked =
+      let le = asked_bound (length tokens) turn (fewest_between text.words tokens k end) most old now after asked.rounds within
+      (forward_rounds k turn agreed s end most old now from below asked) asked.cost step in
+      omega (arith, le)
+
+  -- no row was found: all starts are left behind
+  pub forward_none : (k turn agreed s most old now after : ℕ) → turn < length tokens → k ≤ s → s < text.next → after ≤ now + most → IsAskedForward text tokens k turn agreed s most old now →
+      after ≤ old + passed_cost text most tokens k None
+  forward_none k turn agreed s most old now after = forward_end k turn agreed s text.next most old now after
+
+  -- the row that starts here was found
+  pub forward_some : (k turn agreed s e most old now : ℕ) → turn < length tokens → k ≤ s → IsAskedForward text tokens k turn agreed s most old now → now ≤ old + passed_cost text most tokens k (Some (extent s e))
+  forward_some k turn agreed s e most old now within from = forward_end k turn agreed s (s + 1) most old now now within from (omega arith) (omega arith)
+
+  -- what was left behind is no more than there is
+  pub passed_rounds : (k most old now : ℕ) (found : Option Extent) → now ≤ old + passed_cost text most tokens k found → now ≤ old + rounds_cost text.words most tokens
+  passed_rounds k most old now found le =
+      let few : (fewest_between text.words tokens k (walk_end text found) + 1) * (length tokens * most) ≤ (fewest_places text.words tokens + 1) * (length tokens * most)
+      = mul-le-mul_right (length tokens * most) (omega (arith, fewest_between_most text.words tokens k (walk_end text found))) in
+      omega (arith, le, few)
 
   pub previous_within : (i s q : ℕ) → Some q ≡ previous_place text.words (token_at tokens i) (s + i) → q ≤ s + i
   previous_within i s q is = (previous_tells text (token_at tokens i) sound (s + i) q (sym is)).upto

@@ -1,10 +1,10 @@
-ghost use Rattle.std.specs.Prelude.{◌≡◌, ◌+◌, ◌<◌, ◌≤◌, length};
+ghost use Rattle.std.specs.Prelude.{◌≡◌, ◌+◌, ◌-◌, ◌<◌, ◌≤◌, length};
 ghost use Rattle.gcl_model.specs.Limits.{far};
 ghost use Rattle.gcl_model.specs.Access.{first_start, first_end, last_end, last_start};
 ghost use Rattle.gcl_model.specs.Forms.{phrase};
 ghost use Rattle.gcl_model.specs.Meaning.{concordance};
 ghost use Rattle.gcl_model.specs.Cost.{cost};
-ghost use Rattle.phrase_walk.specs.Rounds.{rounds_cost};
+ghost use Rattle.phrase_walk.specs.Rounds.{rounds_cost, passed_cost};
 
 use crate::counted::{
     counted_first_end, counted_first_start, counted_last_end, counted_last_start,
@@ -24,6 +24,7 @@ pub fn phrase_first_start<L: Leaves, S: Ledger>(
     ensures counted { steps.old ≤ steps.new }
     ensures cost { steps.new ≤ steps.old + cost (L.text leaves.now) (L.most leaves.now) (phrase tokens.now) }
     ensures rounds { steps.new ≤ steps.old + rounds_cost (L.text leaves.now).words (L.most leaves.now) tokens.now }
+    ensures passed { steps.new ≤ steps.old + passed_cost (L.text leaves.now) (L.most leaves.now) tokens.now k result }
 {
     let source = LentLeaves::<L, S>::new(leaves);
     counted_first_start(tokens, &source, k, steps)
@@ -42,6 +43,8 @@ pub fn phrase_first_end<L: Leaves, S: Ledger>(
     ensures counted { steps.old ≤ steps.new }
     ensures cost { steps.new ≤ steps.old + cost (L.text leaves.now) (L.most leaves.now) (phrase tokens.now) }
     ensures rounds { steps.new ≤ steps.old + rounds_cost (L.text leaves.now).words (L.most leaves.now) tokens.now }
+    ensures passed { steps.new ≤ steps.old +
+        passed_cost (L.text leaves.now) (L.most leaves.now) tokens.now (k - (length tokens.now - 1)) result }
 {
     let source = LentLeaves::<L, S>::new(leaves);
     counted_first_end(tokens, &source, k, steps)

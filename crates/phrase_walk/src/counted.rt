@@ -1,10 +1,10 @@
-ghost use Rattle.std.specs.Prelude.{◌≡◌, ◌+◌, ◌<◌, ◌≤◌, length};
+ghost use Rattle.std.specs.Prelude.{◌≡◌, ◌+◌, ◌-◌, ◌<◌, ◌≤◌, length};
 ghost use Rattle.gcl_model.specs.Limits.{far};
 ghost use Rattle.gcl_model.specs.Access.{first_start, first_end, last_end, last_start};
 ghost use Rattle.gcl_model.specs.Forms.{phrase};
 ghost use Rattle.gcl_model.specs.Meaning.{concordance};
 ghost use Rattle.gcl_model.specs.Cost.{cost};
-ghost use Rattle.phrase_walk.specs.Rounds.{rounds_cost};
+ghost use Rattle.phrase_walk.specs.Rounds.{rounds_cost, passed_cost};
 
 use crate::walks::{first_from, last_upto};
 use gcl_model::{CountedLeaves, Interval, TokenList};
@@ -22,6 +22,7 @@ pub fn counted_first_start<C: CountedLeaves>(
     ensures counted { C.count counter.old ≤ C.count counter.new }
     ensures cost { C.count counter.new ≤ C.count counter.old + cost (C.text source.now) (C.most source.now) (phrase tokens.now) }
     ensures rounds { C.count counter.new ≤ C.count counter.old + rounds_cost (C.text source.now).words (C.most source.now) tokens.now }
+    ensures passed { C.count counter.new ≤ C.count counter.old + passed_cost (C.text source.now) (C.most source.now) tokens.now k result }
 {
     first_from(tokens.as_slice(), source, k, counter)
 }
@@ -39,6 +40,8 @@ pub fn counted_first_end<C: CountedLeaves>(
     ensures counted { C.count counter.old ≤ C.count counter.new }
     ensures cost { C.count counter.new ≤ C.count counter.old + cost (C.text source.now) (C.most source.now) (phrase tokens.now) }
     ensures rounds { C.count counter.new ≤ C.count counter.old + rounds_cost (C.text source.now).words (C.most source.now) tokens.now }
+    ensures passed { C.count counter.new ≤ C.count counter.old +
+        passed_cost (C.text source.now) (C.most source.now) tokens.now (k - (length tokens.now - 1)) result }
 {
     let len = tokens.len() as u64;
     first_from(

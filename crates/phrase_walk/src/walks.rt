@@ -4,7 +4,7 @@ ghost use Rattle.gcl_model.specs.Forms.{phrase};
 ghost use Rattle.gcl_model.specs.Meaning.{concordance};
 ghost use Rattle.gcl_model.specs.Cost.{cost};
 ghost use Rattle.gcl_model.specs.Texts.{IsText};
-ghost use Rattle.phrase_walk.specs.Rounds.{rounds_cost};
+ghost use Rattle.phrase_walk.specs.Rounds.{rounds_cost, passed_cost};
 ghost use Rattle.phrase_walk.specs.Starts.{IsFollowed, IsInPlace, LeadsTo, NoneBefore, NoneFrom};
 
 use gcl_model::{Bytes, CountedLeaves, Interval, Pair};
@@ -23,6 +23,7 @@ pub(crate) fn first_from<C: CountedLeaves>(
     ensures counted { C.count counter.old ≤ C.count counter.new }
     ensures cost { C.count counter.new ≤ C.count counter.old + cost (C.text source.now) (C.most source.now) (phrase tokens.now) }
     ensures rounds { C.count counter.new ≤ C.count counter.old + rounds_cost (C.text source.now).words (C.most source.now) tokens.now }
+    ensures passed { C.count counter.new ≤ C.count counter.old + passed_cost (C.text source.now) (C.most source.now) tokens.now k result }
 {
     let len = tokens.len();
     if source.span().next <= k {

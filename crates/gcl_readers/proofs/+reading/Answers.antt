@@ -22,7 +22,7 @@ use Rattle.gcl_readers.specs.declared.front.Front.TheVariants.{On}
 use Rattle.gcl_readers.specs.Fronts.{IsFrontOf, IsTold, IsUnknown, asked_of, start_left, start_or_end, member_of, front_at}
 use Rattle.gcl_readers.specs.Agreement.{AllAnswerOrEnd, AllAnswerInOrder, all_left}
 use Rattle.gcl_readers.specs.Standing.{nodes, Stands, StandBelow, Tell, TellsFrom, front_of, with_front, start_at, starts_at, left_to}
-use Rattle.gcl_readers.specs.MergeCost.{member_cost, cost_below, cost_left}
+use Rattle.gcl_readers.specs.MergeCost.{find_cost, cost_below, cost_left}
 use Rattle.gcl_readers.proofs.CostLemmas.{told_cost, look_cost, contain_costs}
 use Rattle.gcl_readers.proofs.Members.{agrees_at, first_member, first_itself, last_of_left}
 use Rattle.gcl_readers.proofs.Answers.{moved_answers}
@@ -354,7 +354,7 @@ pub reading::look-returns-clause-cost : goal.reading::look-returns-clause-cost
 reading::look-returns-clause-cost g t c =
     let put : c.put_front.new.places ≡ with_front (take 1 c.args.places.now ++ c.find-found.new.places) (front_at c.find-found.result)
     = c.put_front.ensures ∙ ap (λ p. with_front (p ++ c.find-found.new.places) c.front_at-front.result) c.split_at_mut-below.ensures.front ∙ ap (with_front (take 1 c.args.places.now ++ c.find-found.new.places)) c.front_at-front.ensures in
-    let spent = subst (λ p. (g.C.CountedLeaves.count c.find-found.new.counter) + cost_below (g.C.CountedLeaves.text c.args.source.now) (g.C.CountedLeaves.most c.args.source.now) (form_of c.args.expr.now) c.find-found.new.places ≤ (g.C.CountedLeaves.count c.args.counter.now) + cost_below (g.C.CountedLeaves.text c.args.source.now) (g.C.CountedLeaves.most c.args.source.now) (form_of c.args.expr.now) p + member_cost (g.C.CountedLeaves.text c.args.source.now) (g.C.CountedLeaves.most c.args.source.now) (form_of c.args.expr.now)) c.split_at_mut-below.ensures.back c.find-found.ensures.cost in
+    let spent = subst (λ p. (g.C.CountedLeaves.count c.find-found.new.counter) + cost_below (g.C.CountedLeaves.text c.args.source.now) (g.C.CountedLeaves.most c.args.source.now) (form_of c.args.expr.now) c.find-found.new.places ≤ (g.C.CountedLeaves.count c.args.counter.now) + cost_below (g.C.CountedLeaves.text c.args.source.now) (g.C.CountedLeaves.most c.args.source.now) (form_of c.args.expr.now) p + find_cost (g.C.CountedLeaves.text c.args.source.now) (g.C.CountedLeaves.most c.args.source.now) (form_of c.args.expr.now) c.args.k c.find-found.result) c.split_at_mut-below.ensures.back c.find-found.ensures.cost in
     let some = some_place (g.C.CountedLeaves.text c.args.source.now) (form_of c.args.expr.now) c.args.places.now (StandBelow (g.C.CountedLeaves.text c.args.source.now) (form_of c.args.expr.now) (drop 1 c.args.places.now)) c.requires.stands in
     subst (λ p. (g.C.CountedLeaves.count c.find-found.new.counter) + cost_left (g.C.CountedLeaves.text c.args.source.now) (g.C.CountedLeaves.most c.args.source.now) (form_of c.args.expr.now) p ≤ (g.C.CountedLeaves.count c.args.counter.now) + cost_left (g.C.CountedLeaves.text c.args.source.now) (g.C.CountedLeaves.most c.args.source.now) (form_of c.args.expr.now) c.args.places.now) (sym put)
     (look_cost (g.C.CountedLeaves.text c.args.source.now) (g.C.CountedLeaves.most c.args.source.now) (form_of c.args.expr.now) c.args.places.now c.find-found.new.places c.args.k c.find-found.result some c.requires.unknown c.find-found.ensures.answer (g.C.CountedLeaves.count c.find-found.new.counter) (g.C.CountedLeaves.count c.args.counter.now) spent)

@@ -2,7 +2,7 @@ use Rattle.std.proofs.Common.{◌≡◌, ◌+◌, ◌-◌, ◌<◌, ◌≤◌, S
 use Rattle.gcl_model.specs.Cost.{fewest_places}
 use Rattle.phrase_walk.specs.Starts.{IsInPlace}
 use Rattle.phrase_walk.proofs.Asked.{asked_turns, rounds_within}
-use Rattle.phrase_walk.proofs.Steps.{Leads, IsAskedForward, passed_upto, forward_on, forward_found, forward_past, forward_cost, none_before_on, no_more, closer_on}
+use Rattle.phrase_walk.proofs.Steps.{Leads, IsAskedForward, passed_upto, forward_on, forward_found, forward_past, forward_none, forward_some, passed_rounds, none_before_on, no_more, closer_on}
 use Rattle.phrase_walk.proofs.walks.first_from.Goals as goal
 use Rattle.phrase_walk.proofs.walks.first_from.Goals.{then-earliest-start, else-earliest-start}
 
@@ -18,11 +18,17 @@ returns-in_err-found-clause-answer g c =
     rw c.from_residual.ensures
     (no_more text c.args.tokens.now c.span.ensures.sound c.requires c.args.k c.loop-agreed.start c.loop-agreed.invariant.before (c.in_err-found.ensures.none refl))
 
+pub returns-in_err-found-clause-passed : goal.returns-in_err-found-clause-passed
+returns-in_err-found-clause-passed g c =
+    let kept = c.loop-agreed.invariant in
+    let found = c.from_residual.ensures in
+    rw found
+    (forward_none (g.C.CountedLeaves.text c.args.source.now) c.args.tokens.now c.span.ensures.sound c.requires c.args.k c.loop-agreed.turn c.loop-agreed.agreed c.loop-agreed.start (g.C.CountedLeaves.most c.args.source.now)
+    (g.C.CountedLeaves.count c.args.counter.now) (g.C.CountedLeaves.count c.loop-agreed.counter) (g.C.CountedLeaves.count c.next_token.new.counter) kept.turn kept.from kept.below c.in_err-found.ensures.cost kept.asked)
+
 pub returns-in_err-found-clause-rounds : goal.returns-in_err-found-clause-rounds
 returns-in_err-found-clause-rounds g c =
-    let kept = c.loop-agreed.invariant in
-    forward_cost (g.C.CountedLeaves.text c.args.source.now) c.args.tokens.now c.span.ensures.sound c.requires c.loop-agreed.turn c.loop-agreed.agreed c.loop-agreed.start (g.C.CountedLeaves.most c.args.source.now)
-    (g.C.CountedLeaves.count c.args.counter.now) (g.C.CountedLeaves.count c.loop-agreed.counter) (g.C.CountedLeaves.count c.next_token.new.counter) kept.turn c.in_err-found.ensures.cost kept.asked
+    passed_rounds (g.C.CountedLeaves.text c.args.source.now) c.args.tokens.now c.span.ensures.sound c.requires c.args.k (g.C.CountedLeaves.most c.args.source.now) (g.C.CountedLeaves.count c.args.counter.now) (g.C.CountedLeaves.count c.next_token.new.counter) c.from_residual.result (returns-in_err-found-clause-passed g c)
 
 pub returns-in_err-found-clause-cost : goal.returns-in_err-found-clause-cost
 returns-in_err-found-clause-cost g c =
@@ -59,11 +65,11 @@ loop-agreed-preserved g c =
     let told = c.in_ok-found.ensures.found in
     let above : start + turn ≤ place = told.from in
     let within : place < text.next = told.within in
-    let asked : IsAskedForward text tokens (turn + 1) agreed (place - turn) (g.C.CountedLeaves.most c.args.source.now) (g.C.CountedLeaves.count c.args.counter.now) (g.C.CountedLeaves.count c.next_token.new.counter) =
-    forward_on text tokens c.span.ensures.sound c.requires turn c.loop-agreed.agreed agreed start (g.C.CountedLeaves.most c.args.source.now)
+    let asked : IsAskedForward text tokens c.args.k (turn + 1) agreed (place - turn) (g.C.CountedLeaves.most c.args.source.now) (g.C.CountedLeaves.count c.args.counter.now) (g.C.CountedLeaves.count c.next_token.new.counter) =
+    forward_on text tokens c.span.ensures.sound c.requires c.args.k turn c.loop-agreed.agreed agreed start (g.C.CountedLeaves.most c.args.source.now)
     (g.C.CountedLeaves.count c.args.counter.now) (g.C.CountedLeaves.count c.loop-agreed.counter) (g.C.CountedLeaves.count c.next_token.new.counter) place
-    c.loop-agreed-test.true c.in_ok-found.ensures.cost above told.held leads kept.asked in
-    let turns = asked_turns (length tokens) turn c.next_turn-turn.result agreed (passed_upto text tokens (place - turn)) (IsInPlace text tokens (place - turn))
+    c.loop-agreed-test.true c.in_ok-found.ensures.cost kept.from above told.held leads kept.asked in
+    let turns = asked_turns (length tokens) turn c.next_turn-turn.result agreed (passed_upto text tokens c.args.k (place - turn)) (IsInPlace text tokens (place - turn))
     (g.C.CountedLeaves.most c.args.source.now) (g.C.CountedLeaves.count c.args.counter.now) (g.C.CountedLeaves.count c.next_token.new.counter) kept.turn c.next_turn-turn.ensures.wraps c.next_turn-turn.ensures.goes_on asked in
     record {
       asked = turns.1;
@@ -87,13 +93,18 @@ returns-clause-answer g c =
     ap Some c.new.ensures
     ∙ forward_found text tokens c.span.ensures.sound c.requires c.args.k c.loop-agreed.start c.loop-agreed.turn (g.C.CountedLeaves.most c.args.source.now) (g.C.CountedLeaves.count c.args.counter.now) (g.C.CountedLeaves.count c.loop-agreed.counter)
     (omega (arith, kept.turn)) kept.from kept.before
-    (subst (λ n. IsAskedForward text tokens c.loop-agreed.turn n c.loop-agreed.start (g.C.CountedLeaves.most c.args.source.now) (g.C.CountedLeaves.count c.args.counter.now) (g.C.CountedLeaves.count c.loop-agreed.counter)) all kept.asked)
+    (subst (λ n. IsAskedForward text tokens c.args.k c.loop-agreed.turn n c.loop-agreed.start (g.C.CountedLeaves.most c.args.source.now) (g.C.CountedLeaves.count c.args.counter.now) (g.C.CountedLeaves.count c.loop-agreed.counter)) all kept.asked)
+
+pub returns-clause-passed : goal.returns-clause-passed
+returns-clause-passed g c =
+    let kept = c.loop-agreed.invariant in
+    rw c.new.ensures
+    (forward_some (g.C.CountedLeaves.text c.args.source.now) c.args.tokens.now c.span.ensures.sound c.requires c.args.k c.loop-agreed.turn c.loop-agreed.agreed c.loop-agreed.start (c.loop-agreed.start + (length c.args.tokens.now - 1)) (g.C.CountedLeaves.most c.args.source.now)
+    (g.C.CountedLeaves.count c.args.counter.now) (g.C.CountedLeaves.count c.loop-agreed.counter) kept.turn kept.from kept.asked)
 
 pub returns-clause-rounds : goal.returns-clause-rounds
 returns-clause-rounds g c =
-    let kept = c.loop-agreed.invariant in
-    forward_cost (g.C.CountedLeaves.text c.args.source.now) c.args.tokens.now c.span.ensures.sound c.requires c.loop-agreed.turn c.loop-agreed.agreed c.loop-agreed.start (g.C.CountedLeaves.most c.args.source.now)
-    (g.C.CountedLeaves.count c.args.counter.now) (g.C.CountedLeaves.count c.loop-agreed.counter) (g.C.CountedLeaves.count c.loop-agreed.counter) kept.turn (omega arith) kept.asked
+    passed_rounds (g.C.CountedLeaves.text c.args.source.now) c.args.tokens.now c.span.ensures.sound c.requires c.args.k (g.C.CountedLeaves.most c.args.source.now) (g.C.CountedLeaves.count c.args.counter.now) (g.C.CountedLeaves.count c.loop-agreed.counter) (Some c.new.result) (returns-clause-passed g c)
 
 pub returns-clause-cost : goal.returns-clause-cost
 returns-clause-cost g c =

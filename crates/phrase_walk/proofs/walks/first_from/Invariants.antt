@@ -9,7 +9,7 @@ invariant-loop-agreed g l =
     let text = g.C.CountedLeaves.text l.source in
     let most = g.C.CountedLeaves.most l.source in
     record {
-      asked : IsAskedForward text l.tokens l.turn l.agreed l.start most (g.C.CountedLeaves.count l.fn.counter) (g.C.CountedLeaves.count l.counter);
+      asked : IsAskedForward text l.tokens l.k l.turn l.agreed l.start most (g.C.CountedLeaves.count l.fn.counter) (g.C.CountedLeaves.count l.counter);
       before : NoneBefore text l.tokens l.k l.start;
       from : l.k ≤ l.start;
       below : l.start < text.next;
