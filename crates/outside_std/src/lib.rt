@@ -26,8 +26,3 @@ pub use cause::FileCause;
 pub use files::{FileCall, StdFiles};
 pub use sink::StdSink;
 pub use source::StdSource;
-
-#[cfg(test)]
-mod fake;
-#[cfg(test)]
-mod tests;

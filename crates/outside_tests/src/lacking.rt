@@ -1,49 +1,9 @@
-// Stand-ins for tests: a writer that answers as it is told, and a disk that fills up.
+//! A disk that fills up, or on which a program was killed before it ended.
 use std::alloc::{Allocator, Global};
 use std::fs::{File, Metadata, OpenFile, OpenOptions, Permissions};
 use std::io;
 use std::io::{Error, ErrorKind, Read, Seek, SeekFrom, Write};
 use std::rt::Files;
-
-/// One answer of a `TellsWriter`.
-#[derive(Clone, Copy, Debug)]
-pub enum Tells {
-    /// So many bytes are taken.
-    Takes(usize),
-    /// The write fails so.
-    Fails(ErrorKind),
-}
-
-/// Answers its writes with these, and fails when none is left.
-#[derive(Drop)]
-pub struct TellsWriter<'a> {
-    answers: &'a [Tells],
-    next: usize,
-}
-
-impl<'a> TellsWriter<'a> {
-    /// It gives these answers, one to each write.
-    pub fn new(answers: &'a [Tells]) -> Self {
-        TellsWriter { answers, next: 0 }
-    }
-}
-
-impl<'a> Write for TellsWriter<'a> {
-    fn write(&mut self, buf: &[u8]) -> io::Result<usize> {
-        let Some(answer) = self.answers.get(self.next) else {
-            return Err(Error::from(ErrorKind::Other));
-        };
-        self.next += 1;
-        match *answer {
-            Tells::Takes(count) => Ok(count.min(buf.len())),
-            Tells::Fails(kind) => Err(Error::from(kind)),
-        }
-    }
-
-    fn flush(&mut self) -> io::Result<()> {
-        Ok(())
-    }
-}
 
 /// What a disk does not do.
 #[derive(Clone, Copy, Debug, PartialEq, Eq)]

@@ -1,25 +1,14 @@
-// Each call and what it is to answer stand in one function: a test that makes many such calls in a row would be proved with all of them in sight.
-use crate::fake::{LackingDisk, Lacks, Tells, TellsWriter};
-use crate::{FileCall, FileCause, StdFiles, StdSink, StdSource};
-use outside::{FileError, Files, Loaded, Sink, Source, WriteError};
+// Each call and what it is to answer stand in one function: a test that makes many such calls in a row would be proved with all of them in
+// sight.
+use crate::compared::same;
+use crate::lacking::{LackingDisk, Lacks};
+use outside::{FileError, Files, Loaded};
+use outside_std::{FileCall, FileCause, StdFiles};
 use std::fs::Permissions;
-use std::io::ErrorKind;
 use std::os::unix::fs::{PermissionsExt, symlink};
 use std::path::PathBuf;
 use std::process::Abort;
 use std::{env, fs, io, rt};
-
-/// A sink answers so to a write of "to be".
-fn writes<R: Abort, S: Sink>(rt: &R, case: &str, sink: &mut S, want: Result<usize, WriteError>) {
-    assert_eq!(rt; sink.write(b"to be"), want, "{case}");
-}
-
-/// A source hands out these bytes next, of three that are asked for.
-fn reads<R: Abort, S: Source>(rt: &R, source: &mut S, want: &[u8]) {
-    let mut into = [0u8; 3];
-    let count = source.read(&mut into).unwrap_or(9);
-    assert_eq!(rt; into.get(..count), Some(want));
-}
 
 /// The files answer so to a load, which leaves these bytes.
 fn loads<R: AllocGlobal + Abort, F: Files>(
@@ -30,13 +19,13 @@ fn loads<R: AllocGlobal + Abort, F: Files>(
     want: (Result<Loaded, FileError>, &[u8]),
 ) {
     let mut out = Vec::new(rt.alloc());
-    assert_eq!(rt; files.load(name, most, &mut out), want.0);
-    assert_eq!(rt; out.as_slice(), want.1);
+    same(rt, &name, &files.load(name, most, &mut out), &want.0);
+    same(rt, &name, &out.as_slice(), &want.1);
 }
 
 /// A keep of these bytes is done.
 fn keeps<R: Abort, F: Files>(rt: &R, files: &mut F, name: &[u8], bytes: &[u8]) {
-    assert_eq!(rt; files.keep(name, bytes), Ok(()));
+    same(rt, &name, &files.keep(name, bytes), &Ok(()));
 }
 
 /// The files say that this call failed last, at which name, and why.
@@ -47,9 +36,9 @@ fn failed_at<R: rt::Files + AllocGlobal + Abort>(
     name: &[u8],
     cause: FileCause,
 ) {
-    assert_eq!(rt; files.last_call(), Some(call));
-    assert_eq!(rt; files.last_fault(), name);
-    assert_eq!(rt; files.last_cause(), Some(cause));
+    same(rt, &name, &files.last_call(), &Some(call));
+    same(rt, &name, &files.last_fault(), &name);
+    same(rt, &name, &files.last_cause(), &Some(cause));
 }
 
 /// A keep fails, and the files say why.
@@ -59,7 +48,12 @@ fn keeps_nothing<R: rt::Files + AllocGlobal + Abort>(
     name: &[u8],
     cause: FileCause,
 ) {
-    assert_eq!(rt; files.keep(name, b"to be"), Err(FileError::Failed));
+    same(
+        rt,
+        &name,
+        &files.keep(name, b"to be"),
+        &Err(FileError::Failed),
+    );
     failed_at(rt, files, FileCall::Keep, name, cause);
 }
 
@@ -81,7 +75,7 @@ fn file_count(rt: &HostRuntime, place: &PathBuf) -> io::Result<usize> {
 
 /// A folder has so many files.
 fn counts<R: Abort>(rt: &R, count: usize, want: usize) {
-    assert_eq!(rt; count, want);
+    same(rt, &"files", &count, &want);
 }
 
 /// An empty folder of its own, for one test.
@@ -95,26 +89,6 @@ fn empty_folder(rt: &HostRuntime, name: &str) -> io::Result<PathBuf> {
 }
 
 #[test]
-fn what_a_sink_took_a_source_hands_out(rt: HostRuntime) -> io::Result<()> {
-    let place = env::temp_dir(&rt)?.join(rt.alloc(), "gclq_outside_std_test")?;
-    let mut sink = StdSink::new(&rt, fs::create(&rt, &place)?);
-    writes(&rt, "a new file", &mut sink, Ok(5));
-    assert_eq!(rt; sink.write(b""), Ok(0));
-    let mut source = StdSource::new(&rt, fs::open(&rt, &place)?);
-    for want in [b"to ".as_slice(), b"be", b""] {
-        reads(&rt, &mut source, want);
-    }
-    let mut shut = StdSink::new(&rt, fs::open(&rt, &place)?);
-    writes(
-        &rt,
-        "a file that was opened for reading",
-        &mut shut,
-        Err(WriteError::Failed),
-    );
-    fs::remove_file(&rt, &place)
-}
-
-#[test]
 fn files_load_what_is_there_and_tell_where_they_failed(rt: HostRuntime) -> io::Result<()> {
     let place = empty_folder(&rt, "gclq_outside_std_load")?;
     let a = place.join(rt.alloc(), "a")?;
@@ -122,7 +96,7 @@ fn files_load_what_is_there_and_tell_where_they_failed(rt: HostRuntime) -> io::R
     let a = a.to_str().unwrap_or("").as_bytes();
     let b = b.to_str().unwrap_or("").as_bytes();
     let mut files = StdFiles::new(&rt);
-    assert_eq!(rt; files.last_fault(), b"".as_slice());
+    same(&rt, &"no fault", &files.last_fault(), &b"".as_slice());
     keeps(&rt, &mut files, a, b"to be");
     loads(&rt, &mut files, a, 5, (Ok(Loaded::Whole), b"to be"));
     loads(&rt, &mut files, a, 4, (Ok(Loaded::Long), b"to be"));
@@ -131,43 +105,6 @@ fn files_load_what_is_there_and_tell_where_they_failed(rt: HostRuntime) -> io::R
     loads_nothing(&rt, &mut files, b, FileCause::NotThere);
     loads_nothing(&rt, &mut files, folder, FileCause::Folder);
     fs::remove_dir_all(&rt, &place)
-}
-
-#[test]
-fn a_write_is_made_again_where_it_may_succeed_and_fails_at_a_fault_alone(rt: HostRuntime) {
-    let cases: [(&str, &[Tells], Result<usize, WriteError>); 7] = [
-        ("a part is taken", &[Tells::Takes(2)], Ok(2)),
-        (
-            "a signal came first",
-            &[Tells::Fails(ErrorKind::Interrupted), Tells::Takes(5)],
-            Ok(5),
-        ),
-        (
-            "the writer would have to wait",
-            &[Tells::Fails(ErrorKind::WouldBlock), Tells::Takes(5)],
-            Ok(5),
-        ),
-        (
-            "nothing is taken",
-            &[Tells::Takes(0), Tells::Takes(5)],
-            Err(WriteError::Failed),
-        ),
-        (
-            "the disk is full",
-            &[Tells::Fails(ErrorKind::StorageFull)],
-            Err(WriteError::Failed),
-        ),
-        (
-            "the writer wants memory",
-            &[Tells::Fails(ErrorKind::OutOfMemory)],
-            Err(WriteError::Failed),
-        ),
-        ("the first call fails", &[], Err(WriteError::Failed)),
-    ];
-    for (name, answers, want) in cases {
-        let mut sink = StdSink::new(&rt, TellsWriter::new(answers));
-        writes(&rt, name, &mut sink, want);
-    }
 }
 
 #[test]
@@ -199,17 +136,42 @@ fn what_is_kept_is_loaded_and_nothing_else_changes(rt: HostRuntime) -> io::Resul
     fs::remove_dir_all(&rt, &place)
 }
 
-/// A keep on this disk fails, and the files that are there hold the old content.
+/// A keep on this disk fails.
+fn does_not_keep<R: rt::Files + AllocGlobal + Abort>(rt: &R, disk: &LackingDisk<'_>, name: &[u8]) {
+    let mut files = StdFiles::new(disk);
+    same(
+        rt,
+        &name,
+        &files.keep(name, b"or not"),
+        &Err(FileError::Failed),
+    );
+    same(rt, &name, &files.last_fault(), &name);
+}
+
+/// A name has this content.
+fn has<R: rt::Files + AllocGlobal + Abort>(rt: &R, name: &[u8], content: &[u8]) {
+    let mut files = StdFiles::new(rt);
+    loads(rt, &mut files, name, 9, (Ok(Loaded::Whole), content));
+}
+
+/// A keep on this disk fails, and the name has its old content.
 fn leaves_the_old_content<R: rt::Files + AllocGlobal + Abort>(
     rt: &R,
     disk: &LackingDisk<'_>,
     name: &[u8],
 ) {
-    let mut lacking = StdFiles::new(disk);
-    assert_eq!(rt; lacking.keep(name, b"or not"), Err(FileError::Failed));
-    assert_eq!(rt; lacking.last_fault(), name);
-    let mut files = StdFiles::new(rt);
-    loads(rt, &mut files, name, 9, (Ok(Loaded::Whole), b"to be"));
+    does_not_keep(rt, disk, name);
+    has(rt, name, b"to be");
+}
+
+/// A keep on this disk is done, whatever was left behind.
+fn takes_the_new_content<R: rt::Files + AllocGlobal + Abort>(
+    rt: &R,
+    disk: &LackingDisk<'_>,
+    name: &[u8],
+) {
+    keeps(rt, &mut StdFiles::new(disk), name, b"or not");
+    has(rt, name, b"or not");
 }
 
 #[test]
@@ -217,8 +179,7 @@ fn a_full_disk_and_a_killed_program_leave_the_old_content(rt: HostRuntime) -> io
     let place = empty_folder(&rt, "gclq_outside_std_full")?;
     let a = place.join(rt.alloc(), "a")?;
     let name = a.to_str().unwrap_or("").as_bytes();
-    let mut files = StdFiles::new(&rt);
-    keeps(&rt, &mut files, name, b"to be");
+    keeps(&rt, &mut StdFiles::new(&rt), name, b"to be");
     // how many files are left: a killed program leaves what it had written beside the name
     let cases = [
         (Lacks::Room(0), 1),
@@ -230,10 +191,7 @@ fn a_full_disk_and_a_killed_program_leave_the_old_content(rt: HostRuntime) -> io
         leaves_the_old_content(&rt, &LackingDisk::new(&rt, lacks), name);
         counts(&rt, file_count(&rt, &place)?, want);
     }
-    // what was left behind stands in nobody's way
-    let disk = LackingDisk::new(&rt, Lacks::Room(6));
-    keeps(&rt, &mut StdFiles::new(&disk), name, b"or not");
-    loads(&rt, &mut files, name, 9, (Ok(Loaded::Whole), b"or not"));
+    takes_the_new_content(&rt, &LackingDisk::new(&rt, Lacks::Room(6)), name);
     counts(&rt, file_count(&rt, &place)?, 3);
     fs::remove_dir_all(&rt, &place)
 }
@@ -246,9 +204,14 @@ fn is_under<R: rt::Files + AllocGlobal + Abort>(
     link: Option<&str>,
 ) -> io::Result<()> {
     let bits = fs::metadata(rt, path)?.permissions().mode() & 0o777;
-    assert_eq!(rt; bits, mode);
+    same(rt, &"its mode", &bits, &mode);
     let text = fs::read_link(rt, path).ok();
-    assert_eq!(rt; text.as_ref().and_then(|text| text.to_str()), link);
+    same(
+        rt,
+        &"its text",
+        &text.as_ref().and_then(|text| text.to_str()),
+        &link,
+    );
     Ok(())
 }
 
