@@ -1,44 +1,79 @@
+use crate::compared::same;
 use gcl_model::{
     Bytes, Interval, IntervalList, Ledger, Question, Steps, TokenList, counted, uncounted,
 };
+use std::alloc::{AllocError, Global};
+use std::process::Abort;
 use std::test::Fail;
 
-#[test]
-fn lists_keep_what_was_put_into_them_and_so_do_their_copies(rt: HostRuntime) -> Result<(), Fail> {
-    let alloc = rt.alloc();
+/// A copy of a list of two bytes.
+fn two_bytes(alloc: Global) -> Result<Bytes, AllocError> {
     let mut bytes = Bytes::new(alloc);
     bytes.push(7)?;
     bytes.push(8)?;
+    bytes.copy()
+}
+
+/// A copy of a list of one token.
+fn one_token(alloc: Global, token: &Bytes) -> Result<TokenList, AllocError> {
     let mut tokens = TokenList::new(alloc);
-    tokens.push(bytes.copy()?)?;
+    tokens.push(token.copy()?)?;
+    tokens.copy()
+}
+
+/// A copy of a list of two intervals.
+fn two_intervals(alloc: Global) -> Result<IntervalList, AllocError> {
     let mut intervals = IntervalList::new(alloc);
     intervals.push(Interval::new(1, 4))?;
     intervals.push(Interval::new(2, 9))?;
-    let (bytes, tokens, intervals) = (bytes.copy()?, tokens.copy()?, intervals.copy()?);
-    assert_eq!(rt; (bytes.len(), tokens.len(), intervals.len()), (2, 1, 2));
-    assert_eq!(rt; (*bytes.get(0), *bytes.get(1)), (7, 8));
-    assert_eq!(rt; *tokens.get(0).as_slice(), *bytes.as_slice());
-    assert_eq!(rt;
-        (*intervals.get(0), *intervals.get(1)),
-        (Interval::new(1, 4), Interval::new(2, 9))
+    intervals.copy()
+}
+
+/// The list has these two bytes.
+fn has_bytes<R: Abort>(rt: &R, bytes: &Bytes, want: (u8, u8)) {
+    assert!(rt; bytes.len() == 2);
+    same(rt, &"bytes", &(*bytes.get(0), *bytes.get(1)), &want);
+}
+
+/// The list has this one token.
+fn has_token<R: Abort>(rt: &R, tokens: &TokenList, token: &[u8]) {
+    assert!(rt; tokens.len() == 1 && tokens.as_slice().len() == 1);
+    same(rt, &"a token", &tokens.get(0).as_slice(), &token);
+}
+
+/// The list has these two intervals.
+fn has_intervals<R: Abort>(rt: &R, intervals: &IntervalList, want: (Interval, Interval)) {
+    assert!(rt; intervals.len() == 2 && intervals.as_slice().len() == 2);
+    same(
+        rt,
+        &"intervals",
+        &(*intervals.get(0), *intervals.get(1)),
+        &want,
     );
-    assert_eq!(rt;
-        (tokens.as_slice().len(), intervals.as_slice().len()),
-        (1, 2)
-    );
+}
+
+#[test]
+fn lists_keep_what_was_put_into_them_and_so_do_their_copies(rt: HostRuntime) -> Result<(), Fail> {
+    let bytes = two_bytes(rt.alloc())?;
+    has_bytes(&rt, &bytes, (7, 8));
+    has_token(&rt, &one_token(rt.alloc(), &bytes)?, bytes.as_slice());
+    let want = (Interval::new(1, 4), Interval::new(2, 9));
+    has_intervals(&rt, &two_intervals(rt.alloc())?, want);
     Ok(())
+}
+
+/// Of these words the second is this.
+fn has_second<R: Abort>(rt: &R, words: &TokenList, want: &[u8]) {
+    assert!(rt; words.len() == 2);
+    same(rt, &"a word", &words.get(1).as_slice(), &want);
 }
 
 #[test]
 fn words_become_tokens_and_a_vector_of_bytes_becomes_bytes(rt: HostRuntime) -> Result<(), Fail> {
     let alloc = rt.alloc();
-    let words = TokenList::of(alloc, &["to", "be"])?;
-    assert_eq!(rt; words.len(), 2);
-    assert_eq!(rt; *words.get(1).as_slice(), *b"be".as_slice());
-    assert_eq!(rt;
-        *Bytes::of(vec![in alloc; 7, 8]?).as_slice(),
-        *[7u8, 8].as_slice()
-    );
+    has_second(&rt, &TokenList::of(alloc, &["to", "be"])?, b"be");
+    let bytes = Bytes::of(vec![in alloc; 7, 8]?);
+    same(&rt, &"bytes", &bytes.as_slice(), &[7u8, 8].as_slice());
     Ok(())
 }
 
@@ -65,6 +100,6 @@ impl Question for TwoSteps {
 
 #[test]
 fn a_question_is_asked_with_a_counter_or_without(rt: HostRuntime) {
-    assert_eq!(rt; counted(&TwoSteps), (true, 2));
-    assert_eq!(rt; uncounted(&TwoSteps), true);
+    same(&rt, &"counted", &counted(&TwoSteps), &(true, 2));
+    same(&rt, &"uncounted", &uncounted(&TwoSteps), &true);
 }

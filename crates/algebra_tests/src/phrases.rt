@@ -1,7 +1,9 @@
 ghost use Rattle.std.specs.Prelude.{◌≡◌, ◌<◌, ◌≤◌, length, IfOk};
 ghost use Rattle.gcl_model.specs.FormOf.{form_of};
+ghost use Rattle.gcl_model.specs.Limits.{far};
 ghost use Rattle.gcl_model.specs.WellFormed.{IsWellFormed};
 
+use crate::compared::same;
 use gcl_model::{Expr, Interval, Ledger, Question, Steps, TokenList, counted, uncounted};
 use phrase_walk::{phrase_first_end, phrase_first_start, phrase_last_end, phrase_last_start};
 use plain_text::{PlainText, of_tokens, slow_list};
@@ -47,7 +49,78 @@ fn phrase(tokens: &TokenList) -> Result<Expr, AllocError>
     Ok(Expr::Phrase(tokens.copy()?))
 }
 
-/// The phrase starts at these addresses, by the plain list too, and all accesses follow, at every address and a few beyond.
+/// The text of these words from `first` on.
+fn text_of<R: Abort>(
+    rt: &R,
+    alloc: Global,
+    first: u64,
+    words: &[&str],
+) -> Result<PlainText, AllocError> {
+    let tokens = TokenList::of(alloc, words)?;
+    assert!(rt; tokens.len() <= 8 && first <= 8);
+    of_tokens(alloc, first, &tokens)
+}
+
+/// The tokens of these words, two or more.
+fn tokens_of<R: Abort>(rt: &R, alloc: Global, words: &[&str]) -> Result<TokenList, AllocError>
+    ensures { IfOk result (λ tokens. 2 ≤ length tokens) }
+{
+    let tokens = TokenList::of(alloc, words)?;
+    assert!(rt; tokens.len() >= 2);
+    Ok(tokens)
+}
+
+/// The members start at these addresses.
+fn are_starts<R: Abort>(rt: &R, members: &[Interval], want: &[u64]) {
+    same(rt, &want, &members.len(), &want.len());
+    for (member, start) in members.iter().zip(want) {
+        same(rt, &want, &member.start, start);
+    }
+}
+
+/// The four accesses at an address, by looking at each member.
+fn plain_accesses(members: &[Interval], k: u64) -> [Option<Interval>; 4] {
+    let starting = members.iter().copied().find(|m| m.start >= k);
+    let ending = members.iter().copied().find(|m| m.end >= k);
+    let ended = members.iter().rev().copied().find(|m| m.end <= k);
+    let started = members.iter().rev().copied().find(|m| m.start <= k);
+    [starting, ending, ended, started]
+}
+
+/// The four accesses of these words at an address are these.
+fn are_accesses<R: Abort>(
+    rt: &R,
+    words: &[&str],
+    asked: &AccessesAt<'_>,
+    want: [Option<Interval>; 4],
+)
+    requires two { 2 ≤ length asked.now.tokens.now }
+    requires below { asked.now.k < far }
+{
+    same(rt, &(words, asked.k), &uncounted(asked), &want);
+}
+
+/// The accesses follow the members, at every address and a few beyond.
+fn follow<R: Abort>(
+    rt: &R,
+    words: &[&str],
+    tokens: &TokenList,
+    text: &PlainText,
+    members: &[Interval],
+)
+    requires { 2 ≤ length tokens.now }
+{
+    for k in 0..14u64 {
+        are_accesses(
+            rt,
+            words,
+            &AccessesAt { tokens, text, k },
+            plain_accesses(members, k),
+        );
+    }
+}
+
+/// The phrase starts at these addresses, by the plain list too, and all accesses follow.
 fn starts<R: Abort>(
     rt: &R,
     alloc: Global,
@@ -55,66 +128,75 @@ fn starts<R: Abort>(
     words: &[&str],
     want: &[u64],
 ) -> Result<(), AllocError> {
-    let tokens = &TokenList::of(alloc, words)?;
-    assert!(rt; tokens.len() >= 2);
-    let members = slow_list(alloc, &phrase(tokens)?, text)?;
-    let members = members.as_slice();
-    let mut found = Vec::new(alloc);
-    for member in members {
-        found.push(member.start)?;
-    }
-    assert_eq!(rt; found.as_slice(), want);
-    for k in 0..14u64 {
-        let starting = members.iter().copied().find(|m| m.start >= k);
-        let ending = members.iter().copied().find(|m| m.end >= k);
-        let ended = members.iter().rev().copied().find(|m| m.end <= k);
-        let started = members.iter().rev().copied().find(|m| m.start <= k);
-        assert_eq!(rt;
-            uncounted(&AccessesAt { tokens, text, k }),
-            [starting, ending, ended, started],
-            "{words:?} at {k}"
-        );
-    }
+    let tokens = tokens_of(rt, alloc, words)?;
+    let members = slow_list(alloc, &phrase(&tokens)?, text)?;
+    are_starts(rt, members.as_slice(), want);
+    follow(rt, words, &tokens, text, members.as_slice());
     Ok(())
 }
+
+/// A phrase, and where it starts.
+type Row = (&'static [&'static str], &'static [u64]);
+
+const OF_WORDS: [Row; 4] = [
+    (&["to", "be"], &[1, 5]),
+    (&["be", "to"], &[]),
+    (&["not", "to", "be"], &[4]),
+    (&["be", "</file!>"], &[6]),
+];
+
+const OF_LETTERS: [Row; 4] = [
+    (&["a", "b"], &[3, 8]),
+    (&["b", "a", "b"], &[7]),
+    (&["a", "a"], &[]),
+    (&["x", "a"], &[]),
+];
 
 #[test]
 fn each_access_is_that_of_the_members(rt: HostRuntime) -> Result<(), Fail> {
     let alloc = rt.alloc();
-    let hamlet = TokenList::of(
-        alloc,
-        &["<file!>", "to", "be", "or", "not", "to", "be", "</file!>"],
-    )?;
-    assert_eq!(rt; hamlet.len(), 8);
-    let text = of_tokens(alloc, 0, &hamlet)?;
-    starts(&rt, alloc, &text, &["to", "be"], &[1, 5])?;
-    starts(&rt, alloc, &text, &["be", "to"], &[])?;
-    starts(&rt, alloc, &text, &["not", "to", "be"], &[4])?;
-    starts(&rt, alloc, &text, &["be", "</file!>"], &[6])?;
-    let letters = TokenList::of(alloc, &["a", "b", "a", "c", "b", "a", "b"])?;
-    assert_eq!(rt; letters.len(), 7);
-    let text = of_tokens(alloc, 3, &letters)?;
-    starts(&rt, alloc, &text, &["a", "b"], &[3, 8])?;
-    starts(&rt, alloc, &text, &["b", "a", "b"], &[7])?;
-    starts(&rt, alloc, &text, &["a", "a"], &[])?;
-    starts(&rt, alloc, &text, &["x", "a"], &[])?;
+    let hamlet = &["<file!>", "to", "be", "or", "not", "to", "be", "</file!>"];
+    let text = text_of(&rt, alloc, 0, hamlet)?;
+    for (words, want) in OF_WORDS {
+        starts(&rt, alloc, &text, words, want)?;
+    }
+    let letters = &["a", "b", "a", "c", "b", "a", "b"];
+    let text = text_of(&rt, alloc, 3, letters)?;
+    for (words, want) in OF_LETTERS {
+        starts(&rt, alloc, &text, words, want)?;
+    }
+    Ok(())
+}
+
+/// In a text of these words the four accesses of a phrase at an address are these, and take so many look-ups together.
+fn takes<R: Abort>(
+    rt: &R,
+    alloc: Global,
+    words: &[&str],
+    phrase: &[&str],
+    k: u64,
+    want: ([Option<Interval>; 4], u64),
+) -> Result<(), AllocError>
+    requires { k < far }
+{
+    let text = &text_of(rt, alloc, 0, words)?;
+    let tokens = &tokens_of(rt, alloc, phrase)?;
+    same(
+        rt,
+        &phrase,
+        &counted(&AccessesAt { tokens, text, k }),
+        &want,
+    );
     Ok(())
 }
 
 /// "to be" in `to or be to be` at 3: 2 look-ups for the first start, 2 for the first end, 3 for the last end and 2 for the last start.
 #[test]
 fn each_turn_of_a_walk_looks_up_each_token_once(rt: HostRuntime) -> Result<(), Fail> {
-    let alloc = rt.alloc();
-    let words = TokenList::of(alloc, &["to", "or", "be", "to", "be"])?;
-    assert_eq!(rt; words.len(), 5);
-    let text = &of_tokens(alloc, 0, &words)?;
-    let tokens = &TokenList::of(alloc, &["to", "be"])?;
-    assert!(rt; tokens.len() >= 2);
     let to_be = Some(Interval::new(3, 4));
-    assert_eq!(rt;
-        counted(&AccessesAt { tokens, text, k: 3 }),
-        ([to_be, to_be, None, to_be], 9)
-    );
+    let want = ([to_be, to_be, None, to_be], 9);
+    let words = &["to", "or", "be", "to", "be"];
+    takes(&rt, rt.alloc(), words, &["to", "be"], 3, want)?;
     Ok(())
 }
 
@@ -123,16 +205,9 @@ fn each_turn_of_a_walk_looks_up_each_token_once(rt: HostRuntime) -> Result<(), F
 /// takes none and 1.
 #[test]
 fn a_walk_ends_as_soon_as_each_token_agreed(rt: HostRuntime) -> Result<(), Fail> {
-    let alloc = rt.alloc();
-    let words = TokenList::of(alloc, &["the", "a", "the", "king", "a", "the"])?;
-    assert_eq!(rt; words.len(), 6);
-    let text = &of_tokens(alloc, 0, &words)?;
-    let tokens = &TokenList::of(alloc, &["the", "king"])?;
-    assert!(rt; tokens.len() >= 2);
     let the_king = Some(Interval::new(2, 3));
-    assert_eq!(rt;
-        counted(&AccessesAt { tokens, text, k: 0 }),
-        ([the_king, the_king, None, None], 7)
-    );
+    let want = ([the_king, the_king, None, None], 7);
+    let words = &["the", "a", "the", "king", "a", "the"];
+    takes(&rt, rt.alloc(), words, &["the", "king"], 0, want)?;
     Ok(())
 }

@@ -1,6 +1,8 @@
+use crate::compared::same;
 use gcl_model::Expr;
 use gcl_parser::{ParseFault, QueryKind, parse};
 use std::alloc::{AllocError, Global};
+use std::process::Abort;
 use std::test::Fail;
 
 /// Writes an expression with a bracket around each node: terms and widths as they are, and `_` behind each term of a
@@ -23,34 +25,10 @@ fn write(out: &mut Vec<u8>, expr: &Expr) -> Result<(), AllocError> {
         Expr::Both(operands) => write_chain(out, operands.as_slice(), b'^'),
         Expr::One(operands) => write_chain(out, operands.as_slice(), b'+'),
         Expr::Seq(operands) => write_chain(out, operands.as_slice(), b'.'),
-        Expr::Containing(left, right) => {
-            out.push(b'(')?;
-            write(out, left)?;
-            out.push(b'>')?;
-            write(out, right)?;
-            out.extend_from_slice(b")".as_slice())
-        }
-        Expr::ContainedIn(left, right) => {
-            out.push(b'(')?;
-            write(out, left)?;
-            out.push(b'<')?;
-            write(out, right)?;
-            out.extend_from_slice(b")".as_slice())
-        }
-        Expr::NotContaining(left, right) => {
-            out.push(b'(')?;
-            write(out, left)?;
-            out.extend_from_slice(b"/>".as_slice())?;
-            write(out, right)?;
-            out.extend_from_slice(b")".as_slice())
-        }
-        Expr::NotContainedIn(left, right) => {
-            out.push(b'(')?;
-            write(out, left)?;
-            out.extend_from_slice(b"/<".as_slice())?;
-            write(out, right)?;
-            out.extend_from_slice(b")".as_slice())
-        }
+        Expr::Containing(left, right) => write_pair(out, left, right, b">"),
+        Expr::ContainedIn(left, right) => write_pair(out, left, right, b"<"),
+        Expr::NotContaining(left, right) => write_pair(out, left, right, b"/>"),
+        Expr::NotContainedIn(left, right) => write_pair(out, left, right, b"/<"),
     }
 }
 
@@ -61,6 +39,20 @@ fn write_chain(out: &mut Vec<u8>, operands: &[Expr], joint: u8) -> Result<(), Al
         write(out, operand)?;
         out.push(joint)?;
     }
+    out.extend_from_slice(b")".as_slice())
+}
+
+#[cycle(write)]
+fn write_pair(
+    out: &mut Vec<u8>,
+    left: &Expr,
+    right: &Expr,
+    joint: &[u8],
+) -> Result<(), AllocError> {
+    out.push(b'(')?;
+    write(out, left)?;
+    out.extend_from_slice(joint)?;
+    write(out, right)?;
     out.extend_from_slice(b")".as_slice())
 }
 
@@ -102,114 +94,108 @@ fn joined(alloc: Global, count: usize) -> Result<Vec<u8>, AllocError> {
     Ok(text)
 }
 
-#[test]
-fn queries_give_their_expressions(rt: HostRuntime) -> Result<(), Fail> {
-    for (text, want) in [
-        (b"\"To\"".as_slice(), b"to".as_slice()),
-        (b"\"to be\"".as_slice(), b"to_be_".as_slice()),
-        (b"\"<file!>\"".as_slice(), b"<file!>".as_slice()),
-        (b"\" <file!>\"".as_slice(), b"<file>".as_slice()),
-        (b"\"King's\"".as_slice(), b"king_s_".as_slice()),
-        (b"\"Inter\"*".as_slice(), b"inter*".as_slice()),
-        (
-            b"\" \xc3\xa9t\xc3\xa9, \"*".as_slice(),
-            b"\xc3\xa9t\xc3\xa9*".as_slice(),
-        ),
-        (b"\"n\"*^\"o\"*".as_slice(), b"(n*^o*^)".as_slice()),
-        (b"\t[0007] ".as_slice(), b"7".as_slice()),
-        (
-            b"[72057594037927936]".as_slice(),
-            b"72057594037927936".as_slice(),
-        ),
-        (b"(\"a\")".as_slice(), b"a".as_slice()),
-        (
-            b"\"to\"..\"be\"^\"not\"".as_slice(),
-            b"((to.be.)^not^)".as_slice(),
-        ),
-        (
-            b"\"to\" + \"be\" ^ \"not\"".as_slice(),
-            b"(to+(be^not^)+)".as_slice(),
-        ),
-        (b"\"a\"+\"b\"+\"c\"".as_slice(), b"(a+b+c+)".as_slice()),
-        (b"(\"a\"+\"b\")+\"c\"".as_slice(), b"((a+b+)+c+)".as_slice()),
-        (
-            b"[2] > \"to\" > \"be\"".as_slice(),
-            b"((2>to)>be)".as_slice(),
-        ),
-        (
-            b"[2]<\"a\"/>\"b\"/<\"c\"".as_slice(),
-            b"(((2<a)/>b)/<c)".as_slice(),
-        ),
-        (
-            b"[2] > (\"to\" > \"be\")".as_slice(),
-            b"(2>(to>be))".as_slice(),
-        ),
-        (
-            b"\"a\"+\"b\">\"c\"+\"d\"".as_slice(),
-            b"((a+b+)>(c+d+))".as_slice(),
-        ),
-    ] {
-        let out = written(rt.alloc(), text)?;
-        assert_eq!(rt; out.as_slice(), want);
-    }
+/// Queries, and what each is, written with brackets.
+const GIVEN: [(&[u8], &[u8]); 19] = [
+    (b"\"To\"", b"to"),
+    (b"\"to be\"", b"to_be_"),
+    (b"\"<file!>\"", b"<file!>"),
+    (b"\" <file!>\"", b"<file>"),
+    (b"\"King's\"", b"king_s_"),
+    (b"\"Inter\"*", b"inter*"),
+    (b"\" \xc3\xa9t\xc3\xa9, \"*", b"\xc3\xa9t\xc3\xa9*"),
+    (b"\"n\"*^\"o\"*", b"(n*^o*^)"),
+    (b"\t[0007] ", b"7"),
+    (b"[72057594037927936]", b"72057594037927936"),
+    (b"(\"a\")", b"a"),
+    (b"\"to\"..\"be\"^\"not\"", b"((to.be.)^not^)"),
+    (b"\"to\" + \"be\" ^ \"not\"", b"(to+(be^not^)+)"),
+    (b"\"a\"+\"b\"+\"c\"", b"(a+b+c+)"),
+    (b"(\"a\"+\"b\")+\"c\"", b"((a+b+)+c+)"),
+    (b"[2] > \"to\" > \"be\"", b"((2>to)>be)"),
+    (b"[2]<\"a\"/>\"b\"/<\"c\"", b"(((2<a)/>b)/<c)"),
+    (b"[2] > (\"to\" > \"be\")", b"(2>(to>be))"),
+    (b"\"a\"+\"b\">\"c\"+\"d\"", b"((a+b+)>(c+d+))"),
+];
+
+/// The query is this, written with brackets.
+fn gives<R: Abort>(rt: &R, alloc: Global, text: &[u8], want: &[u8]) -> Result<(), ParseFault> {
+    same(rt, &text, &written(alloc, text)?.as_slice(), &want);
     Ok(())
 }
 
 #[test]
-fn refusals_have_a_place_and_a_kind(rt: HostRuntime) {
-    for (text, at, kind) in [
-        (b"".as_slice(), 0, QueryKind::OperandExpected),
-        (b" \t".as_slice(), 2, QueryKind::OperandExpected),
-        (b"(\"to\"".as_slice(), 5, QueryKind::OperatorOrCloseExpected),
-        (b"\"to\" ..".as_slice(), 7, QueryKind::OperandExpected),
-        (b"\"a\"^)".as_slice(), 4, QueryKind::OperandExpected),
-        (b"()".as_slice(), 1, QueryKind::OperandExpected),
-        (
-            b"\"a\" \"b\"".as_slice(),
-            4,
-            QueryKind::OperatorOrCloseExpected,
-        ),
-        (b"\"a\" (".as_slice(), 4, QueryKind::OperatorOrCloseExpected),
-        (b"\"a\")".as_slice(), 3, QueryKind::OperatorOrCloseExpected),
-        (b"\"a\" . \"b\"".as_slice(), 4, QueryKind::Character),
-        (b"\"a\"...\"b\"".as_slice(), 5, QueryKind::Character),
-        (b"\"a\" / \"b\"".as_slice(), 4, QueryKind::Character),
-        (b"a".as_slice(), 0, QueryKind::Character),
-        (b"]".as_slice(), 0, QueryKind::Character),
-        (b"\"a\"+\xc3".as_slice(), 4, QueryKind::Character),
-        (b"\"a\"+\0".as_slice(), 4, QueryKind::Character),
-        (b"\"abc".as_slice(), 0, QueryKind::OpenQuote),
-        (b"\"a\" \"".as_slice(), 4, QueryKind::OpenQuote),
-        (b"[0]".as_slice(), 0, QueryKind::BadWidth),
-        (b"[5".as_slice(), 0, QueryKind::BadWidth),
-        (b"[]".as_slice(), 0, QueryKind::BadWidth),
-        (b"[ 5]".as_slice(), 0, QueryKind::BadWidth),
-        (b"\"a\" [0]".as_slice(), 4, QueryKind::BadWidth),
-        (b"[72057594037927937]".as_slice(), 0, QueryKind::BadWidth),
-        (b"[18446744073709551617]".as_slice(), 0, QueryKind::BadWidth),
-        (b"[99999999999999999999]".as_slice(), 0, QueryKind::BadWidth),
-        (
-            b"[1234567890123456789012345678901234567890]".as_slice(),
-            0,
-            QueryKind::BadWidth,
-        ),
-        (b"\"\"".as_slice(), 0, QueryKind::EmptyTerm),
-        (b"\"a\"^\" . \"".as_slice(), 4, QueryKind::EmptyTerm),
-        (b"\"\"*".as_slice(), 0, QueryKind::EmptyTerm),
-        (b"\"to be\"*".as_slice(), 0, QueryKind::BadPrefix),
-        (b"\"king's\"*".as_slice(), 0, QueryKind::BadPrefix),
-        (b"\"a\" + \"<t>\"*".as_slice(), 6, QueryKind::BadPrefix),
-        (b"\"<br/>\"*".as_slice(), 0, QueryKind::BadPrefix),
-        (b"\"</file!>\"*".as_slice(), 0, QueryKind::BadPrefix),
-        (b"\"a\" \"b c\"*".as_slice(), 4, QueryKind::BadPrefix),
-        (b"\"a\" *".as_slice(), 4, QueryKind::Character),
-        (b"\"a\"**".as_slice(), 4, QueryKind::Character),
-        (b"[1]*".as_slice(), 3, QueryKind::Character),
-        (b"(\"a\")*".as_slice(), 5, QueryKind::Character),
-        (b"*".as_slice(), 0, QueryKind::Character),
-    ] {
-        assert_eq!(rt; fault(rt.alloc(), text), Some((at, kind)));
+fn queries_give_their_expressions(rt: HostRuntime) -> Result<(), Fail> {
+    for (text, want) in GIVEN {
+        gives(&rt, rt.alloc(), text, want)?;
     }
+    Ok(())
+}
+
+/// Texts that are no queries, each with the place and the kind of its first fault.
+const REFUSED: [(&[u8], u64, QueryKind); 41] = [
+    (b"", 0, QueryKind::OperandExpected),
+    (b" \t", 2, QueryKind::OperandExpected),
+    (b"(\"to\"", 5, QueryKind::OperatorOrCloseExpected),
+    (b"\"to\" ..", 7, QueryKind::OperandExpected),
+    (b"\"a\"^)", 4, QueryKind::OperandExpected),
+    (b"()", 1, QueryKind::OperandExpected),
+    (b"\"a\" \"b\"", 4, QueryKind::OperatorOrCloseExpected),
+    (b"\"a\" (", 4, QueryKind::OperatorOrCloseExpected),
+    (b"\"a\")", 3, QueryKind::OperatorOrCloseExpected),
+    (b"\"a\" . \"b\"", 4, QueryKind::Character),
+    (b"\"a\"...\"b\"", 5, QueryKind::Character),
+    (b"\"a\" / \"b\"", 4, QueryKind::Character),
+    (b"a", 0, QueryKind::Character),
+    (b"]", 0, QueryKind::Character),
+    (b"\"a\"+\xc3", 4, QueryKind::Character),
+    (b"\"a\"+\0", 4, QueryKind::Character),
+    (b"\"abc", 0, QueryKind::OpenQuote),
+    (b"\"a\" \"", 4, QueryKind::OpenQuote),
+    (b"[0]", 0, QueryKind::BadWidth),
+    (b"[5", 0, QueryKind::BadWidth),
+    (b"[]", 0, QueryKind::BadWidth),
+    (b"[ 5]", 0, QueryKind::BadWidth),
+    (b"\"a\" [0]", 4, QueryKind::BadWidth),
+    (b"[72057594037927937]", 0, QueryKind::BadWidth),
+    (b"[18446744073709551617]", 0, QueryKind::BadWidth),
+    (b"[99999999999999999999]", 0, QueryKind::BadWidth),
+    (
+        b"[1234567890123456789012345678901234567890]",
+        0,
+        QueryKind::BadWidth,
+    ),
+    (b"\"\"", 0, QueryKind::EmptyTerm),
+    (b"\"a\"^\" . \"", 4, QueryKind::EmptyTerm),
+    (b"\"\"*", 0, QueryKind::EmptyTerm),
+    (b"\"to be\"*", 0, QueryKind::BadPrefix),
+    (b"\"king's\"*", 0, QueryKind::BadPrefix),
+    (b"\"a\" + \"<t>\"*", 6, QueryKind::BadPrefix),
+    (b"\"<br/>\"*", 0, QueryKind::BadPrefix),
+    (b"\"</file!>\"*", 0, QueryKind::BadPrefix),
+    (b"\"a\" \"b c\"*", 4, QueryKind::BadPrefix),
+    (b"\"a\" *", 4, QueryKind::Character),
+    (b"\"a\"**", 4, QueryKind::Character),
+    (b"[1]*", 3, QueryKind::Character),
+    (b"(\"a\")*", 5, QueryKind::Character),
+    (b"*", 0, QueryKind::Character),
+];
+
+/// The text is refused at this place, for this cause.
+fn refuses<R: Abort>(rt: &R, alloc: Global, text: &[u8], at: u64, kind: QueryKind) {
+    same(rt, &text, &fault(alloc, text), &Some((at, kind)));
+}
+
+#[test]
+fn refusals_have_a_place_and_a_kind(rt: HostRuntime) {
+    for (text, at, kind) in REFUSED {
+        refuses(&rt, rt.alloc(), text, at, kind);
+    }
+}
+
+/// The query takes so many bytes, written with brackets.
+fn takes<R: Abort>(rt: &R, alloc: Global, text: &[u8], bytes: usize) -> Result<(), ParseFault> {
+    same(rt, &"its length", &written(alloc, text)?.len(), &bytes);
+    Ok(())
 }
 
 #[test]
@@ -217,18 +203,21 @@ fn twelve_brackets_and_256_operands_pass_and_one_more_of_either_does_not(
     rt: HostRuntime,
 ) -> Result<(), Fail> {
     let alloc = rt.alloc();
-    assert_eq!(rt;
-        written(alloc, nested(alloc, 12)?.as_slice())?.as_slice(),
-        b"a".as_slice()
+    gives(&rt, alloc, nested(alloc, 12)?.as_slice(), b"a")?;
+    refuses(
+        &rt,
+        alloc,
+        nested(alloc, 13)?.as_slice(),
+        12,
+        QueryKind::TooDeep,
     );
-    assert_eq!(rt;
-        fault(alloc, nested(alloc, 13)?.as_slice()),
-        Some((12, QueryKind::TooDeep))
-    );
-    assert_eq!(rt; written(alloc, joined(alloc, 255)?.as_slice())?.len(), 514);
-    assert_eq!(rt;
-        fault(alloc, joined(alloc, 256)?.as_slice()),
-        Some((1024, QueryKind::TooLarge))
+    takes(&rt, alloc, joined(alloc, 255)?.as_slice(), 514)?;
+    refuses(
+        &rt,
+        alloc,
+        joined(alloc, 256)?.as_slice(),
+        1024,
+        QueryKind::TooLarge,
     );
     Ok(())
 }

@@ -1,10 +1,14 @@
 ghost use Rattle.std.specs.Prelude.{◌<◌, ◌≤◌};
+ghost use Rattle.gcl_model.specs.FormOf.{form_of};
+ghost use Rattle.gcl_model.specs.WellFormed.{IsWellFormed};
 
+use crate::compared::same;
 use crate::fixtures::{behind, expression};
 use gcl_model::{Bytes, Expr, Interval, IntervalList, Ledger, Question, Steps, TokenList, counted};
 use gcl_readers::{Readers, read_count, read_list_from};
 use plain_text::{PlainText, of_tokens, slow_list};
 use std::alloc::{AllocError, Global};
+use std::process::Abort;
 use std::test::Fail;
 
 /// All members, by pages of so many, which the same readers fill.
@@ -141,42 +145,129 @@ fn put_query(query: &mut Vec<u8>, state: &mut u64, depth: u64) -> Result<(), All
     Ok(())
 }
 
+/// The text of these words from `first` on, where they are not too many.
+fn text_of(
+    alloc: Global,
+    first: u64,
+    words: &TokenList,
+    most: usize,
+) -> Result<Option<PlainText>, AllocError>
+    requires first { first ≤ 3 }
+    requires most { most ≤ 5000 }
+{
+    if most < words.len() {
+        return Ok(None);
+    }
+    Ok(Some(of_tokens(alloc, first, words)?))
+}
+
+/// Pages of this size have these members.
+fn list_by_pages<R: Abort>(
+    rt: &R,
+    turn: u64,
+    pages: &Pages<'_>,
+    want: &[Interval],
+) -> Result<(), AllocError>
+    requires { IsWellFormed (form_of pages.now.expr.now) }
+{
+    let (read, _) = counted(pages);
+    same(rt, &(turn, pages.size), &read?.as_slice(), &want);
+    Ok(())
+}
+
+/// There are this many members.
+fn has_members<R: Abort>(
+    rt: &R,
+    turn: u64,
+    count: &Count<'_>,
+    want: usize,
+) -> Result<(), AllocError>
+    requires { IsWellFormed (form_of count.now.expr.now) }
+{
+    let (read, _) = counted(count);
+    same(rt, &turn, &read?, &(want as u64));
+    Ok(())
+}
+
+/// Pages of three sizes and the count are those of the plain list.
+fn are_listed<R: Abort>(
+    rt: &R,
+    alloc: Global,
+    turn: u64,
+    expr: &Expr,
+    text: &PlainText,
+) -> Result<(), AllocError>
+    requires { IsWellFormed (form_of expr.now) }
+{
+    let plain = slow_list(alloc, expr, text)?;
+    for size in [1, 3, 100] {
+        let pages = Pages {
+            alloc,
+            expr,
+            text,
+            size,
+        };
+        list_by_pages(rt, turn, &pages, plain.as_slice())?;
+    }
+    has_members(rt, turn, &Count { alloc, expr, text }, plain.len())
+}
+
+/// A text and a query that chance has, compared.
+fn compares<R: Abort>(rt: &R, alloc: Global, turn: u64, state: &mut u64) -> Result<(), AllocError> {
+    let count = 1 + chance(state, 11);
+    let words = chance_words(alloc, state, count, 4)?;
+    let Some(text) = text_of(alloc, 3, &words, 100)? else {
+        return Ok(());
+    };
+    let mut query = Vec::new(alloc);
+    put_query(&mut query, state, 4)?;
+    match expression(alloc, query.as_slice()) {
+        Some(expr) => are_listed(rt, alloc, turn, &expr, &text),
+        None => Ok(()),
+    }
+}
+
 #[test]
 fn readers_list_what_the_plain_program_lists(rt: HostRuntime) -> Result<(), Fail> {
-    let alloc = rt.alloc();
     let mut state = 7;
     for turn in 0..600u64 {
-        let count = 1 + chance(&mut state, 11);
-        let words = chance_words(alloc, &mut state, count, 4)?;
-        if 100 < words.len() {
-            continue;
-        }
-        let text = of_tokens(alloc, 3, &words)?;
-        let mut query = Vec::new(alloc);
-        put_query(&mut query, &mut state, 4)?;
-        let Some(expr) = expression(alloc, query.as_slice()) else {
-            continue;
-        };
-        let plain = slow_list(alloc, &expr, &text)?;
-        for size in [1, 3, 100] {
-            let (read, _) = counted(&Pages {
-                alloc,
-                expr: &expr,
-                text: &text,
-                size,
-            });
-            assert_eq!(rt;
-                *read?.as_slice(),
-                *plain.as_slice(),
-                "query {turn} by pages of {size}"
-            );
-        }
-        let (count, _) = counted(&Count {
-            alloc,
-            expr: &expr,
-            text: &text,
-        });
-        assert_eq!(rt; count?, plain.len() as u64, "query {turn}");
+        compares(&rt, rt.alloc(), turn, &mut state)?;
+    }
+    Ok(())
+}
+
+/// The members of a query over so many words take at most four times as many look-ups.
+fn takes_few<R: Abort>(
+    rt: &R,
+    alloc: Global,
+    query: &str,
+    expr: &Expr,
+    count: u64,
+) -> Result<(), AllocError>
+    requires { IsWellFormed (form_of expr.now) }
+{
+    let mut state = 5;
+    let words = chance_words(alloc, &mut state, count, 4)?;
+    let Some(text) = text_of(alloc, 0, &words, 5000)? else {
+        return Ok(());
+    };
+    let text = &text;
+    let (read, steps) = counted(&Count { alloc, expr, text });
+    let members = read?;
+    assert!(rt;
+        steps <= count.saturating_mul(4),
+        "{query} over {count} words: {members} members by {steps} look-ups"
+    );
+    Ok(())
+}
+
+/// The same over 1,000, 2,000 and 4,000 words.
+fn takes_few_over_more<R: Abort>(rt: &R, alloc: Global, query: &str) -> Result<(), AllocError> {
+    let Some(expr) = expression(alloc, query.as_bytes()) else {
+        return Ok(());
+    };
+    for count in [1000u64, 2000, 4000] {
+        takes_few(rt, alloc, query, &expr, count)?;
     }
     Ok(())
 }
@@ -185,34 +276,13 @@ fn readers_list_what_the_plain_program_lists(rt: HostRuntime) -> Result<(), Fail
 fn nested_containments_take_look_ups_in_proportion_to_the_text(
     rt: HostRuntime,
 ) -> Result<(), Fail> {
-    let alloc = rt.alloc();
     let queries = [
         "(\"a\"..\"b\") > (\"c\" + (\"d\" /< (\"a\"..\"b\")))",
         "(\"a\" + (\"b\" /< [1])) /< [1]",
         "\"a\" /< (\"b\" /< (\"c\" /< (\"d\" /< [1])))",
     ];
     for query in queries {
-        let Some(expr) = expression(alloc, query.as_bytes()) else {
-            continue;
-        };
-        for count in [1000u64, 2000, 4000] {
-            let mut state = 5;
-            let words = chance_words(alloc, &mut state, count, 4)?;
-            if 5000 < words.len() {
-                continue;
-            }
-            let text = of_tokens(alloc, 0, &words)?;
-            let (read, steps) = counted(&Count {
-                alloc,
-                expr: &expr,
-                text: &text,
-            });
-            let members = read?;
-            assert!(rt;
-                steps <= 4 * count,
-                "{query} over {count} words: {members} members by {steps} look-ups"
-            );
-        }
+        takes_few_over_more(&rt, rt.alloc(), query)?;
     }
     Ok(())
 }

@@ -1,4 +1,6 @@
+use crate::compared::same;
 use std::alloc::{AllocError, Global};
+use std::process::Abort;
 use std::test::Fail;
 use word_tokens::{TokenCursor, is_token, token_count, token_text, tokens, tokens_are_tokens};
 
@@ -22,6 +24,20 @@ fn spaced_text(alloc: Global, bytes: &[u8]) -> Result<Vec<u8>, AllocError> {
         line.extend_from_slice(text.get(i))?;
     }
     Ok(line)
+}
+
+/// A text gives this line, has this many tokens, and is one by itself or not.
+fn gives<R: Abort>(
+    rt: &R,
+    alloc: Global,
+    text: &[u8],
+    line: &[u8],
+    numbers: (u64, bool),
+) -> Result<(), AllocError> {
+    same(rt, &text, &spaced(alloc, text)?.as_slice(), &line);
+    same(rt, &text, &spaced_text(alloc, text)?.as_slice(), &line);
+    same(rt, &text, &(token_count(text), is_token(text)), &numbers);
+    Ok(())
 }
 
 #[test]
@@ -50,25 +66,49 @@ fn a_text_is_cut_into_words_and_tags(rt: HostRuntime) -> Result<(), Fail> {
         (b"<<<a>>", b" <a>", 1, false),
     ];
     for (text, want, count, alone) in cases {
-        assert_eq!(rt; spaced(alloc, text)?.as_slice(), want, "{text:?}");
-        assert_eq!(rt; spaced_text(alloc, text)?.as_slice(), want, "{text:?}");
-        assert_eq!(rt; token_count(text), count, "{text:?}");
-        assert_eq!(rt; is_token(text), alone, "{text:?}");
+        gives(&rt, alloc, text, want, (count, alone))?;
     }
     Ok(())
+}
+
+/// This many times the beginning of a tag that never ends.
+fn open_tags(alloc: Global, count: u64) -> Result<Vec<u8>, AllocError> {
+    let mut text = Vec::new(alloc);
+    for _ in 0..count {
+        text.extend_from_slice(b"<ab ")?;
+    }
+    Ok(text)
 }
 
 /// Each `<` here looks as if it began a tag that never ends.
 #[test]
 fn tags_that_never_end_are_words(rt: HostRuntime) -> Result<(), Fail> {
-    let alloc = rt.alloc();
-    let mut text = Vec::new(alloc);
-    for _ in 0..3000u64 {
-        text.extend_from_slice(b"<ab ")?;
-    }
-    assert_eq!(rt; token_count(&text), 3000);
-    assert_eq!(rt; token_text(alloc, &text)?.len(), 3000);
+    let text = open_tags(rt.alloc(), 3000)?;
+    same(&rt, &"count", &token_count(&text), &3000);
+    same(&rt, &"list", &token_text(rt.alloc(), &text)?.len(), &3000);
     tokens_are_tokens();
+    Ok(())
+}
+
+/// The cursor gives this token next.
+fn gives_next<R: Abort>(
+    rt: &R,
+    cursor: &mut TokenCursor<'_>,
+    token: &mut Vec<u8>,
+    want: &[u8],
+) -> Result<(), AllocError> {
+    assert!(rt; cursor.next(token)?, "{want:?}");
+    same(rt, &"next", &token.as_slice(), &want);
+    Ok(())
+}
+
+/// The cursor gives no token any more.
+fn is_at_the_end<R: Abort>(
+    rt: &R,
+    cursor: &mut TokenCursor<'_>,
+    token: &mut Vec<u8>,
+) -> Result<(), AllocError> {
+    assert!(rt; !cursor.next(token)?);
     Ok(())
 }
 
@@ -85,10 +125,9 @@ fn a_cursor_gives_the_tokens_one_at_a_time(rt: HostRuntime) -> Result<(), AllocE
         let mut cursor = TokenCursor::new(bytes);
         let mut token = Vec::new(rt.alloc());
         for i in 0..text.len() {
-            assert!(rt; cursor.next(&mut token)?, "token {i}");
-            assert_eq!(rt; token.as_slice(), text.get(i), "token {i}");
+            gives_next(&rt, &mut cursor, &mut token, text.get(i))?;
         }
-        assert!(rt; !cursor.next(&mut token)?);
+        is_at_the_end(&rt, &mut cursor, &mut token)?;
     }
     Ok(())
 }

@@ -1,77 +1,88 @@
+ghost use Rattle.std.specs.Prelude.{◌≤◌};
+ghost use Rattle.gcl_model.specs.Limits.{address_end};
+
+use crate::compared::same;
 use fixed_width::{
     width_count, width_first_end, width_first_start, width_last_end, width_last_start,
 };
 use gcl_model::{Interval, Span};
+use std::process::Abort;
+
+/// The addresses 2 to 7.
+const SPAN: Span = Span { first: 2, next: 8 };
+
+/// An access.
+#[derive(Clone, Copy, Debug)]
+enum Access {
+    FirstStart,
+    FirstEnd,
+    LastEnd,
+    LastStart,
+}
+
+/// An access, a width, an address, and the interval that is found, where there is one.
+const CASES: [(Access, u64, u64, Option<(u64, u64)>); 14] = [
+    (Access::FirstStart, 4, 0, Some((2, 5))),
+    (Access::FirstStart, 4, 4, Some((4, 7))),
+    (Access::FirstStart, 4, 5, None),
+    (Access::FirstStart, 4, u64::MAX, None),
+    (Access::FirstEnd, 4, 0, Some((2, 5))),
+    (Access::FirstEnd, 4, 6, Some((3, 6))),
+    (Access::FirstEnd, 4, 8, None),
+    (Access::LastEnd, 4, u64::MAX, Some((4, 7))),
+    (Access::LastEnd, 4, 6, Some((3, 6))),
+    (Access::LastEnd, 4, 4, None),
+    (Access::LastStart, 4, u64::MAX, Some((4, 7))),
+    (Access::LastStart, 4, 3, Some((3, 6))),
+    (Access::LastStart, 4, 1, None),
+    // wider than the span
+    (Access::FirstStart, 7, 0, None),
+];
+
+/// What an access finds at an address.
+fn found(access: Access, width: u64, k: u64) -> Option<Interval>
+    requires some { 1 ≤ width }
+    requires most { width ≤ address_end }
+{
+    match access {
+        Access::FirstStart => width_first_start(width, SPAN, k),
+        Access::FirstEnd => width_first_end(width, SPAN, k),
+        Access::LastEnd => width_last_end(width, SPAN, k),
+        Access::LastStart => width_last_start(width, SPAN, k),
+    }
+}
+
+/// An access finds this interval, or none.
+fn finds<R: Abort>(rt: &R, access: Access, width: u64, k: u64, want: Option<(u64, u64)>) {
+    assert!(rt; 1 <= width && width <= 7);
+    let got = match found(access, width, k) {
+        Some(found) => Some((found.start, found.end)),
+        None => None,
+    };
+    same(rt, &(access, k), &got, &want);
+}
 
 #[test]
 fn three_intervals_of_four_addresses_lie_in_the_addresses_2_to_7(rt: HostRuntime) {
-    let span = Span { first: 2, next: 8 };
-    let cases = [
-        (
-            "start from 0",
-            width_first_start(4, span, 0),
-            Some(Interval::new(2, 5)),
-        ),
-        (
-            "start from 4",
-            width_first_start(4, span, 4),
-            Some(Interval::new(4, 7)),
-        ),
-        ("start from 5", width_first_start(4, span, 5), None),
-        (
-            "start from the greatest",
-            width_first_start(4, span, u64::MAX),
-            None,
-        ),
-        (
-            "end from 0",
-            width_first_end(4, span, 0),
-            Some(Interval::new(2, 5)),
-        ),
-        (
-            "end from 6",
-            width_first_end(4, span, 6),
-            Some(Interval::new(3, 6)),
-        ),
-        ("end from 8", width_first_end(4, span, 8), None),
-        (
-            "end up to the greatest",
-            width_last_end(4, span, u64::MAX),
-            Some(Interval::new(4, 7)),
-        ),
-        (
-            "end up to 6",
-            width_last_end(4, span, 6),
-            Some(Interval::new(3, 6)),
-        ),
-        ("end up to 4", width_last_end(4, span, 4), None),
-        (
-            "start up to the greatest",
-            width_last_start(4, span, u64::MAX),
-            Some(Interval::new(4, 7)),
-        ),
-        (
-            "start up to 3",
-            width_last_start(4, span, 3),
-            Some(Interval::new(3, 6)),
-        ),
-        ("start up to 1", width_last_start(4, span, 1), None),
-        ("wider than the span", width_first_start(7, span, 0), None),
-    ];
-    for (name, answer, want) in cases {
-        assert_eq!(rt; answer, want, "{name}");
+    for (access, width, k, want) in CASES {
+        finds(&rt, access, width, k, want);
     }
+}
+
+/// A span has this many intervals of a width.
+fn counts<R: Abort>(rt: &R, width: u64, span: Span, want: u64) {
+    assert!(rt; 1 <= width);
+    same(rt, &width, &width_count(width, span), &want);
 }
 
 #[test]
 fn of_six_addresses_one_width_less_is_one_interval_more(rt: HostRuntime) {
-    let span = Span { first: 2, next: 8 };
     for (width, want) in [(1, 6), (4, 3), (6, 1), (7, 0), (1 << 56, 0)] {
-        assert_eq!(rt; width_count(width, span), want, "{width}");
+        counts(&rt, width, SPAN, want);
     }
     let all = Span {
         first: 0,
         next: 1 << 56,
     };
-    assert_eq!(rt; width_count(1, all), 1 << 56);
+    counts(&rt, 1, all, 1 << 56);
 }

@@ -26,6 +26,3 @@ pub use file_words::FileWords;
 pub use laws::names_decide;
 pub use listing::{answer_count, answers, answers_on, count_on};
 pub use text::QueryText;
-
-#[cfg(test)]
-mod tests;

@@ -22,6 +22,3 @@ pub use laws::{
 pub use place::Place;
 pub use placed_token::PlacedToken;
 pub use walk::PlaceWalk;
-
-#[cfg(test)]
-mod tests;

@@ -2,13 +2,14 @@ ghost use Rattle.std.specs.Prelude.{◌<◌, length};
 ghost use Rattle.gcl_model.specs.FormOf.{form_of};
 ghost use Rattle.gcl_model.specs.WellFormed.{IsWellFormed};
 
-use crate::{QueryText, answer_count, answers, expanded, names_decide};
-use gcl_model::{Bytes, Expr, IntervalList, TokenList, file_end, file_start};
+use crate::compared::same;
+use gcl_model::{Bytes, Expr, Interval, IntervalList, TokenList, file_end, file_start};
 use gcl_parser::parse;
 use plain_text::{of_tokens, slow_list};
 use std::alloc::{AllocError, Global};
 use std::process::Abort;
 use std::test::Fail;
+use text_search::{QueryText, answer_count, answers, expanded, names_decide};
 use word_tokens::tokens;
 
 /// The tokens of a file between its boundary tokens.
@@ -61,21 +62,40 @@ fn paged_list(
     Ok(list)
 }
 
+/// A query and a file, as a message names them.
+type Case<'a> = (&'a [u8], &'a [u8]);
+
+/// The query of a case, as an expression, has these members over its file, in one page and in pages of two, and their number.
+fn has_members<R: Abort>(
+    rt: &R,
+    alloc: Global,
+    case: Case<'_>,
+    expr: &Expr,
+    members: &[Interval],
+) -> Result<(), AllocError>
+    requires well_formed { IsWellFormed (form_of expr.now) }
+    requires short { length case.1.now < 1000 }
+{
+    let text = QueryText::of(alloc, case.1, expr)?;
+    let page = answers(alloc, &text, expr, 0, 1000)?;
+    same(rt, &case, &page.as_slice(), &members);
+    let paged = paged_list(alloc, &text, expr, 2)?;
+    same(rt, &case, &paged.as_slice(), &members);
+    same(
+        rt,
+        &case,
+        &answer_count(&text, expr),
+        &(members.len() as u64),
+    );
+    Ok(())
+}
+
 /// A query over a file has the members of the plain list, in one page and in pages of two, and their number.
 fn compare(rt: &impl Abort, alloc: Global, bytes: &[u8], query: &[u8]) -> Result<(), Fail> {
     let expr = parse(alloc, query)?;
     assert!(rt; bytes.len() < 1000);
     let members = plain_list(rt, alloc, bytes, &expr)?;
-    let text = QueryText::of(alloc, bytes, &expr)?;
-    let page = answers(alloc, &text, &expr, 0, 1000)?;
-    assert_eq!(rt; page.as_slice(), members.as_slice(), "{query:?} {bytes:?}");
-    let paged = paged_list(alloc, &text, &expr, 2)?;
-    assert_eq!(rt; paged.as_slice(), members.as_slice(), "{query:?} {bytes:?}");
-    assert_eq!(rt;
-        answer_count(&text, &expr),
-        members.len() as u64,
-        "{query:?} {bytes:?}"
-    );
+    has_members(rt, alloc, (query, bytes), &expr, members.as_slice())?;
     Ok(())
 }
 
@@ -122,25 +142,40 @@ fn queries_have_the_members_of_the_plain_list(rt: HostRuntime) -> Result<(), Fai
     Ok(())
 }
 
-/// Names of each length up to 70, of which every seventh stands in the file.
-#[test]
-fn many_names_are_told_apart(rt: HostRuntime) -> Result<(), Fail> {
-    let alloc = rt.alloc();
+/// Puts this many letters.
+fn put_letters(text: &mut Vec<u8>, letter: u8, count: u8) -> Result<(), AllocError> {
+    for _ in 0..count {
+        text.push(letter)?;
+    }
+    Ok(())
+}
+
+/// A query for names of each length up to 70.
+fn many_names(alloc: Global) -> Result<Vec<u8>, AllocError> {
     let mut query = Vec::new(alloc);
-    let mut file = Vec::new(alloc);
     query.extend_from_slice(b"\"x\"")?;
     for n in 0..71u8 {
         query.extend_from_slice(b" + \"")?;
-        for _ in 0..n {
-            query.push(b'a')?;
-            if n % 7 == 0 {
-                file.push(b'A')?;
-            }
-        }
+        put_letters(&mut query, b'a', n)?;
         query.extend_from_slice(b"y\"")?;
+    }
+    Ok(query)
+}
+
+/// A file in which every seventh of them stands.
+fn file_of_names(alloc: Global) -> Result<Vec<u8>, AllocError> {
+    let mut file = Vec::new(alloc);
+    for n in 0..71u8 {
+        put_letters(&mut file, b'A', if n % 7 == 0 { n } else { 0 })?;
         file.extend_from_slice(b"y ")?;
     }
-    compare(&rt, alloc, &file, &query)
+    Ok(file)
+}
+
+#[test]
+fn many_names_are_told_apart(rt: HostRuntime) -> Result<(), Fail> {
+    let (file, query) = (file_of_names(rt.alloc())?, many_names(rt.alloc())?);
+    compare(&rt, rt.alloc(), &file, &query)
 }
 
 /// The rows of a table: a file, a query with prefix terms, and the start and end of each answer.
@@ -178,15 +213,20 @@ fn prefixed(alloc: Global, bytes: &[u8], query: &[u8]) -> Result<IntervalList, F
     Ok(answers(alloc, &text, &expr, 0, 1000)?)
 }
 
+/// The answers of a query are these.
+fn are_those<R: Abort>(rt: &R, query: &[u8], members: &[Interval], want: &[(u64, u64)]) {
+    same(rt, &query, &members.len(), &want.len());
+    for (member, ends) in members.iter().zip(want) {
+        same(rt, &query, &(member.start, member.end), ends);
+    }
+}
+
 #[test]
 fn a_prefix_term_is_one_of_the_words_that_begin_with_it(rt: HostRuntime) -> Result<(), Fail> {
     for (bytes, query, want) in PREFIXED {
         assert!(rt; bytes.len() < 1000);
         let members = prefixed(rt.alloc(), bytes, query)?;
-        assert_eq!(rt; members.len(), want.len(), "{query:?}");
-        for (member, (start, end)) in members.as_slice().iter().zip(want) {
-            assert_eq!(rt; (member.start, member.end), (*start, *end), "{query:?}");
-        }
+        are_those(&rt, query, members.as_slice(), want);
     }
     Ok(())
 }
