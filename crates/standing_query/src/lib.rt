@@ -22,8 +22,6 @@ mod merge;
 mod operands;
 mod order;
 mod side;
-#[cfg(test)]
-mod tests;
 mod watch;
 mod watch_list;
 

@@ -1,6 +1,5 @@
-use crate::faults::{NoWatch, WatchFault};
-use crate::watch_list::WatchList;
 use gcl_model::Expr;
+use standing_query::{NoWatch, WatchFault, WatchList};
 use std::process::Abort;
 use std::test::Fail;
 
