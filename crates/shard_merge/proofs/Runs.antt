@@ -184,11 +184,11 @@ left_places (slot ∷ slots) term all =
     ∙ ap (λ l. places (live_words slot) term ++ l) (left_places slots term all.1)
     ∙ sym (places-append (live_words slot) (live_of slots) term)
 
-pub words_of_run : (range : SlotRange) (slots : List SlotContent) → IsRun slots → IsRangeOf range slots → AreWordsOf range (map part_of slots) (live_of slots)
-words_of_run range slots run whole =
+pub words_of_slots : (range : SlotRange) (slots : List SlotContent) → AllByRecursion IsSlot slots → AreRangesWithin range.first (range.last + 1) (ranges_of slots) → AreWordsOf range (map part_of slots) (live_of slots)
+words_of_slots range slots all within =
     record {
-      rising = live_of_rise range.first (range.last + 1) slots whole.within run.all;
-      places = λ term. left_places slots term run.all;
+      rising = live_of_rise range.first (range.last + 1) slots within all;
+      places = λ term. left_places slots term all;
     }
 
 pub parts_are_tables : (slots : List SlotContent) → AllByRecursion IsSlot slots → AllByRecursion IsPart (map part_of slots)
@@ -199,11 +199,11 @@ parts_are_tables (slot ∷ slots) all = ((slot.shard.range, all.0.shard.table), 
 pub run_lent : (v : VersionContent) (slots : List SlotContent) (at count n : ℕ) → IsVersion v → slots ≡ v.slots → n ≡ count → IsRun (take n (drop at slots))
 run_lent v slots at count n is same long = subst (λ l. IsRun (take n (drop at l))) (sym same) (subst (λ m. IsRun (take m (drop at v.slots))) (sym long) (slots_are_run v at count is))
 
--- the index that was made of a run has its live words
-pub merged_words : (range : SlotRange) (slots : List SlotContent) (parts : List PartContent) (shard : ShardContent) → IsRun slots → whole_range (ranges_of slots) ≡ Some range → parts ≡ map part_of slots →
-    IsShard shard → shard.range ≡ range → ((term : List ℕ) → postings_of shard.table term ≡ postings_left parts term) → words_of shard ≡ live_of slots
-merged_words range slots parts shard run whole is made at has =
-    let of = words_of_run range slots run (range_of_run slots range run whole) in
+-- the index that was made of slots has their live words
+pub merged_words : (range : SlotRange) (slots : List SlotContent) (parts : List PartContent) (shard : ShardContent) → AllByRecursion IsSlot slots → AreRangesWithin range.first (range.last + 1) (ranges_of slots) →
+    parts ≡ map part_of slots → IsShard shard → shard.range ≡ range → ((term : List ℕ) → postings_of shard.table term ≡ postings_left parts term) → words_of shard ≡ live_of slots
+merged_words range slots parts shard all within is made at has =
+    let of = words_of_slots range slots all within in
     shard_has_words shard (live_of slots) made (subst (λ r. AreRisingBelow (r.last + 1) r.first (live_of slots)) (sym at) of.rising)
     (λ term. has term ∙ ap (λ l. postings_left l term) is ∙ of.places term)
 

@@ -1,4 +1,4 @@
-ghost use Rattle.std.specs.Prelude.{◌≡◌, ◌<◌, [], List, ℕ, false, length, IfOk, IsTrue};
+ghost use Rattle.std.specs.Prelude.{◌≡◌, ◌<◌, [], List, ℕ, false, length, IfOk, IsTrue, OnOk};
 ghost use Rattle.std.specs.List.{AllByRecursion, concat};
 ghost use Rattle.gcl_model.specs.Texts.{Word};
 ghost use Rattle.index_shard.specs.Tables.{IsShard, postings_of};
@@ -28,13 +28,29 @@ pub(crate) fn merge_terms(
     let _ = &range.first;
     let mut maker = ShardMaker::new(alloc, range);
     maker.reserve(terms.room())?;
+    push_terms(alloc, &mut maker, terms)?;
+    Ok(maker.finish())
+}
+
+/// Puts the terms that are still to come into the shard, where it has none yet.
+fn push_terms(
+    alloc: Global,
+    maker: &mut ShardMaker,
+    terms: &mut SlotTerms<'_>,
+) -> Result<(), AllocError>
+    requires parts { AllByRecursion IsPart terms.old }
+    requires words { (words : List Word) × AreWordsOf maker.old.range terms.old words }
+    requires empty { maker.old.table ≡ [] }
+    ensures range { OnOk result (maker.new.range ≡ maker.old.range) }
+    ensures postings { OnOk result ((term : List ℕ) → postings_of maker.new.table term ≡ postings_left terms.old term) }
+{
     let mut lists = Vec::new(alloc);
     while let Some((head, term)) = terms.next_lists(&mut lists)? {
         if has_some(&lists) {
             maker.push_parts(head, term, &lists)?;
         }
     }
-    Ok(maker.finish())
+    Ok(())
 }
 
 /// Whether one of the lists has a member.

@@ -1,12 +1,14 @@
 ghost use Rattle.std.specs.Prelude.{◌≡◌, ℕ, ◌+◌, ◌≤◌, [], ◌∷◌, length, IfOk, Some};
+ghost use Rattle.std.specs.List.{AllByRecursion};
 ghost use Rattle.gcl_model.specs.Slots.{AreRangesWithin};
-ghost use Rattle.index_shard.specs.Tables.{words_of};
-ghost use Rattle.live_version.specs.Contents.{ranges_of, files_of, live_of};
+ghost use Rattle.index_shard.specs.Tables.{IsShard, words_of};
+ghost use Rattle.live_version.specs.Contents.{IsSlot, ranges_of, files_of, live_of};
 ghost use Rattle.live_version.specs.Changes.{IsSameLive, LiesInside, slots_at, whole_range};
 
 use crate::merged::merge_terms;
 use crate::records::records_of;
 use address_space::Range;
+use index_shard::Shard;
 use live_version::{Slot, Version};
 use slot_terms::SlotTerms;
 use std::alloc::{AllocError, Global};
@@ -25,9 +27,21 @@ pub fn merge(alloc: Global, version: &Version, at: usize, count: usize) -> Resul
     let slots = &version.slots()[at..at + count];
     let range = range_of_slots(slots);
     let files = records_of(alloc, slots)?;
+    let shard = merged_shard(alloc, range, slots)?;
+    Slot::of_records(alloc, range, shard, files)
+}
+
+/// The index of the live words of some slots, which lie in the range.
+fn merged_shard(alloc: Global, range: Range, slots: &[Slot]) -> Result<Shard, AllocError>
+    requires slots { AllByRecursion IsSlot slots.now }
+    requires apart { AreRangesWithin range.first (range.last + 1) (ranges_of slots.now) }
+    ensures words { IfOk result (λ shard. words_of shard ≡ live_of slots.now) }
+    ensures range { IfOk result (λ shard. shard.range ≡ range) }
+    ensures shard { IfOk result IsShard }
+{
     let mut terms = SlotTerms::new(alloc, slots)?;
     let shard = merge_terms(alloc, range, &mut terms)?;
-    Slot::of_records(alloc, range, shard, files)
+    Ok(shard)
 }
 
 /// From the first address of the first slot to the last address of the last one.

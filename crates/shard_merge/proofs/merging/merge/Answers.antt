@@ -4,9 +4,7 @@ use Rattle.std.proofs.lemmas.Result.{IfOk-weaker}
 use Rattle.index_shard.specs.Tables.{words_of}
 use Rattle.live_version.specs.Contents.{LiesIn, SlotContent, is_of_files, files_of, live_of, ranges_of}
 use Rattle.live_version.specs.Changes.{IsSameLive, LiesInside, slots_at, whole_range}
-use Rattle.slot_terms.specs.Parts.{IsPart}
-use Rattle.shard_merge.specs.Merged.{AreWordsOf}
-use Rattle.shard_merge.proofs.Runs.{run_lent, range_of_run, files_lie, parts_are_tables, words_of_run, words_owned, merged_words, slots_lent, same_live, lies_inside}
+use Rattle.shard_merge.proofs.Runs.{run_lent, range_of_run, files_lie, words_owned, slots_lent, same_live, lies_inside}
 use Rattle.shard_merge.proofs.merging.merge.Goals as goal
 
 pub range_of_slots-range-requires-clause-apart : goal.range_of_slots-range-requires-clause-apart
@@ -19,20 +17,15 @@ records_of-requires c =
     let run = run_lent c.args.version.now c.slots.result.now c.args.at c.args.count (c.args.at + c.args.count - c.args.at) c.slots.ensures.version c.slots.ensures.value (omega arith) in
     run.files
 
-pub merge_terms-requires-clause-parts : goal.merge_terms-requires-clause-parts
-merge_terms-requires-clause-parts c =
+pub merged_shard-requires-clause-slots : goal.merged_shard-requires-clause-slots
+merged_shard-requires-clause-slots c =
     let run = run_lent c.args.version.now c.slots.result.now c.args.at c.args.count (c.args.at + c.args.count - c.args.at) c.slots.ensures.version c.slots.ensures.value (omega arith) in
-    subst (AllByRecursion IsPart) (sym c.in_ok-terms.ensures.value) (parts_are_tables (take (c.args.at + c.args.count - c.args.at) (drop c.args.at c.slots.result.now)) run.all)
+    run.all
 
-pub merge_terms-requires-clause-words : goal.merge_terms-requires-clause-words
-merge_terms-requires-clause-words c =
-    let slots = take (c.args.at + c.args.count - c.args.at) (drop c.args.at c.slots.result.now) in
+pub merged_shard-requires-clause-apart : goal.merged_shard-requires-clause-apart
+merged_shard-requires-clause-apart c =
     let run = run_lent c.args.version.now c.slots.result.now c.args.at c.args.count (c.args.at + c.args.count - c.args.at) c.slots.ensures.version c.slots.ensures.value (omega arith) in
-    let range = c.range_of_slots-range.result in (
-      live_of slots,
-      subst (λ parts. AreWordsOf range parts (live_of slots)) (sym c.in_ok-terms.ensures.value)
-          (words_of_run range slots run (range_of_run slots range run c.range_of_slots-range.ensures)),
-    )
+    (range_of_run (take (c.args.at + c.args.count - c.args.at) (drop c.args.at c.slots.result.now)) c.range_of_slots-range.result run c.range_of_slots-range.ensures).within
 
 pub of_records-requires-clause-files : goal.of_records-requires-clause-files
 of_records-requires-clause-files c =
@@ -45,12 +38,7 @@ pub of_records-requires-clause-owned : goal.of_records-requires-clause-owned
 of_records-requires-clause-owned c =
     let slots = take (c.args.at + c.args.count - c.args.at) (drop c.args.at c.slots.result.now) in
     let run = run_lent c.args.version.now c.slots.result.now c.args.at c.args.count (c.args.at + c.args.count - c.args.at) c.slots.ensures.version c.slots.ensures.value (omega arith) in
-    let range = c.range_of_slots-range.result in
-    let shard = c.in_ok-shard.shard in
-    let words =
-    merged_words range slots c.in_ok-terms.terms shard run c.range_of_slots-range.ensures c.in_ok-terms.ensures.value c.in_ok-shard.ensures.shard c.in_ok-shard.ensures.range
-    c.in_ok-shard.ensures.postings in
-    subst (λ ws. AllByRecursion (λ w. is_of_files c.in_ok-files.files w.address ≡ true) ws) (sym words)
+    subst (λ ws. AllByRecursion (λ w. is_of_files c.in_ok-files.files w.address ≡ true) ws) (sym c.in_ok-shard.ensures.words)
     (subst (λ files. AllByRecursion (λ w. is_of_files files w.address ≡ true) (live_of slots)) (sym c.in_ok-files.ensures) (words_owned slots run.all))
 
 pub returns-clause-range : goal.returns-clause-range
@@ -71,29 +59,15 @@ returns-clause-inside c =
 
 pub returns-clause-words : goal.returns-clause-words
 returns-clause-words c =
-    let n = c.args.at + c.args.count - c.args.at in
-    let slots = take n (drop c.args.at c.slots.result.now) in
-    let run = run_lent c.args.version.now c.slots.result.now c.args.at c.args.count n c.slots.ensures.version c.slots.ensures.value (omega arith) in
-    let shard = c.in_ok-shard.shard in
-    let words =
-    merged_words c.range_of_slots-range.result slots c.in_ok-terms.terms shard run c.range_of_slots-range.ensures c.in_ok-terms.ensures.value c.in_ok-shard.ensures.shard
-    c.in_ok-shard.ensures.range c.in_ok-shard.ensures.postings in
-    let same = slots_lent c.slots.result.now c.args.version.now.slots c.args.at c.args.count n c.slots.ensures.value (omega arith) in
+    let same = slots_lent c.slots.result.now c.args.version.now.slots c.args.at c.args.count (c.args.at + c.args.count - c.args.at) c.slots.ensures.value (omega arith) in
     IfOk-weaker c.of_records.result _ (λ slot. words_of slot.shard ≡ live_of (slots_at c.args.at c.args.count c.args.version.now.slots))
-    (λ slot is. ap (λ (s : SlotContent). words_of s.shard) is ∙ words ∙ ap live_of same) c.of_records.ensures.value
+    (λ slot is. ap (λ (s : SlotContent). words_of s.shard) is ∙ c.in_ok-shard.ensures.words ∙ ap live_of same) c.of_records.ensures.value
 
 pub returns-clause-same : goal.returns-clause-same
 returns-clause-same c =
-    let n = c.args.at + c.args.count - c.args.at in
-    let slots = take n (drop c.args.at c.slots.result.now) in
-    let run = run_lent c.args.version.now c.slots.result.now c.args.at c.args.count n c.slots.ensures.version c.slots.ensures.value (omega arith) in
-    let shard = c.in_ok-shard.shard in
-    let words =
-    merged_words c.range_of_slots-range.result slots c.in_ok-terms.terms shard run c.range_of_slots-range.ensures c.in_ok-terms.ensures.value c.in_ok-shard.ensures.shard
-    c.in_ok-shard.ensures.range c.in_ok-shard.ensures.postings in
-    let same = slots_lent c.slots.result.now c.args.version.now.slots c.args.at c.args.count n c.slots.ensures.value (omega arith) in
+    let same = slots_lent c.slots.result.now c.args.version.now.slots c.args.at c.args.count (c.args.at + c.args.count - c.args.at) c.slots.ensures.value (omega arith) in
     IfOk-weaker c.of_records.result _ (λ slot. IsSameLive (slots_at c.args.at c.args.count c.args.version.now.slots) (slot ∷ []))
     (λ slot is.
-    same_live (slots_at c.args.at c.args.count c.args.version.now.slots) slot (ap (λ (s : SlotContent). s.mask) is) (ap (λ (s : SlotContent). words_of s.shard) is ∙ words ∙ ap live_of same)
+    same_live (slots_at c.args.at c.args.count c.args.version.now.slots) slot (ap (λ (s : SlotContent). s.mask) is) (ap (λ (s : SlotContent). words_of s.shard) is ∙ c.in_ok-shard.ensures.words ∙ ap live_of same)
     (ap (λ (s : SlotContent). s.files) is ∙ c.in_ok-files.ensures ∙ ap files_of same))
     c.of_records.ensures.value

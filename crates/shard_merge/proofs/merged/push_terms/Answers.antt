@@ -5,7 +5,7 @@ use Rattle.index_shard.specs.Tables.{ArePostingsIn}
 use Rattle.slot_terms.specs.Parts.{IsNext, entries_left, past}
 use Rattle.slot_terms.proofs.Passing.{past_fewer}
 use Rattle.shard_merge.proofs.TermByTerm.{IsMerging, may_push, merging_pushes, merging_skips}
-use Rattle.shard_merge.proofs.merged.merge_terms.Goals as goal
+use Rattle.shard_merge.proofs.merged.push_terms.Goals as goal
 
 pub next_lists-requires : goal.next_lists-requires
 next_lists-requires c = c.loop-lists.invariant.merging.tables
@@ -20,7 +20,7 @@ push_parts-requires c =
     let given : IsNext parts term lists = subst (λ o. IfSome o (λ n. IsNext parts n.1.now lists)) c.in-Some.is c.in_ok-head.ensures.next in
     let next : IsNext parts term lent = subst (IsNext parts term) is given in
     let some : 0 < length lent = subst (λ l. 0 < length (concat l)) (c.deref.ensures.value ∙ sym c.deref-then-has_some.ensures.value) (c.has_some.ensures.some c.if-has_some.true) in
-    let may = may_push c.args.range c.args.terms.now parts c.loop-lists.maker.table term lent c.requires.words c.loop-lists.invariant.merging next some in
+    let may = may_push c.args.maker.now.range c.args.terms.now parts c.loop-lists.maker.table term lent c.requires.words c.loop-lists.invariant.merging next some in
     record {
       head = subst (λ o. IfSome o (λ n. n.0 ≡ leading 8 0 n.1.now)) c.in-Some.is c.in_ok-head.ensures.head;
       rising = may.rising;
@@ -28,15 +28,15 @@ push_parts-requires c =
       apart = may.apart;
     }
 
-pub loop-lists-smaller-in-Continue-branch-4 : goal.loop-lists-smaller-in-Continue-branch-4
-loop-lists-smaller-in-Continue-branch-4 c =
+pub loop-lists-smaller-in-Continue-branch-3 : goal.loop-lists-smaller-in-Continue-branch-3
+loop-lists-smaller-in-Continue-branch-3 c =
     let lists = concat c.next_lists.new.lists.items in
     let next : IsNext c.loop-lists.terms c.in-Some.term.now lists = subst (λ o. IfSome o (λ n. IsNext c.loop-lists.terms n.1.now lists)) c.in-Some.is c.in_ok-head.ensures.next in
     let past_it : c.next_lists.new.self ≡ map (past c.in-Some.term.now) c.loop-lists.terms = subst (λ o. IfSome o (λ n. c.next_lists.new.self ≡ map (past n.1.now) c.loop-lists.terms)) c.in-Some.is c.in_ok-head.ensures.past in
     subst (λ parts. entries_left parts < entries_left c.loop-lists.terms) (sym past_it) (past_fewer c.loop-lists.terms c.in-Some.term.now next.member)
 
-pub loop-lists-preserved-in-Continue-branch-4 : goal.loop-lists-preserved-in-Continue-branch-4
-loop-lists-preserved-in-Continue-branch-4 c =
+pub loop-lists-preserved-in-Continue-branch-3 : goal.loop-lists-preserved-in-Continue-branch-3
+loop-lists-preserved-in-Continue-branch-3 c =
     let parts = c.loop-lists.terms in
     let term = c.in-Some.term.now in
     let lists = concat c.next_lists.new.lists.items in
