@@ -3,13 +3,13 @@ use Rattle.std.proofs.Common.{◌≡◌, ℕ, zero, suc, ◌+◌, ◌-◌, ◌<�
 use Rattle.std.specs.List.{AllByRecursion, prefix_len}
 use Rattle.std.specs.List.Sorted.{IsNonDecreasingBy}
 use Rattle.std.specs.Option.{option_or}
-use Rattle.std.proofs.lemmas.Bool.{ltb-true, ltb-false, leb-true, leb-false, or_left, or_right, false≢true}
-use Rattle.std.proofs.lemmas.List.{append_assoc, append-nil, take-append-drop}
+use Rattle.std.proofs.lemmas.Bool.{ltb-true, ltb-false, leb-false, false≢true}
+use Rattle.std.proofs.lemmas.List.{append_assoc, append-nil, take-append-drop, take_more}
 use Rattle.std.proofs.lemmas.Grind.{flat_map-append}
 use Rattle.std.proofs.lemmas.List.Folds.{find-append, list_any-append}
 use Rattle.gcl_model.specs.Limits.{address_end}
 use Rattle.gcl_model.specs.Slots.{SlotRange, joined, AreRangesWithin}
-use Rattle.gcl_model.proofs.Lists.{all_append, all_drop, all_right, all_take, all_weaker}
+use Rattle.gcl_model.proofs.Lists.{all_append, all_drop, all_take, all_weaker}
 use Rattle.delete_mask.specs.Masks.{is_within, is_dead, dead_range, IsApart, with_range}
 use Rattle.delete_mask.specs.Parts.{AreParts, IsInhabited, first_dead, last_dead, ranges_in}
 use Rattle.delete_mask.proofs.MaskLemmas.{is_within-behind, dead_range-before}
@@ -351,20 +351,32 @@ cut_off parts made rest front behind all n e f some is whole apart =
 pub more_inhabited : (parts made : List (List SlotRange)) (front : List SlotRange) → made ≡ parts ++ front ∷ [] → 0 < length front → AllByRecursion IsInhabited parts → AllByRecursion IsInhabited made
 more_inhabited parts made front is some inhabited = subst (AllByRecursion IsInhabited) (sym is) (all_append IsInhabited parts (front ∷ []) inhabited (some, tt))
 
--- the parts that are made, one after the other
-pub made_of : (parts before near behind first second made : List (List SlotRange)) (range : SlotRange) (now : List SlotRange) (at upto : ℕ) → AreParts parts → range.first ≤ range.last →
-    at ≤ prefix_len (ends_before (range.first - 1)) parts → prefix_len (has_begun (range.last + 1)) parts ≤ upto → before ≡ take at (take upto parts) → near ≡ drop at (take upto parts) → behind ≡ drop upto parts →
-    first ≡ before → ranges_in second ≡ ranges_in first ++ now → now ≡ with_range range (ranges_in near) → made ≡ second ++ behind → ranges_in made ≡ with_range range (ranges_in parts)
-made_of parts before near behind first second made range now at upto are le low high is_before is_near is_behind is_first is_second is_now is_made =
-    let b = ranges_in (take at (take upto parts)) in
-    let n = ranges_in (drop at (take upto parts)) in
-    let a = ranges_in (drop upto parts) in
-    let front : ranges_in second ≡ b ++ with_range range n = is_second ∙ ap (λ ps. ranges_in ps ++ now) (is_first ∙ is_before) ∙ ap (λ l. b ++ l) (is_now ∙ ap (λ ps. with_range range (ranges_in ps)) is_near) in
+-- the ranges of one part more
+pub ranges_more : (parts : List (List SlotRange)) (i : ℕ) (part : List SlotRange) → i < length parts → part ≡ get_or parts i part → ranges_in (take (i + 1) parts) ≡ ranges_in (take i parts) ++ part
+ranges_more parts i part lt is =
+    ap ranges_in (take_more parts i part lt)
+    ∙ ranges_append (take i parts) (get_or parts i part ∷ [])
+    ∙ ap (λ l. ranges_in (take i parts) ++ l) (append-nil (get_or parts i part) ∙ sym is)
+
+-- the ranges of parts that are put between others
+pub put_between : (before behind first second made : List (List SlotRange)) (ranges : List SlotRange) → first ≡ before → ranges_in second ≡ ranges_in first ++ ranges → made ≡ second ++ behind →
+    ranges_in made ≡ ranges_in before ++ (ranges ++ ranges_in behind)
+put_between before behind first second made ranges is_first is_second is_made =
     ap ranges_in is_made
     ∙ ranges_append second behind
-    ∙ ap (λ l. l ++ ranges_in behind) front
-    ∙ ap (λ ps. (b ++ with_range range n) ++ ranges_in ps) is_behind
-    ∙ append_assoc b (with_range range n) a
+    ∙ ap (λ l. l ++ ranges_in behind) (is_second ∙ ap (λ ps. ranges_in ps ++ ranges) is_first)
+    ∙ append_assoc (ranges_in before) ranges (ranges_in behind)
+
+-- the parts that are made, one after the other
+pub made_of : (parts before near behind : List (List SlotRange)) (range : SlotRange) (now : List SlotRange) (at upto : ℕ) → AreParts parts → range.first ≤ range.last →
+    at ≤ prefix_len (ends_before (range.first - 1)) parts → prefix_len (has_begun (range.last + 1)) parts ≤ upto → before ≡ take at (take upto parts) → near ≡ drop at (take upto parts) → behind ≡ drop upto parts →
+    now ≡ with_range range (ranges_in near) → ranges_in before ++ (now ++ ranges_in behind) ≡ with_range range (ranges_in parts)
+made_of parts before near behind range now at upto are le low high is_before is_near is_behind is_now =
+    let b = ranges_in (take at (take upto parts)) in
+    let n = ranges_in (drop at (take upto parts)) in
+    ap (λ ps. ranges_in ps ++ (now ++ ranges_in behind)) is_before
+    ∙ ap (λ l. b ++ (l ++ ranges_in behind)) (is_now ∙ ap (λ ps. with_range range (ranges_in ps)) is_near)
+    ∙ ap (λ ps. b ++ (with_range range n ++ ranges_in ps)) is_behind
     ∙ sym (with_near parts range at upto are le low high)
 
 pub kept_parts : (parts : List (List SlotRange)) (at upto : ℕ) → AllByRecursion IsInhabited parts → AllByRecursion IsInhabited (take at (take upto parts)) × AllByRecursion IsInhabited (drop upto parts)

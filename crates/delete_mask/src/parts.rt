@@ -91,9 +91,27 @@ pub(crate) fn parts_with(
     let (front, behind) = parts.split_at(upto);
     let (before, near) = front.split_at(at);
     let joined = flat(alloc, near)?.with(range)?;
-    let mut made = Vec::with_capacity(alloc, parts.len() + 2)?;
+    let made = in_parts(alloc, before, joined.ranges(), behind)?;
+    Ok(made)
+}
+
+/// The ranges in parts of their own, between others that are shared.
+// There is room for all of them from the start: each part that is cut but the last has half of `PART_MOST` ranges or more.
+fn in_parts(
+    alloc: Global,
+    before: &[SharedPart],
+    ranges: &[Range],
+    behind: &[SharedPart],
+) -> Result<Vec<SharedPart>, AllocError>
+    requires { AreRangesWithin 0 address_end ranges.now }
+    ensures value { IfOk result (λ made. ranges_in made.items ≡ ranges_in before.now ++ (ranges.now ++ ranges_in behind.now)) }
+    ensures inhabited { IfOk result (λ made.
+        AllByRecursion IsInhabited before.now → AllByRecursion IsInhabited behind.now → AllByRecursion IsInhabited made.items) }
+{
+    let most = ranges.len() / (PART_MOST / 2) + 1;
+    let mut made = Vec::with_capacity(alloc, before.len() + most + behind.len())?;
     put_shares(&mut made, before)?;
-    put_cut(alloc, &mut made, joined.ranges())?;
+    put_cut(alloc, &mut made, ranges)?;
     put_shares(&mut made, behind)?;
     Ok(made)
 }

@@ -1,4 +1,4 @@
-use Rattle.std.proofs.Common.{◌≤◌, length, arith}
+use Rattle.std.proofs.Common.{arith}
 use Rattle.delete_mask.proofs.parts.around.Goals as goal
 
 pub returns-then-at-upto-clause-within : goal.returns-then-at-upto-clause-within

@@ -1,4 +1,4 @@
-use Rattle.std.proofs.Common.{◌≡◌, ◌+◌, ◌≤◌, length, List, get_or, ap, ◌∙◌, arith}
+use Rattle.std.proofs.Common.{◌≡◌, length, List, get_or, ap, ◌∙◌, arith}
 use Rattle.std.proofs.lemmas.List.Folds.{length-flat_map-take}
 use Rattle.gcl_model.specs.Slots.{SlotRange}
 use Rattle.delete_mask.specs.Parts.{ranges_in}

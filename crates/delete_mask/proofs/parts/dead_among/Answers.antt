@@ -1,7 +1,6 @@
-use Rattle.std.proofs.Common.{◌≡◌, ◌<◌, ◌≤◌, Option, None, Some, List, length, slice_get, sym, ap, ◌∙◌}
+use Rattle.std.proofs.Common.{slice_get, sym, ap, ◌∙◌}
 use Rattle.std.proofs.lemmas.Option.{slice_get-get_or, slice_get_past}
 use Rattle.delete_mask.specs.Masks.{dead_range}
-use Rattle.delete_mask.specs.Parts.{ranges_in}
 use Rattle.delete_mask.proofs.PartLemmas.{dead_halved, dead_in}
 use Rattle.delete_mask.proofs.parts.dead_among.Goals as goal
 

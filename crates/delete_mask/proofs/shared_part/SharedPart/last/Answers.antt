@@ -1,4 +1,4 @@
-use Rattle.std.proofs.Common.{◌≡◌, ◌+◌, ◌-◌, length, sym, ap, ◌∙◌, arith}
+use Rattle.std.proofs.Common.{◌≡◌, ◌+◌, ◌-◌, length, ap, ◌∙◌, arith}
 use Rattle.gcl_model.specs.Slots.{SlotRange}
 use Rattle.delete_mask.specs.Parts.{last_dead}
 use Rattle.delete_mask.proofs.PartLemmas.{last_at}
