@@ -1,19 +1,19 @@
 -- Where halving over runs finds the run that a file may be in.
-use Rattle.std.proofs.Common.{◌≡◌, ℕ, zero, suc, ◌+◌, ◌*◌, ◌<◌, ◌≤◌, Bool, true, false, not, cond, eqb, ltb, List, [], ◌∷◌, ◌++◌, filter, length, take, drop, get_or, slice_get, le_refl, Option, Some, None, refl, sym, ap, ◌∙◌, subst, arith, inl, inr, ◌⊎◌}
+use Rattle.std.proofs.Common.{◌≡◌, ℕ, zero, suc, ◌+◌, ◌<◌, ◌≤◌, Bool, true, false, not, cond, eqb, ltb, List, [], ◌∷◌, ◌++◌, filter, length, length-append, take, drop, get_or, slice_get, le_refl, Option, Some, None, refl, sym, ap, ◌∙◌, subst, arith}
 use Rattle.std.specs.List.{AllByRecursion, prefix_len}
 use Rattle.std.specs.List.Sorted.{IsNonDecreasingBy}
 use Rattle.std.specs.Option.{option_or}
-use Rattle.std.proofs.lemmas.Bool.{cases_lt, ne_eqb, lt-ltb, le-ltb, ltb-true, ltb-false}
-use Rattle.std.proofs.lemmas.List.{append_assoc, append-nil, drop_more, take-append-drop}
+use Rattle.std.proofs.lemmas.Bool.{ne_eqb, ltb-true, ltb-false}
+use Rattle.std.proofs.lemmas.List.{append_assoc, append-nil, drop_more, take-append-drop, take_more}
 use Rattle.std.proofs.lemmas.List.Folds.{find-append}
 use Rattle.std.proofs.lemmas.List.Elements.{filter-append}
 use Rattle.std.proofs.lemmas.Grind.{flat_map-append}
 use Rattle.gcl_model.specs.Limits.{address_end}
 use Rattle.gcl_model.proofs.Lists.{all_append, all_drop, all_right, all_take, all_weaker, filter_kept}
-use Rattle.address_space.specs.Runs.{FileEntry, IsPlaced, IsFileRun, Precedes}
+use Rattle.address_space.specs.Runs.{FileEntry, IsFileRun, Precedes}
 use Rattle.file_runs.specs.Records.{AreRuns, IsInhabited, files_in, last_id, left_of}
 use Rattle.file_runs.proofs.FileLemmas.{file_with_id, find_in_rest}
-use Rattle.file_runs.proofs.RunLemmas.{survives, run_left, run_right, run_survives}
+use Rattle.file_runs.proofs.RunLemmas.{survives, run_left, run_right}
 
 -- ids before one, and after one
 
@@ -221,3 +221,28 @@ cut_off runs made rest front behind all n e f some is whole inhabited run =
       subst (AllByRecursion IsInhabited) (sym is) (all_append IsInhabited runs (front ∷ []) inhabited (some, tt)),
       run_right front behind (subst IsFileRun (sym parts) run),
     )
+
+-- the files of one run more
+pub files_more : (runs made : List (List FileEntry)) (run : List FileEntry) → made ≡ runs ++ run ∷ [] → files_in made ≡ files_in runs ++ run
+files_more runs made run is = ap files_in is ∙ files_append runs (run ∷ []) ∙ ap (λ l. files_in runs ++ l) (append-nil run)
+
+pub more_inhabited : (runs made : List (List FileEntry)) (run : List FileEntry) → made ≡ runs ++ run ∷ [] → 0 < length run → AllByRecursion IsInhabited runs → AllByRecursion IsInhabited made
+more_inhabited runs made run is some inhabited = subst (AllByRecursion IsInhabited) (sym is) (all_append IsInhabited runs (run ∷ []) inhabited (some, tt))
+
+pub two_more : (runs one both : List (List FileEntry)) (last run : List FileEntry) → one ≡ runs ++ last ∷ [] → both ≡ one ++ run ∷ [] → files_in both ≡ (files_in runs ++ last) ++ run
+two_more runs one both last run is_one is_both = files_more one both run is_both ∙ ap (λ l. l ++ run) (files_more runs one last is_one)
+
+-- the files of a run that is made of two
+pub joined_files : (files both last run : List FileEntry) → both ≡ last ++ run → files ++ both ≡ (files ++ last) ++ run
+joined_files files both last run is = ap (λ l. files ++ l) is ∙ sym (append_assoc files last run)
+
+-- a run without a file, and the runs after it
+pub rest_left : (id : ℕ) (old made all : List (List FileEntry)) (run : List FileEntry) (after : List (List FileEntry)) → files_in made ≡ files_in old ++ filter (survives id) run → all ≡ made ++ after →
+    files_in all ≡ files_in old ++ left_of id (run ∷ after)
+rest_left id old made all run after is_made is_all =
+    ap files_in is_all ∙ files_append made after ∙ ap (λ l. l ++ files_in after) is_made ∙ append_assoc (files_in old) (filter (survives id) run) (files_in after)
+
+-- how many files there are with one run more
+pub count_more : (runs : List (List FileEntry)) (i : ℕ) (files run : List FileEntry) → i < length runs → files ≡ get_or runs i run → length (files_in (take i runs)) + length files ≡ length (files_in (take (i + 1) runs))
+count_more runs i files run lt is =
+    sym (ap length (files_more (take i runs) (take (i + 1) runs) files (take_more runs i run lt ∙ ap (λ f. take i runs ++ f ∷ []) (sym is))) ∙ length-append (files_in (take i runs)) files)

@@ -1,9 +1,9 @@
 -- Where halving over the ends of runs finds the run that has a place.
-use Rattle.std.proofs.Common.{◌≡◌, ℕ, zero, suc, ◌+◌, ◌-◌, ◌<◌, ◌≤◌, Bool, true, false, cond, leb, List, [], ◌∷◌, ◌++◌, length, get_or, le_refl, refl, sym, ap, ◌∙◌, subst, arith, length-append}
+use Rattle.std.proofs.Common.{◌≡◌, ℕ, zero, suc, ◌+◌, ◌-◌, ◌<◌, ◌≤◌, Bool, true, false, cond, leb, List, [], ◌∷◌, ◌++◌, length, drop, get_or, le_refl, refl, sym, ap, ◌∙◌, subst, arith, length-append}
 use Rattle.std.specs.List.{prefix_len}
 use Rattle.std.specs.List.Sorted.{IsNonDecreasingBy}
 use Rattle.std.proofs.lemmas.Bool.{leb-true, leb-false}
-use Rattle.std.proofs.lemmas.List.{get_or_append_left, get_or-append_right}
+use Rattle.std.proofs.lemmas.List.{append_assoc, drop_more, get_or_append_left, get_or-append_right}
 use Rattle.address_space.specs.Runs.{FileEntry}
 use Rattle.file_runs.specs.Records.{ends_from, files_in, start_at}
 
@@ -80,3 +80,12 @@ place_found before i (files ∷ runs) le lt = by_test (leb (before + length file
 pub has_place : (runs : List (List FileEntry)) (ends : List ℕ) (i at : ℕ) → ends ≡ ends_from 0 runs → i < length (files_in runs) → at ≡ prefix_len (λ end. leb end i) ends → HasPlace 0 i runs at
 has_place runs ends i at is lt found =
     subst (HasPlace 0 i runs) (sym (found ∙ ap (prefix_len (λ end. leb end i)) is)) (place_found 0 i runs (omega arith) (omega arith))
+
+-- the end of one run more
+pub ends_more : (ends made : List ℕ) (count : ℕ) (runs : List (List FileEntry)) (i : ℕ) (files run : List FileEntry) → i < length runs → files ≡ get_or runs i run → made ≡ ends ++ (count + length files) ∷ [] →
+    made ++ ends_from (count + length files) (drop (i + 1) runs) ≡ ends ++ ends_from count (drop i runs)
+ends_more ends made count runs i files run lt is is_made =
+    let rest = ends_from (count + length files) (drop (i + 1) runs) in
+    ap (λ l. l ++ rest) is_made
+    ∙ append_assoc ends ((count + length files) ∷ []) rest
+    ∙ sym (ap (λ rs. ends ++ ends_from count rs) (drop_more runs i run lt ∙ ap (λ r. r ∷ drop (i + 1) runs) (sym is)))

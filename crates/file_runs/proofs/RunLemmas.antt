@@ -1,7 +1,8 @@
 -- The files of a run that are left, and parts of a run.
 use Rattle.std.proofs.Common.{◌≡◌, ℕ, ◌+◌, ◌<◌, Bool, true, false, not, cond, eqb, zero, suc, get_or, take, drop, List, [], ◌∷◌, ◌++◌, filter, length, IfSome, sym, ap, ◌∙◌, subst, arith}
 use Rattle.std.specs.List.{AllByRecursion}
-use Rattle.std.proofs.lemmas.List.{take-append-drop, drop_more, append_assoc}
+use Rattle.std.proofs.lemmas.List.{take-append-drop, take_more, drop_more, append_assoc}
+use Rattle.std.proofs.lemmas.List.Elements.{filter-append}
 use Rattle.address_space.specs.Runs.{FileEntry, Precedes, IsFileRun, last_file}
 use Rattle.gcl_model.proofs.Lists.{all_kept}
 
@@ -52,6 +53,12 @@ pub next_survivor : (id : ℕ) (files : List FileEntry) (i : ℕ) (file : FileEn
 next_survivor id files i file d run lt e =
     subst (λ f. IfSome (last_file (filter (survives id) (take i files))) (λ last. Precedes last f)) (sym e)
     (last_of_all (λ last. Precedes last (get_or files i d)) (filter (survives id) (take i files)) (all_kept (λ last. Precedes last (get_or files i d)) (survives id) (take i files) (before_at files i d run lt)))
+
+-- what survives of one file more
+pub survivors_more : (id : ℕ) (files : List FileEntry) (i : ℕ) (file : FileEntry) → i < length files → file ≡ get_or files i file →
+    filter (survives id) (take i files) ++ filter (survives id) (file ∷ []) ≡ filter (survives id) (take (i + 1) files)
+survivors_more id files i file lt is =
+    sym (ap (filter (survives id)) (take_more files i file lt ∙ ap (λ f. take i files ++ f ∷ []) (sym is)) ∙ filter-append (survives id) (take i files) (file ∷ []))
 
 -- the next file of a run goes after those before it
 pub run_next : (xs ys : List FileEntry) (y : FileEntry) → IsFileRun (xs ++ y ∷ ys) → IfSome (last_file xs) (λ last. Precedes last y)

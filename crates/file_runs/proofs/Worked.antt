@@ -1,5 +1,5 @@
 -- Runs, computed.
-use Rattle.std.proofs.Common.{◌≡◌, ℕ, ◌*◌, List, [], ◌∷◌, refl}
+use Rattle.std.proofs.Common.{◌≡◌, ℕ, ◌*◌, [], ◌∷◌, refl}
 use Rattle.address_space.specs.Runs.{FileEntry}
 use Rattle.file_runs.specs.Records.{ends_from, files_in, last_id}
 

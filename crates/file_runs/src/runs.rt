@@ -1,8 +1,8 @@
-ghost use Rattle.std.specs.Prelude.{◌≡◌, ◌==◌, ◌<◌, ◌++◌, ◌≤◌, not, nat_le, nat_lt, find, filter};
-ghost use Rattle.std.specs.Prelude.{length, slice_index_or, IfOk, OnOk, MatchOption, None, Some};
+ghost use Rattle.std.specs.Prelude.{◌≡◌, ◌==◌, ◌<◌, ◌++◌, ◌∷◌, [], ◌≤◌, not, nat_le, nat_lt, find, filter};
+ghost use Rattle.std.specs.Prelude.{length, slice_index_or, IfOk, IfSome, OnOk, MatchOption, None, Some};
 ghost use Rattle.std.specs.List.{AllByRecursion, prefix_len};
 ghost use Rattle.std.specs.List.Sorted.{IsNonDecreasingBy};
-ghost use Rattle.address_space.specs.Runs.{IsFileRun};
+ghost use Rattle.address_space.specs.Runs.{IsFileRun, Precedes, last_file};
 ghost use Rattle.file_runs.specs.Records.{AreRuns, IsInhabited, ends_from, files_in, last_id, left_of, start_at};
 
 use crate::shared_run::SharedRun;
@@ -189,8 +189,7 @@ fn put_rest(
         return Ok(());
     };
     put_without(alloc, into, run, id)?;
-    put_shares(into, after)?;
-    Ok(())
+    put_shares(into, after)
 }
 
 /// Puts the runs after those that are there. They are shared.
@@ -198,8 +197,18 @@ fn put_shares(into: &mut Vec<SharedRun>, runs: &[SharedRun]) -> Result<(), Alloc
     ensures { OnOk result (into.new.items ≡ into.old.items ++ runs.now) }
 {
     for run in runs {
-        into.push(run.share()?)?;
+        put_share(into, run)?;
     }
+    Ok(())
+}
+
+/// Puts the run after those that are there. It is shared.
+#[inline]
+fn put_share(into: &mut Vec<SharedRun>, run: &SharedRun) -> Result<(), AllocError>
+    ensures value { OnOk result (into.new.items ≡ into.old.items ++ run.now ∷ []) }
+    ensures inhabited { OnOk result (AllByRecursion IsInhabited into.old.items → AllByRecursion IsInhabited into.new.items) }
+{
+    into.push(run.share()?)?;
     Ok(())
 }
 
@@ -214,9 +223,18 @@ fn put_without(
     ensures inhabited { OnOk result (AllByRecursion IsInhabited into.old.items → AllByRecursion IsInhabited into.new.items) }
 {
     let left = records_without(alloc, run.as_slice(), id)?;
-    if left.len() > 0 {
-        into.push(SharedRun::new(alloc, left)?)?;
+    put_files(alloc, into, left)
+}
+
+/// Puts files after the runs that are there, as a run of their own, if there are any.
+fn put_files(alloc: Global, into: &mut Vec<SharedRun>, files: FileRun) -> Result<(), AllocError>
+    ensures value { OnOk result (files_in into.new.items ≡ files_in into.old.items ++ files) }
+    ensures inhabited { OnOk result (AllByRecursion IsInhabited into.old.items → AllByRecursion IsInhabited into.new.items) }
+{
+    if files.len() == 0 {
+        return Ok(());
     }
+    into.push(SharedRun::new(alloc, files)?)?;
     Ok(())
 }
 
@@ -227,11 +245,21 @@ fn records_without(alloc: Global, files: &[SharedRecord], id: FileId) -> Result<
 {
     let mut left = FileRun::new(alloc);
     for file in files {
-        if file.record().id != id {
-            left.push_shared(file.share()?)?;
-        }
+        put_other(&mut left, file, id)?;
     }
     Ok(left)
+}
+
+/// Puts the record after the files, unless it has this id. It is shared.
+#[inline]
+fn put_other(files: &mut FileRun, record: &SharedRecord, id: FileId) -> Result<(), AllocError>
+    requires { IfSome (last_file files.old) (λ last. Precedes last record.now) }
+    ensures { OnOk result (files.new ≡ files.old ++ filter (λ file. not (file.id == id.0)) (record.now ∷ [])) }
+{
+    if record.record().id == id {
+        return Ok(());
+    }
+    files.push_shared(record.share()?)
 }
 
 /// Puts the runs after those that are there.
@@ -254,10 +282,7 @@ fn put_run(into: &mut Vec<SharedRun>, run: &SharedRun) -> Result<(), AllocError>
 {
     match into.pop() {
         Some(last) => put_two(into, last, run),
-        None => {
-            into.push(run.share()?)?;
-            Ok(())
-        }
+        None => put_share(into, run),
     }
 }
 
@@ -268,20 +293,25 @@ fn put_two(into: &mut Vec<SharedRun>, last: SharedRun, run: &SharedRun) -> Resul
     ensures inhabited { OnOk result (AllByRecursion IsInhabited into.old.items → AllByRecursion IsInhabited into.new.items) }
 {
     if last.as_slice().len() <= RUN_MOST / 2 && run.as_slice().len() <= RUN_MOST / 2 {
-        into.push(joined(*into.allocator(), &last, run)?)?;
-    } else {
-        into.push(last)?;
-        into.push(run.share()?)?;
+        return put_joined(into, &last, run);
     }
-    Ok(())
+    into.push(last)?;
+    put_share(into, run)
 }
 
-fn joined(alloc: Global, last: &SharedRun, run: &SharedRun) -> Result<SharedRun, AllocError>
+/// Puts the files of two runs after those that are there, as one run.
+fn put_joined(
+    into: &mut Vec<SharedRun>,
+    last: &SharedRun,
+    run: &SharedRun,
+) -> Result<(), AllocError>
     requires { IsFileRun (last.now ++ run.now) }
-    ensures { IfOk result (λ both. both ≡ last.now ++ run.now) }
+    ensures value { OnOk result (files_in into.new.items ≡ files_in into.old.items ++ last.now ++ run.now) }
+    ensures inhabited { OnOk result (AllByRecursion IsInhabited into.old.items → AllByRecursion IsInhabited into.new.items) }
 {
+    let alloc = *into.allocator();
     let mut files = FileRun::new(alloc);
     put_records(&mut files, last.as_slice())?;
     put_records(&mut files, run.as_slice())?;
-    SharedRun::new(alloc, files)
+    put_files(alloc, into, files)
 }

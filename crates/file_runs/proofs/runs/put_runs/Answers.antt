@@ -1,5 +1,3 @@
-use Rattle.std.proofs.Common.{sym, ap, ◌∙◌, subst}
-use Rattle.address_space.specs.Runs.{IsFileRun}
 use Rattle.file_runs.proofs.Parts.{next_run}
 use Rattle.file_runs.proofs.runs.put_runs.Goals as goal
 

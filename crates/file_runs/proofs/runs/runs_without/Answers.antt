@@ -1,8 +1,8 @@
-use Rattle.std.proofs.Common.{◌≡◌, ◌≤◌, ◌++◌, [], length, List, take, drop, sym, ap, ◌∙◌, subst, arith}
+use Rattle.std.proofs.Common.{◌≡◌, ◌++◌, sym, ap, ◌∙◌, subst, arith}
 use Rattle.std.proofs.lemmas.List.Sums.{prefix_len-le-length}
 use Rattle.std.specs.List.{AllByRecursion}
-use Rattle.address_space.specs.Runs.{FileEntry, IsFileRun}
-use Rattle.file_runs.specs.Records.{AreRuns, IsInhabited, files_in, left_of}
+use Rattle.address_space.specs.Runs.{IsFileRun}
+use Rattle.file_runs.specs.Records.{IsInhabited, files_in, left_of}
 use Rattle.file_runs.proofs.RunLemmas.{run_survives}
 use Rattle.file_runs.proofs.Parts.{all_back, all_front, ends_before, runs_left}
 use Rattle.file_runs.proofs.runs.runs_without.Goals as goal

@@ -1,4 +1,4 @@
-use Rattle.std.proofs.Common.{◌≡◌, ◌+◌, ◌-◌, arith}
+use Rattle.std.proofs.Common.{◌-◌, arith}
 use Rattle.file_runs.proofs.Places.{start_at-found}
 use Rattle.file_runs.proofs.runs.start_of.Goals as goal
 

@@ -1,4 +1,4 @@
-use Rattle.std.proofs.Common.{◌≡◌, ◌+◌, ◌-◌, length, sym, ap, ◌∙◌, arith}
+use Rattle.std.proofs.Common.{◌≡◌, ◌+◌, ◌-◌, length, ap, ◌∙◌, arith}
 use Rattle.address_space.specs.Runs.{FileEntry}
 use Rattle.file_runs.specs.Records.{last_id}
 use Rattle.file_runs.proofs.Parts.{last_at}
