@@ -9,8 +9,11 @@ use Rattle.gcl_model.specs.declared.expr.Expr.TheVariants.{rolls-Containing, rol
 use Rattle.gcl_model.specs.declared.expr.Expr.TheFolds.{fold-roll-Expr}
 use Rattle.gcl_model.specs.Extents.{Extent, covers, is_inside, minimal, all_extents}
 use Rattle.gcl_model.specs.Texts.{Text}
+use Rattle.gcl_model.specs.declared.containment.Containment.{Containment}
+use Rattle.gcl_model.specs.declared.containment.Containment.TheVariants as C
+use Rattle.plain_text.specs.Containments.{keeps}
 use Rattle.gcl_model.specs.Forms.{Form, containing, contained_in, not_containing, not_contained_in}
-use Rattle.gcl_model.specs.FormOf.{form_of, form_step, forms_from}
+use Rattle.gcl_model.specs.FormOf.{form_of, form_step, forms_from, containment_form}
 use Rattle.gcl_model.specs.Meaning.{concordance, denotes, operands, extents_where, is_minimal, all_cover, any_contains, runs_in_order}
 use Rattle.gcl_model.proofs.FormLemmas.{form_of-Both, form_of-One, form_of-Seq}
 use Rattle.gcl_model.proofs.Meanings.{filter_and, minimal_list}
@@ -54,35 +57,18 @@ module _ (text : Text) (e : Expr) (v : Vec Expr Global) (exprs : List Expr) (lis
   pub seq_answer : e ≡ Seq v → IfOk r (λ l. l ≡ extents_where text (is_minimal text (runs_in_order read))) → IfOk r (λ l. l ≡ concordance text (form_of e))
   seq_answer is h = equal_list r _ _ (ap (λ ls. extents_where text (is_minimal text (runs_in_order ls))) of_operands ∙ sym (ap (concordance text) (ap form_of is ∙ form_of-Seq v))) h
 
--- a containment: the operands x and y stand in the boxes a and b, and their lists are read through slices
-module _ (text : Text) (e : Expr) (a b : Box Expr Global) (x y : Expr) (first second first_read second_read : List Extent) (r : Result (List Extent) AllocError)
-    (at_a : x ≡ a.value) (at_b : y ≡ b.value) (first_given : first ≡ concordance text (form_of x)) (second_given : second ≡ concordance text (form_of y))
-    (first_same : first_read ≡ first) (second_same : second_read ≡ second) where
-  of_first : first_read ≡ concordance text (form_of a.value)
-  of_first = first_same ∙ first_given ∙ ap (λ z. concordance text (form_of z)) at_a
+-- what a containment keeps of the list of one expression by that of another is its list
+kept_list : (text : Text) (containment : Containment) (a b : Form) →
+    filter (keeps containment (concordance text b)) (concordance text a) ≡ concordance text (containment_form containment a b)
+kept_list text C.Containing a b = sym (filter_and (denotes text a) (covers (concordance text b)) (all_extents text.first text.next))
+kept_list text C.ContainedIn a b = sym (filter_and (denotes text a) (is_inside (concordance text b)) (all_extents text.first text.next))
+kept_list text C.NotContaining a b = sym (filter_and (denotes text a) (λ c. not (covers (concordance text b) c)) (all_extents text.first text.next))
+kept_list text C.NotContainedIn a b = sym (filter_and (denotes text a) (λ c. not (is_inside (concordance text b) c)) (all_extents text.first text.next))
 
-  of_second : second_read ≡ concordance text (form_of b.value)
-  of_second = second_same ∙ second_given ∙ ap (λ z. concordance text (form_of z)) at_b
-
-  of_both : (test : List Extent → Extent → Bool) → filter (test second_read) first_read ≡ filter (test (concordance text (form_of b.value))) (concordance text (form_of a.value))
-  of_both test = ap (λ l. filter (test l) first_read) of_second ∙ ap (filter (test (concordance text (form_of b.value)))) of_first
-
-  module _ (test : List Extent → Extent → Bool) (form : Form → Form → Form)
-      (denoted : concordance text (form (form_of a.value) (form_of b.value)) ≡ filter (test (concordance text (form_of b.value))) (concordance text (form_of a.value)))
-      (formed : form_of e ≡ form (form_of a.value) (form_of b.value)) where
-    by_test : IfOk r (λ l. l ≡ filter (test second_read) first_read) → IfOk r (λ l. l ≡ concordance text (form_of e))
-    by_test h = equal_list r _ _ (of_both test ∙ sym denoted ∙ sym (ap (concordance text) formed)) h
-
-  pub containing_answer : e ≡ Containing a b → IfOk r (λ l. l ≡ filter (covers second_read) first_read) → IfOk r (λ l. l ≡ concordance text (form_of e))
-  containing_answer is = by_test covers containing (filter_and (denotes text (form_of a.value)) (covers (concordance text (form_of b.value))) (all_extents text.first text.next)) (ap form_of is ∙ form_of-Containing a b)
-
-  pub contained_in_answer : e ≡ ContainedIn a b → IfOk r (λ l. l ≡ filter (is_inside second_read) first_read) → IfOk r (λ l. l ≡ concordance text (form_of e))
-  contained_in_answer is = by_test is_inside contained_in (filter_and (denotes text (form_of a.value)) (is_inside (concordance text (form_of b.value))) (all_extents text.first text.next)) (ap form_of is ∙ form_of-ContainedIn a b)
-
-  pub not_containing_answer : e ≡ NotContaining a b → IfOk r (λ l. l ≡ filter (λ c. not (covers second_read c)) first_read) → IfOk r (λ l. l ≡ concordance text (form_of e))
-  not_containing_answer is =
-      by_test (λ l c. not (covers l c)) not_containing (filter_and (denotes text (form_of a.value)) (λ c. not (covers (concordance text (form_of b.value)) c)) (all_extents text.first text.next)) (ap form_of is ∙ form_of-NotContaining a b)
-
-  pub not_contained_in_answer : e ≡ NotContainedIn a b → IfOk r (λ l. l ≡ filter (λ c. not (is_inside second_read c)) first_read) → IfOk r (λ l. l ≡ concordance text (form_of e))
-  not_contained_in_answer is =
-      by_test (λ l c. not (is_inside l c)) not_contained_in (filter_and (denotes text (form_of a.value)) (λ c. not (is_inside (concordance text (form_of b.value)) c)) (all_extents text.first text.next)) (ap form_of is ∙ form_of-NotContainedIn a b)
+-- a containment: the lists of its operands are read through slices
+pub containment_answer : (text : Text) (containment : Containment) (a b : Form) (first second first_read second_read : List Extent) (r : Result (List Extent) AllocError) →
+    first ≡ concordance text a → second ≡ concordance text b → first_read ≡ first → second_read ≡ second →
+    IfOk r (λ l. l ≡ filter (keeps containment second_read) first_read) → IfOk r (λ l. l ≡ concordance text (containment_form containment a b))
+containment_answer text containment a b first second first_read second_read r first_given second_given first_same second_same =
+    equal_list r (filter (keeps containment second_read) first_read) (concordance text (containment_form containment a b))
+    (ap (λ l. filter (keeps containment l) first_read) (second_same ∙ second_given) ∙ ap (filter (keeps containment (concordance text b))) (first_same ∙ first_given) ∙ kept_list text containment a b)

@@ -1,3 +1,4 @@
 pub mod Puts
 pub mod Entries
 pub mod Holders
+pub mod Containments

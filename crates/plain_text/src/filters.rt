@@ -1,5 +1,6 @@
-ghost use Rattle.std.specs.Prelude.{◌≡◌, not, filter, IfOk};
-ghost use Rattle.gcl_model.specs.Extents.{covers, is_inside, minimal};
+ghost use Rattle.std.specs.Prelude.{◌≡◌, filter, IfOk};
+ghost use Rattle.gcl_model.specs.Extents.{minimal};
+ghost use Rattle.plain_text.specs.Containments.{keeps};
 ghost use Rattle.gcl_model.specs.Meaning.{extents_where, is_minimal, is_term, is_phrase, is_width, all_cover, any_contains, runs_in_order};
 
 use crate::kinds::{
@@ -8,7 +9,7 @@ use crate::kinds::{
 };
 use crate::pairs::{members_where, pairs_where};
 use crate::text::PlainText;
-use gcl_model::{Bytes, Interval, IntervalList};
+use gcl_model::{Bytes, Containment, Interval, IntervalList};
 use std::alloc::{AllocError, Global};
 
 pub(crate) fn term_list(
@@ -84,48 +85,29 @@ fn minimal_list(alloc: Global, members: &[Interval]) -> Result<IntervalList, All
     members_where(alloc, members, &IsLeast { members })
 }
 
-pub(crate) fn containing_list(
+/// The members of the first list that the containment keeps by the second.
+pub(crate) fn kept_list(
     alloc: Global,
+    containment: Containment,
     first: &[Interval],
     second: &[Interval],
 ) -> Result<IntervalList, AllocError>
-    ensures { IfOk result (λ list. list ≡ filter (covers second.now) first.now) }
+    ensures { IfOk result (λ list. list ≡ filter (keeps containment second.now) first.now) }
 {
-    members_where(alloc, first, &Covers { members: second })
-}
-
-pub(crate) fn contained_in_list(
-    alloc: Global,
-    first: &[Interval],
-    second: &[Interval],
-) -> Result<IntervalList, AllocError>
-    ensures { IfOk result (λ list. list ≡ filter (is_inside second.now) first.now) }
-{
-    members_where(alloc, first, &IsInside { members: second })
-}
-
-pub(crate) fn not_containing_list(
-    alloc: Global,
-    first: &[Interval],
-    second: &[Interval],
-) -> Result<IntervalList, AllocError>
-    ensures { IfOk result (λ list. list ≡ filter (λ c. not (covers second.now c)) first.now) }
-{
-    let test = Fails {
-        test: Covers { members: second },
-    };
-    members_where(alloc, first, &test)
-}
-
-pub(crate) fn not_contained_in_list(
-    alloc: Global,
-    first: &[Interval],
-    second: &[Interval],
-) -> Result<IntervalList, AllocError>
-    ensures { IfOk result (λ list. list ≡ filter (λ c. not (is_inside second.now c)) first.now) }
-{
-    let test = Fails {
-        test: IsInside { members: second },
-    };
-    members_where(alloc, first, &test)
+    match containment {
+        Containment::Containing => members_where(alloc, first, &Covers { members: second }),
+        Containment::ContainedIn => members_where(alloc, first, &IsInside { members: second }),
+        Containment::NotContaining => {
+            let test = Fails {
+                test: Covers { members: second },
+            };
+            members_where(alloc, first, &test)
+        }
+        Containment::NotContainedIn => {
+            let test = Fails {
+                test: IsInside { members: second },
+            };
+            members_where(alloc, first, &test)
+        }
+    }
 }

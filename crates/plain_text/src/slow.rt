@@ -1,14 +1,13 @@
 ghost use Rattle.std.specs.Prelude.{◌≡◌, map, IfOk};
-ghost use Rattle.gcl_model.specs.FormOf.{form_of, forms_from};
+ghost use Rattle.gcl_model.specs.FormOf.{form_of, forms_from, containment_form};
 ghost use Rattle.gcl_model.specs.WellFormed.{IsWellFormed, AreWellFormed};
 ghost use Rattle.gcl_model.specs.Meaning.{concordance, operands};
 
 use crate::filters::{
-    both_list, contained_in_list, containing_list, not_contained_in_list, not_containing_list,
-    one_list, phrase_list, seq_list, term_list, width_list,
+    both_list, kept_list, one_list, phrase_list, seq_list, term_list, width_list,
 };
 use crate::text::PlainText;
-use gcl_model::{Expr, IntervalList};
+use gcl_model::{Containment, Expr, IntervalList};
 use std::alloc::{AllocError, Global};
 
 /// The concordance list of the expression, by looking at every pair of addresses of the text.
@@ -34,27 +33,33 @@ pub fn slow_list(alloc: Global, expr: &Expr, text: &PlainText) -> Result<Interva
             let lists = operand_lists(alloc, operands.as_slice(), text)?;
             seq_list(alloc, text, lists.as_slice())
         }
-        Expr::Containing(a, b) => {
-            let first = slow_list(alloc, a, text)?;
-            let second = slow_list(alloc, b, text)?;
-            containing_list(alloc, first.as_slice(), second.as_slice())
-        }
-        Expr::ContainedIn(a, b) => {
-            let first = slow_list(alloc, a, text)?;
-            let second = slow_list(alloc, b, text)?;
-            contained_in_list(alloc, first.as_slice(), second.as_slice())
-        }
+        Expr::Containing(a, b) => slow_containment(alloc, Containment::Containing, a, b, text),
+        Expr::ContainedIn(a, b) => slow_containment(alloc, Containment::ContainedIn, a, b, text),
         Expr::NotContaining(a, b) => {
-            let first = slow_list(alloc, a, text)?;
-            let second = slow_list(alloc, b, text)?;
-            not_containing_list(alloc, first.as_slice(), second.as_slice())
+            slow_containment(alloc, Containment::NotContaining, a, b, text)
         }
         Expr::NotContainedIn(a, b) => {
-            let first = slow_list(alloc, a, text)?;
-            let second = slow_list(alloc, b, text)?;
-            not_contained_in_list(alloc, first.as_slice(), second.as_slice())
+            slow_containment(alloc, Containment::NotContainedIn, a, b, text)
         }
     }
+}
+
+/// The list of a containment of two expressions.
+#[cycle(slow)]
+fn slow_containment(
+    alloc: Global,
+    containment: Containment,
+    first: &Expr,
+    second: &Expr,
+    text: &PlainText,
+) -> Result<IntervalList, AllocError>
+    requires first { IsWellFormed (form_of first.now) }
+    requires second { IsWellFormed (form_of second.now) }
+    ensures { IfOk result (λ list. list ≡ concordance text.now (containment_form containment (form_of first.now) (form_of second.now))) }
+{
+    let first = slow_list(alloc, first, text)?;
+    let second = slow_list(alloc, second, text)?;
+    kept_list(alloc, containment, first.as_slice(), second.as_slice())
 }
 
 /// The list of each operand.
