@@ -130,10 +130,7 @@ impl Blocks {
     {
         match self {
             Blocks::One { first, .. } => *first = move_address(*first, by),
-            Blocks::Many(many) => {
-                many.first = move_address(many.first, by);
-                move_heads(&mut many.heads, by);
-            }
+            Blocks::Many(many) => many.move_up(by),
         }
     }
 
@@ -143,10 +140,7 @@ impl Blocks {
     {
         match self {
             Blocks::One { count, .. } => *count = 0,
-            Blocks::Many(many) => {
-                many.count = 0;
-                many.heads.clear();
-            }
+            Blocks::Many(many) => many.clear(),
         }
     }
 }
@@ -164,6 +158,26 @@ impl ManyBlocks {
         push_head(&mut self.heads, self.count, head)?;
         self.count += 1;
         Ok(())
+    }
+
+    /// Moves the first members of all blocks up.
+    fn move_up(&mut self, by: u64)
+        ensures count { self.new.count ≡ self.old.count }
+        ensures first { self.new.first ≡ moved_address by self.old.first }
+        ensures heads { self.new.heads.items ≡ moved_heads by self.old.heads.items }
+    {
+        self.first = move_address(self.first, by);
+        move_heads(&mut self.heads, by);
+    }
+
+    /// Takes all members away, and keeps the memory of the heads.
+    fn clear(&mut self)
+        ensures count { self.new.count ≡ 0 }
+        ensures first { self.new.first ≡ self.old.first }
+        ensures heads { self.new.heads.items ≡ [] }
+    {
+        self.count = 0;
+        self.heads.clear();
     }
 }
 

@@ -1,4 +1,4 @@
-use Rattle.std.proofs.Common.{refl}
+use Rattle.std.proofs.Common.{refl, arith}
 use Rattle.posting_code.proofs.Packed.{next_absurd, next_is}
 use Rattle.posting_code.proofs.Joining.{number_within}
 use Rattle.posting_code.proofs.unpack.next_member.Goals as goal
@@ -17,3 +17,6 @@ returns-clause-can c = (next_is _ _ _ _ _ c.requires.can c.requires.some c.in-So
 
 pub returns-clause-within : goal.returns-clause-within
 returns-clause-within c = number_within _ _ _ _ c.in-Some.ensures.some
+
+pub overflow_add-result : goal.overflow_add-result
+overflow_add-result c = let small = (next_is _ _ _ _ _ c.requires.can c.requires.some c.in-Some.ensures.some).small in omega (arith, small)
