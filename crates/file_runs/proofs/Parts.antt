@@ -236,12 +236,6 @@ two_more runs one both last run is_one is_both = files_more one both run is_both
 pub joined_files : (files both last run : List FileEntry) → both ≡ last ++ run → files ++ both ≡ (files ++ last) ++ run
 joined_files files both last run is = ap (λ l. files ++ l) is ∙ sym (append_assoc files last run)
 
--- a run without a file, and the runs after it
-pub rest_left : (id : ℕ) (old made all : List (List FileEntry)) (run : List FileEntry) (after : List (List FileEntry)) → files_in made ≡ files_in old ++ filter (survives id) run → all ≡ made ++ after →
-    files_in all ≡ files_in old ++ left_of id (run ∷ after)
-rest_left id old made all run after is_made is_all =
-    ap files_in is_all ∙ files_append made after ∙ ap (λ l. l ++ files_in after) is_made ∙ append_assoc (files_in old) (filter (survives id) run) (files_in after)
-
 -- how many files there are with one run more
 pub count_more : (runs : List (List FileEntry)) (i : ℕ) (files run : List FileEntry) → i < length runs → files ≡ get_or runs i run → length (files_in (take i runs)) + length files ≡ length (files_in (take (i + 1) runs))
 count_more runs i files run lt is =
