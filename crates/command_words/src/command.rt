@@ -1,6 +1,6 @@
-ghost use Rattle.std.specs.Prelude.{◌≡◌, IfOk, false};
-ghost use Rattle.clap.specs.Words.{app_of, rule_of};
-ghost use Rattle.command_words.specs.Program.{option_rule, program};
+ghost use Rattle.std.specs.Prelude.{◌≡◌, IfOk, codes, false};
+ghost use Rattle.clap.specs.Words.{app_of, new_app, rule_of, with_rule};
+ghost use Rattle.command_words.specs.Program.{option_rule, program, without_extras};
 
 use clap::{Arg, ArgAction, Command};
 use std::alloc::{AllocError, Global};
@@ -13,16 +13,32 @@ fn valued<'a>(alloc: Global, name: &'a str) -> Arg<'a>
     Arg::new(alloc, name).long(name).action(ArgAction::Set)
 }
 
-/// The command with the four options. No word is its name, and none asks for help.
+/// The command without its options. No word is its name, and none asks for help.
+fn plain<'a>(alloc: Global) -> Command<'a>
+    ensures { app_of result ≡ without_extras (new_app (codes "gclq")) }
+{
+    Command::new(alloc, "gclq")
+        .no_binary_name(true)
+        .disable_help_flag(true)
+}
+
+/// The command with an option more.
+fn with_option<'a>(
+    alloc: Global,
+    command: Command<'a>,
+    name: &'a str,
+) -> Result<Command<'a>, AllocError>
+    ensures { IfOk result (λ longer. app_of longer ≡ with_rule (app_of command.entry) (option_rule name.entry.now)) }
+{
+    command.arg(valued(alloc, name))
+}
+
+/// The command with the four options.
 pub fn command<'a>(alloc: Global) -> Result<Command<'a>, AllocError>
     ensures { IfOk result (λ command. app_of command ≡ program) }
 {
-    let command = Command::new(alloc, "gclq")
-        .no_binary_name(true)
-        .disable_help_flag(true)
-        .arg(valued(alloc, "first"))?
-        .arg(valued(alloc, "readers"))?
-        .arg(valued(alloc, "made"))?
-        .arg(valued(alloc, "count"))?;
-    Ok(command)
+    let command = with_option(alloc, plain(alloc), "first")?;
+    let command = with_option(alloc, command, "readers")?;
+    let command = with_option(alloc, command, "made")?;
+    with_option(alloc, command, "count")
 }

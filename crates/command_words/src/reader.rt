@@ -1,10 +1,13 @@
-ghost use Rattle.std.specs.Prelude.{◌≡◌, IfOk, IfSome, IsNone, None, map, option_map};
+ghost use Rattle.std.specs.Prelude.{◌≡◌, ◌<◌, ◌∷◌, ℕ, List, [], codes, get_or, length, map};
+ghost use Rattle.std.specs.Prelude.{IfOk, IfSome, IsNone, None, option_map};
+ghost use Rattle.clap.specs.Words.{first_value, found_of};
 ghost use Rattle.clap.specs.declared.error.kind.ErrorKind.TheVariants.{OutOfMemory};
 ghost use Rattle.command_words.specs.Grammar.{IsWithinLimits, made_from, number_within, options_from, options_of};
 ghost use Rattle.command_words.specs.Program.{HasNoEnd};
 
 use crate::command::command;
 use crate::options::{MOST_MADE, MOST_READERS, Made, Options};
+use clap::ArgMatches;
 use clap::error::ErrorKind;
 use gcl_model::{ADDRESS_END, Bytes};
 use script_lang::number_of;
@@ -55,17 +58,29 @@ fn options_from(
     })
 }
 
-/// The words as text. `--` would end the options for clap, so it is refused with what is not UTF-8.
+/// A word as text. `--` would end the options for clap, so it is refused with what is not UTF-8.
+fn text_of(word: &[u8]) -> Option<&str>
+    ensures some { IfSome result (λ text. (text.now ≡ word.now) × HasNoEnd (word.now ∷ [])) }
+    ensures none { IsNone result → (words : List (List ℕ)) (i : ℕ) → i < length words → word.now ≡ get_or words i word.now →
+        options_of words ≡ None }
+{
+    match str::from_utf8(word) {
+        Ok(text) if text != "--" => Some(text),
+        _ => None,
+    }
+}
+
+/// The words as text.
 fn texts_of<'a>(alloc: Global, words: &'a [Bytes]) -> Result<Option<Vec<&'a str>>, AllocError>
     ensures some { IfOk result (λ texts. IfSome texts (λ t. (map (λ text. text.now) t.items ≡ words.now) × HasNoEnd words.now)) }
     ensures none { IfOk result (λ texts. IsNone texts → options_of words.now ≡ None) }
 {
     let mut texts = Vec::new(alloc);
     for word in words {
-        match str::from_utf8(word.as_slice()) {
-            Ok(text) if text != "--" => texts.push(text)?,
-            _ => return Ok(None),
-        }
+        let Some(text) = text_of(word.as_slice()) else {
+            return Ok(None);
+        };
+        texts.push(text)?;
     }
     Ok(Some(texts))
 }
@@ -80,18 +95,27 @@ fn refusal(kind: ErrorKind) -> Result<Option<Options>, AllocError>
     }
 }
 
+/// The options of the values that clap found.
+fn options_of_matches(matches: &ArgMatches) -> Option<Options>
+    ensures { result ≡ options_from
+        (first_value (found_of matches.now) (codes "first")) (first_value (found_of matches.now) (codes "readers"))
+        (first_value (found_of matches.now) (codes "made")) (first_value (found_of matches.now) (codes "count")) }
+{
+    options_from(
+        matches.get_str("first"),
+        matches.get_str("readers"),
+        matches.get_str("made"),
+        matches.get_str("count"),
+    )
+}
+
 /// The options that the texts write, by clap.
 fn options_in(alloc: Global, texts: &[&str]) -> Result<Option<Options>, AllocError>
     requires { HasNoEnd (map (λ text. text.now) texts.now) }
     ensures { IfOk result (λ options. options ≡ options_of (map (λ text. text.now) texts.now)) }
 {
     match command(alloc)?.try_get_matches_from(texts) {
-        Ok(matches) => Ok(options_from(
-            matches.get_str("first"),
-            matches.get_str("readers"),
-            matches.get_str("made"),
-            matches.get_str("count"),
-        )),
+        Ok(matches) => Ok(options_of_matches(&matches)),
         Err(fault) => refusal(fault.kind()),
     }
 }

@@ -1,7 +1,6 @@
 use Rattle.std.proofs.Common.{◌≡◌, ◌∙◌, ℕ, List, [], map, ap, sym, Bor}
 use Rattle.std.proofs.lemmas.Result.{IfOk-weaker}
 use Rattle.clap.specs.Words.{App, app_of, fault_of, found_of, is_simple, is_simple_and_free, matches_of, rows_of}
-use Rattle.command_words.specs.Grammar.{options_from}
 use Rattle.command_words.specs.Program.{program}
 use Rattle.command_words.proofs.LevelLemmas.{error_outside, is_free_program, is_none, is_simple_program, matches_options}
 use Rattle.command_words.proofs.reader.options_in.Goals as goal
@@ -13,9 +12,7 @@ returns-in-Ok c =
     let found : rows_of (found_of c.in-Ok.matches) ≡ matches_of program texts =
     (c.in-Ok.ensures.matches (ap is_simple app ∙ is_simple_program)).0 ∙ ap (λ (a : App). matches_of a texts) app in
     let clear : fault_of program texts ≡ [] = sym (ap (λ (a : App). fault_of a texts) app) ∙ c.in-Ok.ensures.kinds (ap is_simple_and_free app ∙ is_free_program) in
-    c.options_from.ensures.value
-    ∙ (λ i. options_from (c.get_str.ensures i) (c.get_str-in-Ok.ensures i) (c.get_str-in-Ok-2.ensures i) (c.get_str-in-Ok-3.ensures i))
-    ∙ matches_options (found_of c.in-Ok.matches) texts found c.requires clear
+    c.options_of_matches.ensures ∙ matches_options (found_of c.in-Ok.matches) texts found c.requires clear
 
 pub returns-in-Err : goal.returns-in-Err
 returns-in-Err c =
