@@ -190,7 +190,7 @@ impl LineFeed {
         if self.at == self.bytes.len() {
             return Ok(Taken::More);
         }
-        let line = &self.bytes.as_slice()[self.at..];
+        let line = self.rest();
         let taken = taken_of(*self.bytes.allocator(), line, self.most)?;
         self.bytes.clear();
         self.at = 0;

@@ -1,5 +1,5 @@
-ghost use Rattle.std.specs.Prelude.{◌≡◌, IfOk};
-ghost use Rattle.script_lang.specs.Commands.{IsNamed, command_of, name_of, numbered, top_of, alone};
+ghost use Rattle.std.specs.Prelude.{◌≡◌, IfOk, bytes_eq, drop};
+ghost use Rattle.script_lang.specs.Commands.{IsNamed, alone, by_table, command_of, name_of, numbered, table, top_of};
 ghost use Rattle.script_lang.specs.declared.commands.Command.TheVariants.{Del, Unwatch};
 
 use crate::blanks::{behind_word, first_word};
@@ -70,31 +70,53 @@ pub fn command(alloc: Global, line: &[u8]) -> Result<Command, AllocError>
     if line.is_empty() {
         return Ok(Command::Blank);
     }
-    let word = first_word(line);
-    let argument = behind_word(line);
-    if word == b"add".as_slice() {
+    command_of_word(alloc, first_word(line), behind_word(line))
+}
+
+fn is_word(word: &[u8], name: &[u8]) -> bool
+    ensures { result ≡ bytes_eq word.now name.now }
+{
+    word == name
+}
+
+/// The command that a word makes of its argument.
+fn command_of_word(alloc: Global, word: &[u8], argument: &[u8]) -> Result<Command, AllocError>
+    ensures value { IfOk result (λ command. command ≡ by_table table word.now argument.now) }
+    ensures named { IfOk result IsNamed }
+{
+    if is_word(word, b"add") {
         Ok(name_of(alloc, argument)?.map_or(Command::Wrong, Command::Add))
-    } else if word == b"del".as_slice() {
+    } else if is_word(word, b"del") {
         Ok(del(argument))
-    } else if word == b"find".as_slice() {
+    } else if is_word(word, b"find") {
         Ok(Command::Find(Bytes::copy_of(alloc, argument)?))
-    } else if word == b"count".as_slice() {
+    } else if is_word(word, b"count") {
         Ok(Command::Count(Bytes::copy_of(alloc, argument)?))
-    } else if word == b"top".as_slice() {
+    } else if is_word(word, b"top") {
         top(alloc, argument)
-    } else if word == b"files".as_slice() {
+    } else {
+        command_of_later_word(alloc, word, argument)
+    }
+}
+
+/// The command that a word makes of its argument, where it is none of the first five of the table.
+fn command_of_later_word(alloc: Global, word: &[u8], argument: &[u8]) -> Result<Command, AllocError>
+    ensures value { IfOk result (λ command. command ≡ by_table (drop 5 table) word.now argument.now) }
+    ensures named { IfOk result IsNamed }
+{
+    if is_word(word, b"files") {
         Ok(alone(Command::Files, argument))
-    } else if word == b"merge".as_slice() {
+    } else if is_word(word, b"merge") {
         Ok(alone(Command::Merge, argument))
-    } else if word == b"shards".as_slice() {
+    } else if is_word(word, b"shards") {
         Ok(alone(Command::Shards, argument))
-    } else if word == b"save".as_slice() {
+    } else if is_word(word, b"save") {
         Ok(name_of(alloc, argument)?.map_or(Command::Wrong, Command::Save))
-    } else if word == b"open".as_slice() {
+    } else if is_word(word, b"open") {
         Ok(name_of(alloc, argument)?.map_or(Command::Wrong, Command::Load))
-    } else if word == b"watch".as_slice() {
+    } else if is_word(word, b"watch") {
         Ok(Command::Watch(Bytes::copy_of(alloc, argument)?))
-    } else if word == b"unwatch".as_slice() {
+    } else if is_word(word, b"unwatch") {
         Ok(unwatch(argument))
     } else {
         Ok(Command::Wrong)

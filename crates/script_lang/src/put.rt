@@ -50,6 +50,24 @@ fn put_last(out: &mut Vec<u8>, n: u64) -> Result<(), AllocError>
     put_text(out, b"\n")
 }
 
+/// What begins a line, the number that ends it, and its newline.
+fn put_numbered(out: &mut Vec<u8>, text: &[u8], n: u64) -> Result<(), AllocError>
+    ensures ok { OnOk result (out.new.items ≡ out.old.items ++ (text.now ++ decimal n) ++ 10 ∷ []) }
+    ensures grown { Grows out.old.items out.new.items }
+{
+    put_text(out, text)?;
+    put_last(out, n)
+}
+
+/// Two numbers that end a line, and its newline.
+fn put_pair(out: &mut Vec<u8>, first: u64, last: u64) -> Result<(), AllocError>
+    ensures ok { OnOk result (out.new.items ≡ out.old.items ++ (decimal first ++ codes " " ++ decimal last) ++ 10 ∷ []) }
+    ensures grown { Grows out.old.items out.new.items }
+{
+    put_field(out, first)?;
+    put_last(out, last)
+}
+
 /// Appends the answer to an accepted `add`, as `file 0 0 7`.
 pub fn put_file(out: &mut Vec<u8>, id: u64, first: u64, last: u64) -> Result<(), AllocError>
     ensures ok { OnOk result (out.new.items ≡ out.old.items ++ file_line id first last ++ 10 ∷ []) }
@@ -57,8 +75,7 @@ pub fn put_file(out: &mut Vec<u8>, id: u64, first: u64, last: u64) -> Result<(),
 {
     put_text(out, b"file ")?;
     put_field(out, id)?;
-    put_field(out, first)?;
-    put_last(out, last)
+    put_pair(out, first, last)
 }
 
 /// Appends the answer to an accepted `del`, as `gone 3`.
@@ -66,8 +83,7 @@ pub fn put_gone(out: &mut Vec<u8>, id: u64) -> Result<(), AllocError>
     ensures ok { OnOk result (out.new.items ≡ out.old.items ++ gone_line id ++ 10 ∷ []) }
     ensures grown { Grows out.old.items out.new.items }
 {
-    put_text(out, b"gone ")?;
-    put_last(out, id)
+    put_numbered(out, b"gone ", id)
 }
 
 /// Appends the line of an interval, as `1 2`.
@@ -75,8 +91,7 @@ pub fn put_interval(out: &mut Vec<u8>, interval: Interval) -> Result<(), AllocEr
     ensures ok { OnOk result (out.new.items ≡ out.old.items ++ interval_line interval ++ 10 ∷ []) }
     ensures grown { Grows out.old.items out.new.items }
 {
-    put_field(out, interval.start)?;
-    put_last(out, interval.end)
+    put_pair(out, interval.start, interval.end)
 }
 
 /// Appends the line of a total, as `= 2`.
@@ -84,8 +99,7 @@ pub fn put_total(out: &mut Vec<u8>, total: u64) -> Result<(), AllocError>
     ensures ok { OnOk result (out.new.items ≡ out.old.items ++ total_line total ++ 10 ∷ []) }
     ensures grown { Grows out.old.items out.new.items }
 {
-    put_text(out, b"= ")?;
-    put_last(out, total)
+    put_numbered(out, b"= ", total)
 }
 
 /// Appends the line of a surviving file, as `0 0 7 a`: its id, its first and last address, and its name.
@@ -112,8 +126,7 @@ pub fn put_shards(out: &mut Vec<u8>, count: u64) -> Result<(), AllocError>
     ensures ok { OnOk result (out.new.items ≡ out.old.items ++ shards_line count ++ 10 ∷ []) }
     ensures grown { Grows out.old.items out.new.items }
 {
-    put_text(out, b"shards ")?;
-    put_last(out, count)
+    put_numbered(out, b"shards ", count)
 }
 
 /// Appends the answer to an accepted `save`, as `saved 118`: the length of the image.
@@ -121,8 +134,7 @@ pub fn put_saved(out: &mut Vec<u8>, bytes: u64) -> Result<(), AllocError>
     ensures ok { OnOk result (out.new.items ≡ out.old.items ++ saved_line bytes ++ 10 ∷ []) }
     ensures grown { Grows out.old.items out.new.items }
 {
-    put_text(out, b"saved ")?;
-    put_last(out, bytes)
+    put_numbered(out, b"saved ", bytes)
 }
 
 /// Appends the answer to an accepted `open`, as `opened 1`: the number of files of the image.
@@ -130,8 +142,7 @@ pub fn put_opened(out: &mut Vec<u8>, files: u64) -> Result<(), AllocError>
     ensures ok { OnOk result (out.new.items ≡ out.old.items ++ opened_line files ++ 10 ∷ []) }
     ensures grown { Grows out.old.items out.new.items }
 {
-    put_text(out, b"opened ")?;
-    put_last(out, files)
+    put_numbered(out, b"opened ", files)
 }
 
 /// Appends the answer to an accepted `watch`, as `watch 0`: its number.
@@ -139,8 +150,7 @@ pub fn put_watch(out: &mut Vec<u8>, number: u64) -> Result<(), AllocError>
     ensures ok { OnOk result (out.new.items ≡ out.old.items ++ watch_line number ++ 10 ∷ []) }
     ensures grown { Grows out.old.items out.new.items }
 {
-    put_text(out, b"watch ")?;
-    put_last(out, number)
+    put_numbered(out, b"watch ", number)
 }
 
 /// Appends the answer to an accepted `unwatch`, as `unwatched 0`.
@@ -148,8 +158,7 @@ pub fn put_unwatched(out: &mut Vec<u8>, number: u64) -> Result<(), AllocError>
     ensures ok { OnOk result (out.new.items ≡ out.old.items ++ unwatched_line number ++ 10 ∷ []) }
     ensures grown { Grows out.old.items out.new.items }
 {
-    put_text(out, b"unwatched ")?;
-    put_last(out, number)
+    put_numbered(out, b"unwatched ", number)
 }
 
 /// What an interval begins with that came or that went.
@@ -210,18 +219,12 @@ pub fn put_refusal(out: &mut Vec<u8>, refusal: &Refusal) -> Result<(), AllocErro
         Refusal::Command => put_end(out, b"! command"),
         Refusal::LongLine => put_end(out, b"! long line"),
         Refusal::Query(fault) => put_query_fault(out, fault),
-        Refusal::NoFile(id) => {
-            put_text(out, b"! no file ")?;
-            put_last(out, *id)
-        }
+        Refusal::NoFile(id) => put_numbered(out, b"! no file ", *id),
         Refusal::TooLong => put_end(out, b"! file too long"),
         Refusal::NoAddresses => put_end(out, b"! no addresses"),
         Refusal::NotEmpty => put_end(out, b"! not empty"),
         Refusal::NotImage => put_end(out, b"! not an image"),
-        Refusal::NoWatch(number) => {
-            put_text(out, b"! no watch ")?;
-            put_last(out, *number)
-        }
+        Refusal::NoWatch(number) => put_numbered(out, b"! no watch ", *number),
         Refusal::TooManyWatches => put_end(out, b"! too many watches"),
     }
 }

@@ -1,4 +1,4 @@
-use Rattle.std.proofs.Common.{◌≡◌, ◌+◌, ◌<◌, ◌-◌, false, length, drop, arith, length-drop}
+use Rattle.std.proofs.Common.{◌≡◌, ◌+◌, ◌<◌, ◌-◌, false, length, take, drop, arith, length-append, length-take, length-drop}
 use Rattle.script_lang.specs.Feeds.{has_newline}
 use Rattle.script_lang.proofs.FeedLemmas.{lines-kept, lines-begun, end-kept, has_newline-behind, has_newline-nowhere, is_newline}
 use Rattle.script_lang.proofs.feed.kept_len.Goals as goal
@@ -19,3 +19,10 @@ returns-in-Some-clause-end c =
 pub returns-in-None-clause-lines : goal.returns-in-None-clause-lines
 returns-in-None-clause-lines c later =
     lines-begun c.args.most c.args.held.now c.args.piece.now later c.min-in-None.result c.requires.begun (has_newline-nowhere c.args.piece.now c.in-None.ensures) (omega arith) (λ before. omega arith)
+
+pub returns-in-None-clause-end : goal.returns-in-None-clause-end
+returns-in-None-clause-end c k none =
+    let held = c.args.held.now in
+    let piece = c.args.piece.now in
+    let kept = c.min-in-None.result in
+    omega (arith, length-append held (take kept piece), length-take kept piece)

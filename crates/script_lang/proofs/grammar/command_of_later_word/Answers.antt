@@ -1,0 +1,15 @@
+use Rattle.std.proofs.Common.{rules, ◌≡◌}
+use Rattle.script_lang.specs.Commands.{named}
+use Rattle.script_lang.specs.declared.commands.Command.TheVariants.{Save, Load}
+use Rattle.script_lang.proofs.CommandLemmas.{named_carries}
+use Rattle.script_lang.proofs.grammar.command_of_later_word.Goals as goal
+
+pub returns-in_ok-name_of-clause-named : goal.returns-in_ok-name_of-clause-named
+returns-in_ok-name_of-clause-named c =
+    let is : c.map_or.result ≡ named Save c.args.argument.now = search rules in
+    rw is (named_carries Save (λ name is_one. is_one) c.args.argument.now)
+
+pub returns-in_ok-name_of-2-clause-named : goal.returns-in_ok-name_of-2-clause-named
+returns-in_ok-name_of-2-clause-named c =
+    let is : c.map_or-then-is_word-5.result ≡ named Load c.args.argument.now = search rules in
+    rw is (named_carries Load (λ name is_one. is_one) c.args.argument.now)

@@ -1,0 +1,10 @@
+use Rattle.std.proofs.Common.{codes}
+use Rattle.std.proofs.lemmas.Result.{on_ok_weaker}
+use Rattle.script_lang.proofs.PutLemmas.{change_text}
+use Rattle.script_lang.proofs.put.put_change.Goals as goal
+
+pub returns-clause-ok : goal.returns-clause-ok
+returns-clause-ok c =
+    on_ok_weaker c.put_interval.result
+    (change_text (codes " ") _ _ _ _ _ _ _ _ c.change_mark.ensures c.in_ok-put_text.ensures.ok c.in_ok-put_field.ensures.ok)
+    c.put_interval.ensures.ok
