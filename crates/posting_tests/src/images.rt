@@ -8,6 +8,7 @@ ghost use Rattle.address_space.specs.Runs.{range_of};
 ghost use Rattle.live_version.specs.Changes.{HasTokens};
 ghost use Rattle.image_file.specs.Images.{CanBeSaved};
 
+use crate::checks::same;
 use address_space::{FileId, FileRecord, is_name};
 use gcl_model::{ADDRESS_END, Bytes, TokenList};
 use image_file::image;
@@ -15,6 +16,7 @@ use index_shard::Shard;
 use live_version::Version;
 use shard_build::build;
 use std::alloc::{AllocError, Global};
+use std::process::Abort;
 use std::test::Fail;
 use word_tokens::tokens;
 
@@ -119,31 +121,48 @@ fn deleted(version: &Version, id: u64) -> Result<Option<Version>, AllocError>
     Ok(Some(version.without_file(FileId(id))?))
 }
 
-#[test]
-fn a_collection_without_files_has_48_bytes(rt: HostRuntime) -> Result<(), Fail> {
-    let alloc = rt.alloc();
-    let version = start(alloc, 5);
-    assert_eq!(rt; image(alloc, &version)?.as_slice(), EMPTY);
+/// The version is saved as these bytes.
+fn is_image<R: Abort>(
+    rt: &R,
+    alloc: Global,
+    version: &Version,
+    want: &[u8],
+) -> Result<(), AllocError>
+    requires { CanBeSaved version.now }
+{
+    same(rt, &"image", &image(alloc, version)?.as_slice(), &want);
     Ok(())
 }
 
 #[test]
-fn an_image_has_the_files_that_survive(rt: HostRuntime) -> Result<(), Fail> {
-    let alloc = rt.alloc();
+fn a_collection_without_files_has_48_bytes(rt: HostRuntime) -> Result<(), Fail> {
+    is_image(&rt, rt.alloc(), &start(rt.alloc(), 5), EMPTY)?;
+    Ok(())
+}
+
+/// The version of the file `a` alone.
+fn with_a<R: Abort>(rt: &R, alloc: Global) -> Result<Version, AllocError>
+    ensures { IfOk result CanBeSaved }
+{
     let version = start(alloc, 0);
-    let Some(one) = added(alloc, &version, b"a", b"to be or not to be")? else {
-        assert!(rt; false, "a is not added");
-        return Ok(());
-    };
-    assert_eq!(rt; image(alloc, &one)?.as_slice(), OF_A);
-    let Some(two) = added(alloc, &one, b"b", b"")? else {
-        assert!(rt; false, "b is not added");
-        return Ok(());
-    };
-    let Some(left) = deleted(&two, 0)? else {
-        assert!(rt; false, "a is not deleted");
-        return Ok(());
-    };
-    assert_eq!(rt; image(alloc, &left)?.as_slice(), OF_B);
+    let more = added(alloc, &version, b"a", b"to be or not to be")?;
+    Ok(more.expect(rt, "a may be added"))
+}
+
+/// The version with the file `b`, which is empty, and without its first file.
+fn with_b_for_a<R: Abort>(rt: &R, alloc: Global, version: &Version) -> Result<Version, AllocError>
+    requires { CanBeSaved version.now }
+    ensures { IfOk result CanBeSaved }
+{
+    let both = added(alloc, version, b"b", b"")?.expect(rt, "b may be added");
+    Ok(deleted(&both, 0)?.expect(rt, "a survives"))
+}
+
+#[test]
+fn an_image_has_the_files_that_survive(rt: HostRuntime) -> Result<(), Fail> {
+    let one = with_a(&rt, rt.alloc())?;
+    is_image(&rt, rt.alloc(), &one, OF_A)?;
+    let left = with_b_for_a(&rt, rt.alloc(), &one)?;
+    is_image(&rt, rt.alloc(), &left, OF_B)?;
     Ok(())
 }

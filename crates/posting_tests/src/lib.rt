@@ -3,9 +3,12 @@
 //!
 //! They stand apart from those crates, since a crate that has tests is proved twice. `packed` is of `posting_code`, `nearest` of
 //! `posting_access`, `shards` of `index_shard`, `masks` of `delete_mask`, `merged` of `shard_merge`, `images` of `image_file` and
-//! `outsides` of `outside`. `fixtures` is what several begin with. The number 300 is packed as the bytes `ac 02`.
+//! `outsides` of `outside`. `checks` is what all compare by, and
+//! `fixtures` what several begin with. The number 300 is packed as the bytes `ac 02`.
 #![tactic(auto)]
 
+#[cfg(test)]
+mod checks;
 pub mod fixtures;
 #[cfg(test)]
 mod images;

@@ -1,5 +1,6 @@
 ghost use Rattle.std.specs.Prelude.{◌≡◌, ◌<◌};
 
+use crate::checks::same;
 use Step::{Add, Del, Merge};
 use address_space::{FileId, FileRecord};
 use gcl_model::{Bytes, Leaves, Ledger, Question, Steps, uncounted};
@@ -7,6 +8,7 @@ use live_version::Version;
 use shard_build::build;
 use shard_merge::merge;
 use std::alloc::{AllocError, Global};
+use std::process::Abort;
 use std::test::Fail;
 use word_tokens::tokens;
 
@@ -168,21 +170,26 @@ fn merged(
     Ok(Some(version.with_slot(at, count, Some(slot))?))
 }
 
-/// The version after the steps.
-fn played(alloc: Global, steps: &[Step<'_>]) -> Result<Option<Version>, AllocError> {
+/// The version after a step.
+fn stepped(
+    alloc: Global,
+    version: &Version,
+    step: Step<'_>,
+) -> Result<Option<Version>, AllocError> {
+    match step {
+        Step::Add(text) => with_text(alloc, version, text),
+        Step::Del(id) => without(version, id),
+        Step::Merge(at, count) => merged(alloc, version, at, count),
+    }
+}
+
+/// The version after the steps, each of which may be made.
+fn played<R: Abort>(rt: &R, alloc: Global, steps: &[Step<'_>]) -> Result<Version, AllocError> {
     let mut version = Version::empty(alloc, 0);
     for step in steps {
-        let next = match *step {
-            Step::Add(text) => with_text(alloc, &version, text)?,
-            Step::Del(id) => without(&version, id)?,
-            Step::Merge(at, count) => merged(alloc, &version, at, count)?,
-        };
-        match next {
-            Some(next) => version = next,
-            None => return Ok(None),
-        }
+        version = stepped(alloc, &version, *step)?.expect(rt, "a step that may be made");
     }
-    Ok(Some(version))
+    Ok(version)
 }
 
 /// The words of the files that survive the steps.
@@ -203,6 +210,20 @@ fn plain_words<'a>(alloc: Global, steps: &[Step<'a>]) -> Result<Vec<PlainWord<'a
     Ok(words)
 }
 
+fn put_word<'a>(
+    words: &mut Vec<PlainWord<'a>>,
+    file: u64,
+    address: u64,
+    token: &'a str,
+) -> Result<u64, AllocError> {
+    words.push(PlainWord {
+        file,
+        address,
+        token,
+    })?;
+    Ok(address.wrapping_add(1))
+}
+
 /// Puts the words of a file after the others, and gives the next address.
 fn put_words<'a>(
     words: &mut Vec<PlainWord<'a>>,
@@ -210,27 +231,11 @@ fn put_words<'a>(
     base: u64,
     text: &'a str,
 ) -> Result<u64, AllocError> {
-    let mut address = base;
-    words.push(PlainWord {
-        file,
-        address,
-        token: "<file!>",
-    })?;
+    let mut address = put_word(words, file, base, "<file!>")?;
     for token in text.split_whitespace() {
-        address = address.wrapping_add(1);
-        words.push(PlainWord {
-            file,
-            address,
-            token,
-        })?;
+        address = put_word(words, file, address, token)?;
     }
-    address = address.wrapping_add(1);
-    words.push(PlainWord {
-        file,
-        address,
-        token: "</file!>",
-    })?;
-    Ok(address.wrapping_add(1))
+    put_word(words, file, address, "</file!>")
 }
 
 fn plain_next(words: &[PlainWord<'_>], term: &str, k: u64) -> Option<u64> {
@@ -293,6 +298,22 @@ fn difference(version: &Version, words: &[PlainWord<'_>]) -> Option<(&'static st
     None
 }
 
+/// Whether a look-up differs from the plain one after the merge of this run of slots, or their number does.
+fn differs_after(
+    alloc: Global,
+    version: &Version,
+    words: &[PlainWord<'_>],
+    at: usize,
+    count: usize,
+) -> Result<bool, AllocError> {
+    let Some(after) = merged(alloc, version, at, count)? else {
+        return Ok(true);
+    };
+    let left = after.slot_count().wrapping_add(count);
+    let is_shorter = left == version.slot_count().wrapping_add(1);
+    Ok(!is_shorter || difference(&after, words).is_some())
+}
+
 /// The first run of neighbouring slots after whose merge a look-up differs from the plain one.
 fn differing_run(
     alloc: Global,
@@ -301,11 +322,7 @@ fn differing_run(
 ) -> Result<Option<(usize, usize)>, AllocError> {
     for at in 0..version.slot_count() {
         for count in 1..=version.slot_count() - at {
-            let Some(after) = merged(alloc, version, at, count)? else {
-                return Ok(Some((at, count)));
-            };
-            let differs = difference(&after, words).is_some();
-            if differs || after.slot_count() + count != version.slot_count() + 1 {
+            if differs_after(alloc, version, words, at, count)? {
                 return Ok(Some((at, count)));
             }
         }
@@ -313,50 +330,50 @@ fn differing_run(
     Ok(None)
 }
 
-#[test]
-fn merging_any_run_of_slots_changes_no_answer(rt: HostRuntime) -> Result<(), Fail> {
-    let alloc = rt.alloc();
-    for (i, script) in SCRIPTS.into_iter().enumerate() {
-        let words = plain_words(alloc, script)?;
-        match played(alloc, script)? {
-            Some(version) => {
-                assert_eq!(rt; difference(&version, &words), None, "after script {i}");
-                assert_eq!(rt;
-                    differing_run(alloc, &version, &words)?,
-                    None,
-                    "in script {i}"
-                );
-            }
-            None => assert!(rt; false, "script {i} has a step that may not be made"),
-        }
-    }
+/// After the steps look-ups are the plain ones, and stay so whatever run of slots is merged.
+fn keeps_answers<R: Abort>(
+    rt: &R,
+    alloc: Global,
+    script: usize,
+    steps: &[Step<'_>],
+) -> Result<(), AllocError> {
+    let version = played(rt, alloc, steps)?;
+    let words = plain_words(alloc, steps)?;
+    same(rt, &script, &difference(&version, &words), &None);
+    let run = differing_run(alloc, &version, &words)?;
+    same(rt, &script, &run, &None);
     Ok(())
 }
 
 #[test]
-fn words_keep_their_addresses_beside_a_deleted_file(rt: HostRuntime) -> Result<(), Fail> {
-    let alloc = rt.alloc();
-    let steps = [Add("to be or not to be"), Add(""), Del(0), Merge(0, 2)];
-    let Some(version) = played(alloc, &steps)? else {
-        assert!(rt; false, "a step may not be made");
-        return Ok(());
-    };
-    assert_eq!(rt; version.slot_count(), 1);
-    if version.slot_count() == 1 {
-        let slot = version.slot(0);
-        assert_eq!(rt; (slot.range().first, slot.range().last), (0, 9));
-        assert_eq!(rt; slot.mask().range_count(), 0);
-        assert_eq!(rt; slot.shard().term_count(), 2);
-        assert_eq!(rt; slot.records().len(), 1);
+fn merging_any_run_of_slots_changes_no_answer(rt: HostRuntime) -> Result<(), Fail> {
+    for (i, steps) in SCRIPTS.iter().enumerate() {
+        keeps_answers(&rt, rt.alloc(), i, steps)?;
     }
-    let words = plain_words(alloc, &steps)?;
-    assert_eq!(rt; difference(&version, &words), None);
-    assert_eq!(rt;
-        (
-            plain_next(&words, "<file!>", 0),
-            plain_next(&words, "</file!>", 0)
-        ),
-        (Some(8), Some(9))
-    );
+    Ok(())
+}
+
+/// The version has one slot, of one file in ten addresses, two terms and nothing dead.
+fn has_one_slot<R: Abort>(rt: &R, version: &Version) {
+    same(rt, &"slots", &version.slot_count(), &1);
+    assert!(rt; 0 < version.slot_count());
+    let slot = version.slot(0);
+    let range = slot.range();
+    same(rt, &"range", &(range.first, range.last), &(0, 9));
+    let counts = (slot.mask().range_count(), slot.shard().term_count());
+    same(rt, &"dead ranges and terms", &counts, &(0, 2));
+    same(rt, &"files", &slot.records().len(), &1);
+}
+
+#[test]
+fn words_keep_their_addresses_beside_a_deleted_file(rt: HostRuntime) -> Result<(), Fail> {
+    let steps = [Add("to be or not to be"), Add(""), Del(0), Merge(0, 2)];
+    let version = played(&rt, rt.alloc(), &steps)?;
+    has_one_slot(&rt, &version);
+    let words = plain_words(rt.alloc(), &steps)?;
+    same(&rt, &"words", &difference(&version, &words), &None);
+    let start = plain_next(&words, "<file!>", 0);
+    let end = plain_next(&words, "</file!>", 0);
+    same(&rt, &"boundary", &(start, end), &(Some(8), Some(9)));
     Ok(())
 }

@@ -1,11 +1,13 @@
+use crate::checks::{holds, same};
 use crate::fixtures::addresses;
 use gcl_model::{Ledger, Question, Steps, counted};
 use posting_access::{at_or_after, at_or_before, rank};
 use posting_code::{ADDRESS_END, Postings, encode};
 use std::alloc::{AllocError, Global};
+use std::process::Abort;
 
 /// One of the two look-ups.
-#[derive(Clone, Copy, Debug)]
+#[derive(Clone, Copy)]
 enum Side {
     AtOrAfter,
     AtOrBefore,
@@ -76,108 +78,162 @@ fn look_up(list: &Postings<'_>, k: u64) -> ((Option<u64>, Option<u64>), (u64, u6
     ((least, greatest), (forward, backward))
 }
 
+/// The least member from `k` on and the greatest up to `k`, by a look at each.
+fn plain_look_up(members: &[u64], k: u64) -> (Option<u64>, Option<u64>) {
+    (
+        members.iter().copied().find(|p| k <= *p),
+        members.iter().rev().copied().find(|p| *p <= k),
+    )
+}
+
+/// An address, and those beside it.
+fn around(address: u64) -> [u64; 3] {
+    [address.wrapping_sub(1), address, address.wrapping_add(1)]
+}
+
+/// Look-ups beside each of these members and at it are those of a look at each, with no more probes than digits.
+fn are_found<R: Abort>(
+    rt: &R,
+    list: &Postings<'_>,
+    members: &[u64],
+    (count, gap, digits): (u16, u64, u64),
+) {
+    for member in members {
+        for k in around(*member) {
+            let (found, probes) = look_up(list, k);
+            same(rt, &(k, count, gap), &found, &plain_look_up(members, k));
+            let few = probes.0 <= digits && probes.1 <= digits;
+            holds(rt, &(k, count, gap), few);
+        }
+    }
+}
+
+/// The same of a list of some addresses.
+fn are_found_in<R: Abort>(rt: &R, alloc: Global, case: (u16, u64, u64)) -> Result<(), AllocError> {
+    let members = addresses(alloc, 3, case.0, case.1)?;
+    let list = encode(alloc, &members)?;
+    are_found(rt, &list.as_postings(), &members, case);
+    Ok(())
+}
+
+// counts, and how many binary digits they have
+const COUNTS: [(u16, u64); 8] = [
+    (0, 0),
+    (1, 1),
+    (63, 6),
+    (64, 7),
+    (65, 7),
+    (128, 8),
+    (129, 8),
+    (1000, 10),
+];
+
 #[test]
 fn look_ups_are_those_of_a_look_at_each_address_within_the_digits_of_the_length(
     rt: HostRuntime,
 ) -> Result<(), AllocError> {
-    // counts, and how many binary digits they have
-    let counts = [
-        (0, 0),
-        (1, 1),
-        (63, 6),
-        (64, 7),
-        (65, 7),
-        (128, 8),
-        (129, 8),
-        (1000, 10),
-    ];
-    for (count, digits) in counts {
+    for (count, digits) in &COUNTS {
         for gap in [1, 127, 128, 1 << 14, 1 << 46, 1 << 55] {
-            let addresses = addresses(rt.alloc(), 3, count, gap)?;
-            let list = encode(rt.alloc(), &addresses)?;
-            let list = list.as_postings();
-            for member in &addresses {
-                for k in [member.wrapping_sub(1), *member, member.wrapping_add(1)] {
-                    let (found, probes) = look_up(&list, k);
-                    let least = addresses.iter().copied().find(|p| k <= *p);
-                    let greatest = addresses.iter().rev().copied().find(|p| *p <= k);
-                    assert_eq!(rt; found, (least, greatest), "at {k}, {count} by {gap}");
-                    assert!(rt;
-                        probes.0 <= digits && probes.1 <= digits,
-                        "at {k}, {count} by {gap}"
-                    );
-                }
-            }
+            are_found_in(&rt, rt.alloc(), (*count, gap, *digits))?;
         }
     }
     Ok(())
 }
+
+/// So many members are below `k`, which is found with no more probes than digits.
+fn has_rank<R: Abort>(
+    rt: &R,
+    list: &Postings<'_>,
+    k: u64,
+    (count, gap, digits): (u16, u64, u64),
+    want: usize,
+) {
+    let (below, probes) = counted(&Rank { list, k });
+    same(rt, &(k, count, gap), &below, &want);
+    holds(rt, &(k, count, gap), probes <= digits);
+}
+
+/// The ranks of addresses beside each of these members, at it, and at both ends, are those of a look at each.
+fn are_ranked<R: Abort>(rt: &R, list: &Postings<'_>, members: &[u64], case: (u16, u64, u64)) {
+    for member in members {
+        for k in around(*member) {
+            let want = members.iter().filter(|p| **p < k).count();
+            has_rank(rt, list, k, case, want);
+        }
+    }
+    has_rank(rt, list, 0, case, 0);
+    has_rank(rt, list, u64::MAX, case, members.len());
+}
+
+/// The same of a list of some addresses.
+fn are_ranked_in<R: Abort>(rt: &R, alloc: Global, case: (u16, u64, u64)) -> Result<(), AllocError> {
+    let members = addresses(alloc, 3, case.0, case.1)?;
+    let list = encode(alloc, &members)?;
+    are_ranked(rt, &list.as_postings(), &members, case);
+    Ok(())
+}
+
+// counts, and how many binary digits their blocks have
+const BLOCK_COUNTS: [(u16, u64); 7] = [
+    (0, 0),
+    (1, 1),
+    (63, 1),
+    (64, 1),
+    (65, 2),
+    (129, 2),
+    (1000, 5),
+];
 
 #[test]
 fn a_rank_is_the_number_of_addresses_below_within_the_digits_of_the_length(
     rt: HostRuntime,
 ) -> Result<(), AllocError> {
-    // counts, and how many binary digits their blocks have
-    for (count, digits) in [
-        (0, 0),
-        (1, 1),
-        (63, 1),
-        (64, 1),
-        (65, 2),
-        (129, 2),
-        (1000, 5),
-    ] {
+    for (count, digits) in &BLOCK_COUNTS {
         for gap in [1, 1 << 14, 1 << 46] {
-            let addresses = addresses(rt.alloc(), 3, count, gap)?;
-            let list = encode(rt.alloc(), &addresses)?;
-            let list = list.as_postings();
-            for member in &addresses {
-                for k in [member.wrapping_sub(1), *member, member.wrapping_add(1)] {
-                    let (below, probes) = counted(&Rank { list: &list, k });
-                    let want = addresses.iter().filter(|p| **p < k).count();
-                    assert_eq!(rt; below, want, "at {k}, {count} by {gap}");
-                    assert!(rt; probes <= digits, "at {k}, {count} by {gap}");
-                }
-            }
-            for (k, want) in [(0, 0), (u64::MAX, addresses.len())] {
-                let (below, _) = counted(&Rank { list: &list, k });
-                assert_eq!(rt; below, want, "at {k}, {count} by {gap}");
-            }
+            are_ranked_in(&rt, rt.alloc(), (*count, gap, *digits))?;
         }
     }
     Ok(())
 }
 
+const FAR: [(u64, (Option<u64>, Option<u64>)); 4] = [
+    (0, (Some(1 << 55), None)),
+    ((1 << 55) + 1, (Some(ADDRESS_END - 1), Some(1 << 55))),
+    (ADDRESS_END, (None, Some(ADDRESS_END - 1))),
+    (u64::MAX, (None, Some(ADDRESS_END - 1))),
+];
+
 #[test]
 fn two_addresses_far_apart_are_found(rt: HostRuntime) -> Result<(), AllocError> {
     let list = encode(rt.alloc(), &[1 << 55, ADDRESS_END - 1])?;
     let list = list.as_postings();
-    let cases = [
-        (0, Some(1 << 55), None),
-        ((1 << 55) + 1, Some(ADDRESS_END - 1), Some(1 << 55)),
-        (ADDRESS_END, None, Some(ADDRESS_END - 1)),
-        (u64::MAX, None, Some(ADDRESS_END - 1)),
-    ];
-    for (k, least, greatest) in cases {
-        assert_eq!(rt; look_up(&list, k).0, (least, greatest), "at {k}");
+    for (k, want) in &FAR {
+        same(&rt, k, &look_up(&list, *k).0, want);
     }
+    Ok(())
+}
+
+/// A look-up on either side takes so many probes.
+fn takes<R: Abort>(rt: &R, list: &Postings<'_>, k: u64, probes: (u64, u64)) {
+    same(rt, &k, &look_up(list, k).1, &probes);
+}
+
+/// Two blocks: behind the first one and before the second, the first address of the second is read once more.
+fn is_between_blocks<R: Abort>(rt: &R, alloc: Global) -> Result<(), AllocError> {
+    let two = addresses(alloc, 3, 65, 10)?;
+    let two = encode(alloc, &two)?;
+    let found = look_up(&two.as_postings(), 640);
+    same(rt, &640, &found, &((Some(643), Some(633)), (3, 2)));
     Ok(())
 }
 
 #[test]
 fn each_reading_of_a_first_address_is_a_probe(rt: HostRuntime) -> Result<(), AllocError> {
     let few = encode(rt.alloc(), &[2, 5, 9])?;
-    let few = few.as_postings();
     for k in [0, 3, 9, 10] {
-        assert_eq!(rt; look_up(&few, k).1, (1, 1), "at {k}");
+        takes(&rt, &few.as_postings(), k, (1, 1));
     }
     let none = encode(rt.alloc(), &[])?;
-    let none = none.as_postings();
-    assert_eq!(rt; look_up(&none, 3).1, (0, 0));
-    // two blocks: behind the first one and before the second, the first address of the second is read once more
-    let two = addresses(rt.alloc(), 3, 65, 10)?;
-    let two = encode(rt.alloc(), &two)?;
-    let two = two.as_postings();
-    assert_eq!(rt; look_up(&two, 640), ((Some(643), Some(633)), (3, 2)));
-    Ok(())
+    takes(&rt, &none.as_postings(), 3, (0, 0));
+    is_between_blocks(&rt, rt.alloc())
 }

@@ -1,9 +1,11 @@
+use crate::checks::{holds, same};
 use gcl_model::Bytes;
 use outside::{
     FileError, Files, Gate, Loaded, MemFiles, MemSink, MemSource, Sink, Source, SureFiles,
     SureSink, SureSource, TurnGate,
 };
 use std::alloc::{AllocError, Global};
+use std::process::Abort;
 use std::test::Fail;
 
 /// The files a and b, and a second a that does not count.
@@ -17,134 +19,144 @@ fn held(alloc: Global) -> Result<Vec<(Bytes, Bytes)>, AllocError> {
     Ok(held)
 }
 
-/// The counts of five reads of at most three bytes, None where one failed.
-fn read_five<S: Source>(alloc: Global, source: &mut S) -> Result<Vec<Option<usize>>, AllocError> {
-    let mut counts = Vec::new(alloc);
+/// The counts of five reads of at most three bytes are these, None where one fails.
+fn reads<R: Abort, S: Source>(rt: &R, source: &mut S, want: [Option<usize>; 5]) {
+    let mut counts = [None; 5];
     let mut into = [0u8; 3];
-    for _ in 0..5u8 {
-        counts.push(source.read(&mut into).ok())?;
+    for count in &mut counts {
+        *count = source.read(&mut into).ok();
     }
-    Ok(counts)
+    same(rt, &"five reads", &counts, &want);
 }
 
-/// The counts of four writes, None where one failed.
-fn write_four<K: Sink>(alloc: Global, sink: &mut K) -> Result<Vec<Option<usize>>, AllocError> {
-    let mut counts = Vec::new(alloc);
-    let pieces: [&[u8]; 4] = [b"to", b" ", b"", b"be"];
-    for piece in pieces {
-        counts.push(sink.write(piece).ok())?;
+const PIECES: [&[u8]; 4] = [b"to", b" ", b"", b"be"];
+
+/// The counts of four writes are these, None where one fails.
+fn writes<R: Abort, K: Sink>(rt: &R, sink: &mut K, want: [Option<usize>; 4]) {
+    let mut counts = [None; 4];
+    for (count, piece) in counts.iter_mut().zip(&PIECES) {
+        *count = sink.write(piece).ok();
     }
-    Ok(counts)
+    same(rt, &"four writes", &counts, &want);
 }
 
-/// What a load of at most four bytes answers, with what it put into the buffer.
-fn loaded<F: Files>(
-    alloc: Global,
-    files: &mut F,
-    name: &[u8],
-) -> (Result<Loaded, FileError>, Vec<u8>) {
-    let mut out = Vec::new(alloc);
-    let answer = files.load(name, 4, &mut out);
-    (answer, out)
+/// A source and a sink that never fail.
+fn are_sure<R: Abort>(rt: &R, alloc: Global) -> Result<(), AllocError> {
+    let mut source = SureSource::new(alloc, Bytes::copy_of(alloc, b"to be")?);
+    reads(
+        rt,
+        &mut source,
+        [Some(3), Some(2), Some(0), Some(0), Some(0)],
+    );
+    let mut sink = SureSink::new(alloc);
+    writes(rt, &mut sink, [Some(2), Some(1), Some(0), Some(2)]);
+    same(rt, &"sure", &sink.written(), &b"to be".as_slice());
+    Ok(())
+}
+
+/// A source that fails at its second call and at its fourth.
+fn a_source_fails<R: Abort>(rt: &R, alloc: Global) -> Result<(), AllocError> {
+    let bytes = Bytes::copy_of(alloc, b"to be")?;
+    let mut source = MemSource::new(alloc, bytes, [2u64, 4].to_vec(alloc)?);
+    reads(rt, &mut source, [Some(3), None, Some(2), None, Some(0)]);
+    Ok(())
+}
+
+/// A sink that fails at its first call and at its third.
+fn a_sink_fails<R: Abort>(rt: &R, alloc: Global) -> Result<(), AllocError> {
+    let mut sink = MemSink::new(alloc, [1u64, 3].to_vec(alloc)?);
+    writes(rt, &mut sink, [None, Some(1), None, Some(2)]);
+    same(rt, &"failing", &sink.written(), &b" be".as_slice());
+    Ok(())
 }
 
 #[test]
 fn a_source_and_a_sink_fail_at_their_calls_alone(rt: HostRuntime) -> Result<(), Fail> {
-    let alloc = rt.alloc();
-    let sure = read_five(
-        alloc,
-        &mut SureSource::new(alloc, Bytes::copy_of(alloc, b"to be")?),
-    )?;
-    assert_eq!(rt;
-        sure.as_slice(),
-        [Some(3), Some(2), Some(0), Some(0), Some(0)].as_slice()
-    );
-    let mut source = MemSource::new(
-        alloc,
-        Bytes::copy_of(alloc, b"to be")?,
-        [2u64, 4].to_vec(alloc)?,
-    );
-    let counts = read_five(alloc, &mut source)?;
-    assert_eq!(rt;
-        counts.as_slice(),
-        [Some(3), None, Some(2), None, Some(0)].as_slice()
-    );
-    let mut sure = SureSink::new(alloc);
-    let counts = write_four(alloc, &mut sure)?;
-    assert_eq!(rt;
-        counts.as_slice(),
-        [Some(2), Some(1), Some(0), Some(2)].as_slice()
-    );
-    assert_eq!(rt; sure.written(), b"to be".as_slice());
-    let mut sink = MemSink::new(alloc, [1u64, 3].to_vec(alloc)?);
-    let counts = write_four(alloc, &mut sink)?;
-    assert_eq!(rt;
-        counts.as_slice(),
-        [None, Some(1), None, Some(2)].as_slice()
-    );
-    assert_eq!(rt; sink.written(), b" be".as_slice());
+    are_sure(&rt, rt.alloc())?;
+    a_source_fails(&rt, rt.alloc())?;
+    a_sink_fails(&rt, rt.alloc())?;
     Ok(())
 }
+
+/// What a call answers: a load of at most four bytes, with what it puts into the buffer where it is no fault, or a keep.
+#[derive(Clone, Copy)]
+enum Call<'a> {
+    Load(&'a [u8], Result<(Loaded, &'a [u8]), FileError>),
+    Keep(&'a [u8], &'a [u8], Result<(), FileError>),
+}
+
+/// A load answers so.
+fn loads<R: Abort, F: Files>(
+    rt: &R,
+    alloc: Global,
+    files: &mut F,
+    name: &[u8],
+    want: Result<(Loaded, &[u8]), FileError>,
+) {
+    let mut out = Vec::new(alloc);
+    let answer = match files.load(name, 4, &mut out) {
+        Ok(loaded) => Ok((loaded, out.as_slice())),
+        Err(fault) => Err(fault),
+    };
+    same(rt, &name, &answer, &want);
+}
+
+/// Each call answers so.
+fn answers<R: Abort, F: Files>(rt: &R, alloc: Global, files: &mut F, calls: &[Call<'_>]) {
+    for call in calls {
+        match *call {
+            Call::Load(name, want) => loads(rt, alloc, files, name, want),
+            Call::Keep(name, bytes, want) => same(rt, &name, &files.keep(name, bytes), &want),
+        }
+    }
+}
+
+// The third call and the fourth fail, and so does the load of a name that is not held. The files go on.
+const COUNTED: [Call<'static>; 8] = [
+    Call::Keep(b"c", b"or", Ok(())),
+    Call::Load(b"c", Ok((Loaded::Whole, b"or"))),
+    Call::Keep(b"a", b"or", Err(FileError::Failed)),
+    Call::Load(b"b", Err(FileError::Failed)),
+    Call::Load(b"a", Ok((Loaded::Long, b"to be"))),
+    Call::Keep(b"a", b"", Ok(())),
+    Call::Load(b"a", Ok((Loaded::Whole, b""))),
+    Call::Load(b"d", Err(FileError::Failed)),
+];
 
 #[test]
 fn loads_and_keeps_are_counted_together(rt: HostRuntime) -> Result<(), Fail> {
     let alloc = rt.alloc();
     let mut files = MemFiles::new(alloc, held(alloc)?, [3u64, 4].to_vec(alloc)?);
-    assert_eq!(rt; files.keep(b"c", b"or"), Ok(()));
-    let (answer, out) = loaded(alloc, &mut files, b"c");
-    assert_eq!(rt;
-        (answer, out.as_slice()),
-        (Ok(Loaded::Whole), b"or".as_slice())
-    );
-    // the third call and the fourth
-    assert_eq!(rt; files.keep(b"a", b"or"), Err(FileError::Failed));
-    let (answer, _) = loaded(alloc, &mut files, b"b");
-    assert_eq!(rt; answer, Err(FileError::Failed));
-    let (answer, out) = loaded(alloc, &mut files, b"a");
-    assert_eq!(rt;
-        (answer, out.as_slice()),
-        (Ok(Loaded::Long), b"to be".as_slice())
-    );
-    assert_eq!(rt; files.keep(b"a", b""), Ok(()));
-    let (answer, out) = loaded(alloc, &mut files, b"a");
-    assert_eq!(rt;
-        (answer, out.as_slice()),
-        (Ok(Loaded::Whole), b"".as_slice())
-    );
-    // a name that is not held fails, and the files go on
-    let (answer, _) = loaded(alloc, &mut files, b"d");
-    assert_eq!(rt; answer, Err(FileError::Failed));
-    assert_eq!(rt; files.content(b"d"), None);
-    assert_eq!(rt; files.content(b"c"), Some(b"or".as_slice()));
+    answers(&rt, alloc, &mut files, &COUNTED);
+    same(&rt, &"d", &files.content(b"d"), &None);
+    same(&rt, &"c", &files.content(b"c"), &Some(b"or".as_slice()));
     Ok(())
 }
+
+const UNHELD: [Call<'static>; 1] = [Call::Load(b"d", Ok((Loaded::Whole, b"")))];
+
+const KEPT: [Call<'static>; 2] = [
+    Call::Keep(b"d", b"or not", Ok(())),
+    Call::Load(b"d", Ok((Loaded::Long, b"or no"))),
+];
 
 #[test]
 fn a_sure_name_that_is_not_held_has_no_bytes(rt: HostRuntime) -> Result<(), Fail> {
     let alloc = rt.alloc();
     let mut files = SureFiles::new(alloc, held(alloc)?);
-    let (answer, out) = loaded(alloc, &mut files, b"d");
-    assert_eq!(rt;
-        (answer, out.as_slice()),
-        (Ok(Loaded::Whole), b"".as_slice())
-    );
-    assert_eq!(rt; files.content(b"d"), None);
-    assert_eq!(rt; files.keep(b"d", b"or not"), Ok(()));
-    let (answer, out) = loaded(alloc, &mut files, b"d");
-    assert_eq!(rt;
-        (answer, out.as_slice()),
-        (Ok(Loaded::Long), b"or no".as_slice())
-    );
-    assert_eq!(rt; files.content(b"a"), Some(b"to be".as_slice()));
+    answers(&rt, alloc, &mut files, &UNHELD);
+    same(&rt, &"d", &files.content(b"d"), &None);
+    answers(&rt, alloc, &mut files, &KEPT);
+    same(&rt, &"a", &files.content(b"a"), &Some(b"to be".as_slice()));
     Ok(())
 }
 
 #[test]
 fn a_publication_that_no_query_follows_runs_out_of_looks(rt: HostRuntime) -> Result<(), Fail> {
     let gate = TurnGate::new();
-    assert!(rt; !gate.ran_out());
+    holds(&rt, &"before", !gate.ran_out());
     gate.before_publish(1);
-    assert!(rt; gate.ran_out());
+    holds(&rt, &"after", gate.ran_out());
     Ok(())
 }
 
@@ -157,9 +169,8 @@ fn a_query_after_the_publication_is_not_held(rt: HostRuntime) -> Result<(), Fail
     gate.before_query(2);
     gate.after_query(2, 5);
     gate.before_publish(6);
-    assert_eq!(rt;
-        (gate.answered_on(1), gate.answered_on(2), gate.ran_out()),
-        (4, 5, false)
-    );
+    let answered = (gate.answered_on(1), gate.answered_on(2));
+    same(&rt, &"answered", &answered, &(4, 5));
+    holds(&rt, &"looks are left", !gate.ran_out());
     Ok(())
 }

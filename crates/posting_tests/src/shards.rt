@@ -3,11 +3,13 @@ ghost use Rattle.std.specs.List.{concat};
 ghost use Rattle.posting_code.specs.Postings.{ArePostings};
 ghost use Rattle.index_shard.specs.Tables.{ArePostingsIn};
 
+use crate::checks::same;
 use address_space::Range;
 use gcl_model::{Direction, Ledger, Question, Steps, counted};
 use index_shard::{Shard, ShardMaker, head_of};
 use posting_code::{PostingList, Postings, encode};
 use std::alloc::{AllocError, Global};
+use std::process::Abort;
 
 /// The posting of a term that is nearest to an address on one side.
 #[derive(Drop)]
@@ -119,137 +121,161 @@ fn of_three(
     Ok(maker.finish())
 }
 
+/// The nearest posting on one side is this, and is found in one step.
+fn finds<R: Abort>(
+    rt: &R,
+    shard: &Shard,
+    word: &str,
+    k: u64,
+    direction: Direction,
+    want: Option<u64>,
+) {
+    let found = counted(&Nearest {
+        shard,
+        term: word.as_bytes(),
+        k,
+        direction,
+    });
+    same(rt, &(word, k), &found, &(want, 1));
+}
+
+const LOOK_UPS: [(&str, u64, Direction, Option<u64>); 9] = [
+    ("to", 2, Direction::Forward, Some(5)),
+    ("to", 5, Direction::Forward, Some(5)),
+    ("to", 6, Direction::Forward, None),
+    ("to", 4, Direction::Backward, Some(1)),
+    ("to", 0, Direction::Backward, None),
+    ("be", 9, Direction::Backward, Some(6)),
+    ("note", 0, Direction::Forward, None),
+    ("no", 0, Direction::Forward, None),
+    ("", 0, Direction::Forward, None),
+];
+
 #[test]
 fn a_look_up_is_one_step_whatever_it_finds(rt: HostRuntime) -> Result<(), AllocError> {
-    let shard = &hamlet(rt.alloc())?;
-    let cases = [
-        ("to", 2, Direction::Forward, Some(5)),
-        ("to", 5, Direction::Forward, Some(5)),
-        ("to", 6, Direction::Forward, None),
-        ("to", 4, Direction::Backward, Some(1)),
-        ("to", 0, Direction::Backward, None),
-        ("be", 9, Direction::Backward, Some(6)),
-        ("note", 0, Direction::Forward, None),
-        ("no", 0, Direction::Forward, None),
-        ("", 0, Direction::Forward, None),
-    ];
-    for (word, k, direction, want) in cases {
-        let term = word.as_bytes();
-        let found = counted(&Nearest {
-            shard,
-            term,
-            k,
-            direction,
-        });
-        assert_eq!(rt; found, (want, 1), "{word} at {k}");
+    let shard = hamlet(rt.alloc())?;
+    for (word, k, direction, want) in &LOOK_UPS {
+        finds(&rt, &shard, word, *k, *direction, *want);
     }
     Ok(())
 }
+
+/// The first three postings of the term at a place are these, and take so many steps.
+fn walks<R: Abort>(rt: &R, shard: &Shard, place: usize, want: ([Option<u64>; 3], u64)) {
+    assert!(rt; place < shard.term_count());
+    same(rt, &place, &counted(&FirstThree { shard, place }), &want);
+}
+
+/// The term at a place is this, and has so many postings.
+fn has_term<R: Abort>(rt: &R, shard: &Shard, place: usize, term: &str, len: usize) {
+    assert!(rt; place < shard.term_count());
+    same(rt, &term, &shard.place(term.as_bytes()), &Some(place));
+    let found = (shard.term(place), shard.postings(place).len());
+    same(rt, &term, &found, &(term.as_bytes(), len));
+}
+
+// The terms by their places, their first three postings, and how many steps these take.
+const TERMS: [(usize, &str, [Option<u64>; 3], u64); 4] = [
+    (0, "be", [Some(2), Some(6), None], 2),
+    (1, "not", [Some(4), None, None], 1),
+    (2, "or", [Some(3), None, None], 1),
+    (3, "to", [Some(1), Some(5), None], 2),
+];
 
 #[test]
 fn terms_come_in_byte_order_and_a_walk_in_address_order(rt: HostRuntime) -> Result<(), AllocError> {
-    let shard = &hamlet(rt.alloc())?;
-    assert_eq!(rt; shard.term_count(), 4);
-    let cases = [
-        ("be", [Some(2), Some(6), None], 2),
-        ("not", [Some(4), None, None], 1),
-        ("or", [Some(3), None, None], 1),
-        ("to", [Some(1), Some(5), None], 2),
-    ];
-    for (place, (term, postings, steps)) in cases.into_iter().enumerate() {
-        assert_eq!(rt; shard.place(term.as_bytes()), Some(place), "{term}");
-        if place < shard.term_count() {
-            assert_eq!(rt; shard.term(place), term.as_bytes());
-            assert_eq!(rt; shard.postings(place).len(), steps as usize, "{term}");
-            let walked = counted(&FirstThree { shard, place });
-            assert_eq!(rt; walked, (postings, steps), "of {term}");
-        }
+    let shard = hamlet(rt.alloc())?;
+    same(&rt, &"terms", &shard.term_count(), &4);
+    for (place, term, postings, steps) in &TERMS {
+        has_term(&rt, &shard, *place, term, *steps as usize);
+        walks(&rt, &shard, *place, (*postings, *steps));
     }
     Ok(())
 }
 
+const PLACES: [(&str, Option<usize>); 8] = [
+    ("chapter", Some(0)),
+    ("chapter\0", Some(1)),
+    ("chapter1", Some(2)),
+    ("chapter10", Some(3)),
+    ("chapter2", Some(4)),
+    ("chapte", None),
+    ("chapter\0\0", None),
+    ("chapter100", None),
+];
+
 #[test]
 fn terms_that_are_alike_in_eight_bytes_are_told_apart(rt: HostRuntime) -> Result<(), AllocError> {
-    let shard = &chapters(rt.alloc())?;
-    let cases = [
-        ("chapter", Some(0)),
-        ("chapter\0", Some(1)),
-        ("chapter1", Some(2)),
-        ("chapter10", Some(3)),
-        ("chapter2", Some(4)),
-        ("chapte", None),
-        ("chapter\0\0", None),
-        ("chapter100", None),
-    ];
-    for (term, place) in cases {
-        assert_eq!(rt; shard.place(term.as_bytes()), place, "{term}");
+    let shard = chapters(rt.alloc())?;
+    for (term, place) in &PLACES {
+        same(&rt, term, &shard.place(term.as_bytes()), place);
     }
     Ok(())
 }
+
+/// The least term from a bound on, or after it, is this.
+fn has_term_from<R: Abort>(rt: &R, shard: &Shard, low: &str, strict: bool, want: Option<&str>) {
+    let want = want.map(|term: &str| term.as_bytes());
+    same(rt, &low, &shard.term_from(low.as_bytes(), strict), &want);
+}
+
+const BOUNDS: [(&str, bool, Option<&str>); 6] = [
+    ("", false, Some("be")),
+    ("be", false, Some("be")),
+    ("be", true, Some("not")),
+    ("bee", false, Some("not")),
+    ("to", true, None),
+    ("tz", false, None),
+];
 
 #[test]
 fn the_least_term_from_a_bound_is_the_next_in_byte_order(
     rt: HostRuntime,
 ) -> Result<(), AllocError> {
-    let hamlet = &hamlet(rt.alloc())?;
-    let chapters = &chapters(rt.alloc())?;
-    let cases = [
-        (hamlet, "", false, Some("be")),
-        (hamlet, "be", false, Some("be")),
-        (hamlet, "be", true, Some("not")),
-        (hamlet, "bee", false, Some("not")),
-        (hamlet, "to", true, None),
-        (hamlet, "tz", false, None),
-        (chapters, "chapter", true, Some("chapter\0")),
-        (chapters, "chapter1", true, Some("chapter10")),
-        (chapters, "chapter11", false, Some("chapter2")),
-    ];
-    for (shard, low, strict, want) in cases {
-        let found = shard.term_from(low.as_bytes(), strict);
-        assert_eq!(rt; found, want.map(|term| term.as_bytes()), "from {low}");
+    let hamlet = hamlet(rt.alloc())?;
+    for (low, strict, want) in &BOUNDS {
+        has_term_from(&rt, &hamlet, low, *strict, *want);
     }
+    let chapters = chapters(rt.alloc())?;
+    has_term_from(&rt, &chapters, "chapter", true, Some("chapter\0"));
+    has_term_from(&rt, &chapters, "chapter1", true, Some("chapter10"));
+    has_term_from(&rt, &chapters, "chapter11", false, Some("chapter2"));
     Ok(())
+}
+
+/// A shard has one term, at 1, 3 and 6.
+fn has_one_term<R: Abort>(rt: &R, shard: &Shard) {
+    same(rt, &"terms", &shard.term_count(), &1);
+    walks(rt, shard, 0, ([Some(1), Some(3), Some(6)], 3));
 }
 
 #[test]
 fn a_list_without_members_among_others_changes_nothing(rt: HostRuntime) -> Result<(), AllocError> {
-    let front = &of_three(rt.alloc(), &[], &[1, 3], &[6])?;
-    let between = &of_three(rt.alloc(), &[1], &[], &[3, 6])?;
-    let behind = &of_three(rt.alloc(), &[1, 3, 6], &[], &[])?;
-    let cases = [
-        ("in front", front),
-        ("between", between),
-        ("behind", behind),
-    ];
-    for (name, shard) in cases {
-        assert_eq!(rt; shard.term_count(), 1, "{name}");
-        if 0 < shard.term_count() {
-            let walked = counted(&FirstThree { shard, place: 0 });
-            assert_eq!(rt; walked, ([Some(1), Some(3), Some(6)], 3), "{name}");
-        }
-    }
+    has_one_term(&rt, &of_three(rt.alloc(), &[], &[1, 3], &[6])?);
+    has_one_term(&rt, &of_three(rt.alloc(), &[1], &[], &[3, 6])?);
+    has_one_term(&rt, &of_three(rt.alloc(), &[1, 3, 6], &[], &[])?);
     Ok(())
+}
+
+/// The heads of a shard's terms are these.
+fn has_heads<R: Abort>(rt: &R, shard: &Shard, heads: &[u64]) {
+    for (place, want) in heads.iter().enumerate() {
+        assert!(rt; place < shard.term_count());
+        same(rt, &place, &shard.head(place), want);
+    }
 }
 
 #[test]
 fn the_head_of_a_term_is_its_first_eight_bytes(rt: HostRuntime) -> Result<(), AllocError> {
-    let hamlet = &hamlet(rt.alloc())?;
-    let chapters = &chapters(rt.alloc())?;
-    let cases = [
-        (hamlet, 0, 0x6265_0000_0000_0000),
-        (hamlet, 1, 0x6e6f_7400_0000_0000),
-        (chapters, 0, 0x6368_6170_7465_7200),
-        (chapters, 1, 0x6368_6170_7465_7200),
-        (chapters, 2, 0x6368_6170_7465_7231),
-        (chapters, 3, 0x6368_6170_7465_7231),
-        (chapters, 4, 0x6368_6170_7465_7232),
+    let heads = [0x6265_0000_0000_0000, 0x6e6f_7400_0000_0000];
+    has_heads(&rt, &hamlet(rt.alloc())?, &heads);
+    let heads = [
+        0x6368_6170_7465_7200,
+        0x6368_6170_7465_7200,
+        0x6368_6170_7465_7231,
+        0x6368_6170_7465_7231,
+        0x6368_6170_7465_7232,
     ];
-    for (shard, place, want) in cases {
-        let mut found = None;
-        if place < shard.term_count() {
-            found = Some(shard.head(place));
-        }
-        assert_eq!(rt; found, Some(want), "at {place}");
-    }
+    has_heads(&rt, &chapters(rt.alloc())?, &heads);
     Ok(())
 }
