@@ -1,10 +1,11 @@
-ghost use Rattle.std.specs.Prelude.{◌≡◌, ◌<◌, ◌++◌, length, IfOk, OnOk};
+ghost use Rattle.std.specs.Prelude.{◌≡◌, ◌<◌, ◌++◌, [], length, map, IfOk, OnOk};
 ghost use Rattle.std.specs.List.{AllByRecursion};
 ghost use Rattle.posting_code.specs.Numbers.{number_end};
 ghost use Rattle.gcl_model.specs.Limits.{address_end};
 ghost use Rattle.posting_code.specs.Packed.{packed_from};
 ghost use Rattle.posting_code.specs.Postings.{RiseWithin};
 ghost use Rattle.live_version.specs.Contents.{live_of};
+ghost use Rattle.slot_terms.specs.Parts.{IsPart, part_of};
 ghost use Rattle.image_file.specs.Fields.{short_term};
 ghost use Rattle.image_file.specs.Written.{IsTermText};
 
@@ -31,6 +32,24 @@ pub(crate) fn terms_text(alloc: Global, version: &Version) -> Result<TermText, A
         count: 0,
         bytes: Vec::new(alloc),
     };
+    put_terms(alloc, version, &mut terms, &mut text)?;
+    Ok(text)
+}
+
+/// Puts the terms of all slots, where the text has none yet.
+fn put_terms(
+    alloc: Global,
+    version: &Version,
+    terms: &mut SlotTerms<'_>,
+    text: &mut TermText,
+) -> Result<(), AllocError>
+    requires short { AllByRecursion (λ w. length w.token < number_end) (live_of version.now.slots) }
+    requires terms { terms.old ≡ map part_of version.now.slots }
+    requires parts { AllByRecursion IsPart terms.old }
+    requires count { text.old.count ≡ 0 }
+    requires bytes { text.old.bytes.items ≡ [] }
+    ensures { OnOk result (IsTermText version.now text.new.count text.new.bytes.items) }
+{
     let first = version.first();
     let mut addresses = Vec::new(alloc);
     while let Some(term) = terms.next(&mut addresses)? {
@@ -39,7 +58,7 @@ pub(crate) fn terms_text(alloc: Global, version: &Version) -> Result<TermText, A
             text.count += 1;
         }
     }
-    Ok(text)
+    Ok(())
 }
 
 /// Puts a term and its addresses after the bytes.

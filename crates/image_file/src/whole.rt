@@ -2,8 +2,9 @@ ghost use Rattle.std.specs.Prelude.{◌≡◌, ◌++◌, length, IfOk, OnOk};
 ghost use Rattle.gcl_model.specs.Collections.{Collection};
 ghost use Rattle.live_version.specs.StandsFor.{StandsFor};
 ghost use Rattle.live_version.specs.Contents.{files_of};
-ghost use Rattle.image_file.specs.Fields.{mark, eight_bytes};
+ghost use Rattle.image_file.specs.Fields.{mark, eight_bytes, short_files};
 ghost use Rattle.image_file.specs.Images.{CanBeSaved, Spells, forgotten};
+ghost use Rattle.image_file.specs.Written.{ArePacked};
 
 use crate::files::put_files;
 use crate::format::Format;
@@ -26,11 +27,21 @@ pub fn image(alloc: Global, version: &Version) -> Result<Bytes, AllocError>
 {
     let text = terms_text(alloc, version)?;
     let mut out = Vec::new(alloc);
-    put_head(&mut out, version)?;
-    put_files(&mut out, version)?;
-    put_eight(&mut out, text.count)?;
-    put_bytes(&mut out, &text.bytes)?;
+    put_all(&mut out, version, text.count, &text.bytes)?;
     Ok(Bytes::of(out))
+}
+
+/// Puts all that an image has after the bytes, with so many terms that have this text.
+fn put_all(out: &mut Vec<u8>, version: &Version, count: u64, terms: &[u8]) -> Result<(), AllocError>
+    requires { ArePacked 0 version.now.first (files_of version.now.slots) }
+    ensures { OnOk result (out.new.items ≡ out.old.items ++ mark Format.Two ++ eight_bytes version.now.first ++
+        eight_bytes version.now.next ++ eight_bytes version.now.next_id ++ eight_bytes (length (files_of version.now.slots)) ++
+        short_files 0 version.now.first (files_of version.now.slots) ++ eight_bytes count ++ terms.now) }
+{
+    put_head(out, version)?;
+    put_files(out, version)?;
+    put_eight(out, count)?;
+    put_bytes(out, terms)
 }
 
 /// Puts the mark, the numbers and the number of files after the bytes.

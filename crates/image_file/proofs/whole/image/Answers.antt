@@ -1,4 +1,4 @@
-use Rattle.std.proofs.Common.{◌++◌, length, ap, ◌∙◌}
+use Rattle.std.proofs.Common.{◌++◌, [], length, ap, ◌∙◌}
 use Rattle.live_version.specs.Contents.{files_of}
 use Rattle.image_file.specs.declared.format.Format.TheVariants.{Two}
 use Rattle.image_file.specs.Fields.{eight_bytes, mark, short_files}
@@ -8,17 +8,15 @@ use Rattle.image_file.proofs.whole.image.Goals as goal
 pub terms_text-requires : goal.terms_text-requires
 terms_text-requires c = saved_short c.args.version.now c.requires
 
-pub put_files-requires : goal.put_files-requires
-put_files-requires c = saved_packs c.args.version.now c.requires
+pub put_all-requires : goal.put_all-requires
+put_all-requires c = saved_packs c.args.version.now c.requires
 
 pub returns : goal.returns
 returns c stands_for stands =
     let v = c.args.version.now in
     let text = c.in_ok-text.text in
     let out =
-    c.of.ensures ∙ c.in_ok-put_bytes.ensures ∙ ap (λ l. c.put_eight.new.out.items ++ l) c.deref.ensures.value ∙ ap (λ l. l ++ text.bytes.items) c.in_ok-put_eight.ensures
-    ∙ ap (λ l. l ++ eight_bytes text.count ++ text.bytes.items) c.in_ok-put_files.ensures
-    ∙ ap (λ l. l ++ short_files 0 v.first (files_of v.slots) ++ eight_bytes text.count ++ text.bytes.items) c.in_ok-put_head.ensures
-    ∙ ap (λ l. l ++ mark Two ++ eight_bytes v.first ++ eight_bytes v.next ++ eight_bytes v.next_id ++ eight_bytes (length (files_of v.slots)) ++ short_files 0 v.first (files_of v.slots) ++ eight_bytes text.count ++ text.bytes.items)
-    c.new-out.ensures.items in
+    c.of.ensures ∙ c.in_ok-put_all.ensures
+    ∙ ap (λ l. l ++ mark Two ++ eight_bytes v.first ++ eight_bytes v.next ++ eight_bytes v.next_id ++ eight_bytes (length (files_of v.slots)) ++ short_files 0 v.first (files_of v.slots) ++ eight_bytes text.count ++ c.deref.result.now) c.new-out.ensures.items
+    ∙ ap (λ l. [] ++ mark Two ++ eight_bytes v.first ++ eight_bytes v.next ++ eight_bytes v.next_id ++ eight_bytes (length (files_of v.slots)) ++ short_files 0 v.first (files_of v.slots) ++ eight_bytes text.count ++ l) c.deref.ensures.value in
     image_spells v text.count text.bytes.items c.of.result c.requires c.in_ok-text.ensures out stands_for stands

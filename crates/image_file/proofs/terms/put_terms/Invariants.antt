@@ -2,7 +2,7 @@ use Rattle.std.proofs.Common.{◌≡◌}
 use Rattle.slot_terms.specs.Parts.{entries_left}
 use Rattle.live_version.specs.Contents.{IsVersion}
 use Rattle.image_file.proofs.Writing.{Writes}
-use Rattle.image_file.proofs.terms.terms_text.Given as goal
+use Rattle.image_file.proofs.terms.put_terms.Given as goal
 
 -- the text has the terms so far, and the rest is still to come
 abbrev pub invariant-loop-addresses : goal.invariant-loop-addresses

@@ -7,14 +7,14 @@ use Rattle.slot_terms.specs.Parts.{IsNext, entries_left, past}
 use Rattle.slot_terms.proofs.Passing.{past_fewer}
 use Rattle.image_file.specs.Fields.{short_term}
 use Rattle.image_file.proofs.Writing.{Writes, may_write, writing_pushes, writing_skips, written_all}
-use Rattle.image_file.proofs.terms.terms_text.Goals as goal
+use Rattle.image_file.proofs.terms.put_terms.Goals as goal
 
 pub put_term-requires-clause-short : goal.put_term-requires-clause-short
 put_term-requires-clause-short c =
     let next : IsNext c.loop-addresses.terms c.in-Some.term.now c.next.new.addresses.items = subst (λ o. IfSome o (λ t. IsNext c.loop-addresses.terms t.now c.next.new.addresses.items)) c.in-Some.is c.in_ok-term.ensures.next in
     let full : length c.deref.result.now ≡ 0 → ⊥ = λ none. eqb-false _ 0 (sym c.is_empty.ensures ∙ c.if-not-is_empty.true) (sym c.deref.ensures.len ∙ none) in
     let some : 0 < length c.next.new.addresses.items = subst (λ l. 0 < length l) c.deref.ensures.value (omega arith) in
-    (may_write c.args.version.now c.loop-addresses.terms c.loop-addresses.text.count c.loop-addresses.text.bytes.items c.in-Some.term.now c.next.new.addresses.items c.loop-addresses.invariant.version c.requires
+    (may_write c.args.version.now c.loop-addresses.terms c.loop-addresses.text.count c.loop-addresses.text.bytes.items c.in-Some.term.now c.next.new.addresses.items c.loop-addresses.invariant.version c.requires.short
     c.loop-addresses.invariant.writes next some).short
 
 pub put_term-requires-clause-rising : goal.put_term-requires-clause-rising
@@ -23,7 +23,7 @@ put_term-requires-clause-rising c =
     let full : length c.deref.result.now ≡ 0 → ⊥ = λ none. eqb-false _ 0 (sym c.is_empty.ensures ∙ c.if-not-is_empty.true) (sym c.deref.ensures.len ∙ none) in
     let some : 0 < length c.next.new.addresses.items = subst (λ l. 0 < length l) c.deref.ensures.value (omega arith) in
     let may =
-    may_write c.args.version.now c.loop-addresses.terms c.loop-addresses.text.count c.loop-addresses.text.bytes.items c.in-Some.term.now c.next.new.addresses.items c.loop-addresses.invariant.version c.requires
+    may_write c.args.version.now c.loop-addresses.terms c.loop-addresses.text.count c.loop-addresses.text.bytes.items c.in-Some.term.now c.next.new.addresses.items c.loop-addresses.invariant.version c.requires.short
     c.loop-addresses.invariant.writes next some in
     subst (λ l. RiseWithin c.first-first.result (2 ^ 56) l) (sym c.deref.ensures.value) (subst (λ p. RiseWithin p (2 ^ 56) c.next.new.addresses.items) (sym c.loop-addresses.invariant.first) may.rising)
 
@@ -47,7 +47,7 @@ loop-addresses-preserved-then-not-is_empty c =
     let past_it : c.next.new.self ≡ map (past term) parts = subst (λ o. IfSome o (λ t. c.next.new.self ≡ map (past t.now) parts)) c.in-Some.is c.in_ok-term.ensures.past in
     let full : length c.deref.result.now ≡ 0 → ⊥ = λ none. eqb-false _ 0 (sym c.is_empty.ensures ∙ c.if-not-is_empty.true) (sym c.deref.ensures.len ∙ none) in
     let some : 0 < length addresses = subst (λ l. 0 < length l) c.deref.ensures.value (omega arith) in
-    let may = may_write v parts count bytes term addresses c.loop-addresses.invariant.version c.requires w next some in
+    let may = may_write v parts count bytes term addresses c.loop-addresses.invariant.version c.requires.short w next some in
     let put = c.in_ok-put_term.ensures ∙ ap (λ l. bytes ++ short_term c.first-first.result (record { term = term; addresses = l })) c.deref.ensures.value
     ∙ ap (λ p. bytes ++ short_term p (record { term = term; addresses = addresses })) c.loop-addresses.invariant.first in
     record {
