@@ -149,10 +149,9 @@ fn joined(text: &[u8], from: usize, joint: Joint) -> Option<usize>
     ensures none { IfNone result (IsNotNext (joint_token joint) (bare_from text.now from)) }
 {
     let placed = next_placed(text, from)?;
-    if placed.token == Token::Joint(joint) {
-        Some(placed.end)
-    } else {
-        None
+    match placed.token {
+        Token::Joint(found) if found == joint => Some(placed.end),
+        _ => None,
     }
 }
 

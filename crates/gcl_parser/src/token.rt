@@ -2,7 +2,7 @@ use crate::fault::QueryKind;
 use gcl_model::Containment;
 
 /// An operator that joins a chain of parts.
-#[derive(Clone, Copy, Debug, PartialEq, Eq)]
+#[derive(Clone, Copy, PartialEq, Eq)]
 pub enum Joint {
     /// `..`
     FollowedBy,
@@ -13,7 +13,7 @@ pub enum Joint {
 }
 
 /// A query token as it stands in the text, or what is wrong where none begins.
-#[derive(Clone, Copy, Debug, PartialEq, Eq)]
+#[derive(Clone, Copy)]
 pub enum Token {
     /// A quoted text: the bytes from the first place up to the second, without its quotes.
     Quoted(usize, usize),
@@ -29,7 +29,7 @@ pub enum Token {
 }
 
 /// A query token with the place where it begins and the place after it.
-#[derive(Clone, Copy, Debug, PartialEq, Eq)]
+#[derive(Clone, Copy)]
 pub struct PlacedToken {
     pub at: usize,
     pub end: usize,
