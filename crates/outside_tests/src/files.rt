@@ -88,50 +88,114 @@ fn empty_folder(rt: &HostRuntime, name: &str) -> io::Result<PathBuf> {
     Ok(place)
 }
 
+/// The path as a name of the files.
+fn name_of(path: &PathBuf) -> &[u8] {
+    path.to_str().unwrap_or("").as_bytes()
+}
+
+/// A keep in a folder is done.
+fn keeps_in<R: AllocGlobal + Abort, F: Files>(
+    rt: &R,
+    files: &mut F,
+    place: &PathBuf,
+    name: &str,
+    bytes: &[u8],
+) -> io::Result<()> {
+    let path = place.join(rt.alloc(), name)?;
+    keeps(rt, files, name_of(&path), bytes);
+    Ok(())
+}
+
+/// A load of at most nine bytes from a folder gives all of these.
+fn loads_in<R: AllocGlobal + Abort, F: Files>(
+    rt: &R,
+    files: &mut F,
+    place: &PathBuf,
+    name: &str,
+    content: &[u8],
+) -> io::Result<()> {
+    let path = place.join(rt.alloc(), name)?;
+    loads(rt, files, name_of(&path), 9, (Ok(Loaded::Whole), content));
+    Ok(())
+}
+
+/// Five bytes in a folder are loaded whole, and at most four of them are too few.
+fn loads_at_most<R: AllocGlobal + Abort, F: Files>(
+    rt: &R,
+    files: &mut F,
+    place: &PathBuf,
+) -> io::Result<()> {
+    let path = place.join(rt.alloc(), "a")?;
+    keeps(rt, files, name_of(&path), b"to be");
+    let cases = [(5, Ok(Loaded::Whole)), (4, Ok(Loaded::Long))];
+    for (most, want) in cases {
+        let content = b"to be".as_slice();
+        loads(rt, files, name_of(&path), most, (want, content));
+    }
+    Ok(())
+}
+
+/// Loads of what is not text, not there, or a folder fail.
+fn loads_no_other<R: rt::Files + AllocGlobal + Abort>(
+    rt: &R,
+    files: &mut StdFiles<'_, R>,
+    place: &PathBuf,
+) -> io::Result<()> {
+    let path = place.join(rt.alloc(), "b")?;
+    loads_nothing(rt, files, b"\xff", FileCause::NotText);
+    loads_nothing(rt, files, name_of(&path), FileCause::NotThere);
+    loads_nothing(rt, files, name_of(place), FileCause::Folder);
+    Ok(())
+}
+
 #[test]
 fn files_load_what_is_there_and_tell_where_they_failed(rt: HostRuntime) -> io::Result<()> {
     let place = empty_folder(&rt, "gclq_outside_std_load")?;
-    let a = place.join(rt.alloc(), "a")?;
-    let b = place.join(rt.alloc(), "b")?;
-    let a = a.to_str().unwrap_or("").as_bytes();
-    let b = b.to_str().unwrap_or("").as_bytes();
     let mut files = StdFiles::new(&rt);
     same(&rt, &"no fault", &files.last_fault(), &b"".as_slice());
-    keeps(&rt, &mut files, a, b"to be");
-    loads(&rt, &mut files, a, 5, (Ok(Loaded::Whole), b"to be"));
-    loads(&rt, &mut files, a, 4, (Ok(Loaded::Long), b"to be"));
-    let folder = place.to_str().unwrap_or("").as_bytes();
-    loads_nothing(&rt, &mut files, b"\xff", FileCause::NotText);
-    loads_nothing(&rt, &mut files, b, FileCause::NotThere);
-    loads_nothing(&rt, &mut files, folder, FileCause::Folder);
+    loads_at_most(&rt, &mut files, &place)?;
+    loads_no_other(&rt, &mut files, &place)?;
     fs::remove_dir_all(&rt, &place)
+}
+
+/// Each content that is kept is loaded, and the other file has what it had.
+fn loads_what_is_kept<R: AllocGlobal + Abort, F: Files>(
+    rt: &R,
+    files: &mut F,
+    place: &PathBuf,
+) -> io::Result<()> {
+    for content in [b"to be".as_slice(), b"", b"or not"] {
+        keeps_in(rt, files, place, "a", content)?;
+        keeps_in(rt, files, place, "b", b"to be")?;
+        loads_in(rt, files, place, "a", content)?;
+    }
+    loads_in(rt, files, place, "b", b"to be")
+}
+
+/// Keeps under what is no name of a file fail.
+fn keeps_no_other<R: rt::Files + AllocGlobal + Abort>(
+    rt: &R,
+    files: &mut StdFiles<'_, R>,
+    place: &PathBuf,
+) {
+    let cases = [
+        (b"\xff".as_slice(), FileCause::NotText),
+        (b"", FileCause::NotThere),
+        (name_of(place), FileCause::Folder),
+        (b"/dev/null", FileCause::NotAFile),
+    ];
+    for (name, cause) in cases {
+        keeps_nothing(rt, files, name, cause);
+    }
 }
 
 #[test]
 fn what_is_kept_is_loaded_and_nothing_else_changes(rt: HostRuntime) -> io::Result<()> {
     let place = empty_folder(&rt, "gclq_outside_std_keep")?;
-    let a = place.join(rt.alloc(), "a")?;
-    let b = place.join(rt.alloc(), "b")?;
-    let a = a.to_str().unwrap_or("").as_bytes();
-    let b = b.to_str().unwrap_or("").as_bytes();
     let mut files = StdFiles::new(&rt);
-    for content in [b"to be".as_slice(), b"", b"or not"] {
-        keeps(&rt, &mut files, a, content);
-        keeps(&rt, &mut files, b, b"to be");
-        loads(&rt, &mut files, a, 9, (Ok(Loaded::Whole), content));
-    }
-    loads(&rt, &mut files, b, 9, (Ok(Loaded::Whole), b"to be"));
+    loads_what_is_kept(&rt, &mut files, &place)?;
     counts(&rt, file_count(&rt, &place)?, 2);
-    let folder = place.to_str().unwrap_or("").as_bytes();
-    let cases = [
-        (b"\xff".as_slice(), FileCause::NotText),
-        (b"", FileCause::NotThere),
-        (folder, FileCause::Folder),
-        (b"/dev/null", FileCause::NotAFile),
-    ];
-    for (name, cause) in cases {
-        keeps_nothing(&rt, &mut files, name, cause);
-    }
+    keeps_no_other(&rt, &mut files, &place);
     counts(&rt, file_count(&rt, &place)?, 2);
     fs::remove_dir_all(&rt, &place)
 }
@@ -148,38 +212,31 @@ fn does_not_keep<R: rt::Files + AllocGlobal + Abort>(rt: &R, disk: &LackingDisk<
     same(rt, &name, &files.last_fault(), &name);
 }
 
-/// A name has this content.
-fn has<R: rt::Files + AllocGlobal + Abort>(rt: &R, name: &[u8], content: &[u8]) {
-    let mut files = StdFiles::new(rt);
-    loads(rt, &mut files, name, 9, (Ok(Loaded::Whole), content));
-}
-
-/// A keep on this disk fails, and the name has its old content.
+/// A keep on this disk fails, and the file has its old content.
 fn leaves_the_old_content<R: rt::Files + AllocGlobal + Abort>(
     rt: &R,
     disk: &LackingDisk<'_>,
-    name: &[u8],
-) {
-    does_not_keep(rt, disk, name);
-    has(rt, name, b"to be");
+    place: &PathBuf,
+) -> io::Result<()> {
+    let path = place.join(rt.alloc(), "a")?;
+    does_not_keep(rt, disk, name_of(&path));
+    loads_in(rt, &mut StdFiles::new(rt), place, "a", b"to be")
 }
 
 /// A keep on this disk is done, whatever was left behind.
 fn takes_the_new_content<R: rt::Files + AllocGlobal + Abort>(
     rt: &R,
     disk: &LackingDisk<'_>,
-    name: &[u8],
-) {
-    keeps(rt, &mut StdFiles::new(disk), name, b"or not");
-    has(rt, name, b"or not");
+    place: &PathBuf,
+) -> io::Result<()> {
+    keeps_in(rt, &mut StdFiles::new(disk), place, "a", b"or not")?;
+    loads_in(rt, &mut StdFiles::new(rt), place, "a", b"or not")
 }
 
 #[test]
 fn a_full_disk_and_a_killed_program_leave_the_old_content(rt: HostRuntime) -> io::Result<()> {
     let place = empty_folder(&rt, "gclq_outside_std_full")?;
-    let a = place.join(rt.alloc(), "a")?;
-    let name = a.to_str().unwrap_or("").as_bytes();
-    keeps(&rt, &mut StdFiles::new(&rt), name, b"to be");
+    keeps_in(&rt, &mut StdFiles::new(&rt), &place, "a", b"to be")?;
     // how many files are left: a killed program leaves what it had written beside the name
     let cases = [
         (Lacks::Room(0), 1),
@@ -188,56 +245,106 @@ fn a_full_disk_and_a_killed_program_leave_the_old_content(rt: HostRuntime) -> io
         (Lacks::Time, 3),
     ];
     for (lacks, want) in cases {
-        leaves_the_old_content(&rt, &LackingDisk::new(&rt, lacks), name);
+        leaves_the_old_content(&rt, &LackingDisk::new(&rt, lacks), &place)?;
         counts(&rt, file_count(&rt, &place)?, want);
     }
-    takes_the_new_content(&rt, &LackingDisk::new(&rt, Lacks::Room(6)), name);
+    takes_the_new_content(&rt, &LackingDisk::new(&rt, Lacks::Room(6)), &place)?;
     counts(&rt, file_count(&rt, &place)?, 3);
     fs::remove_dir_all(&rt, &place)
 }
 
-/// The mode of what is under a name, and the text of the symbolic link that stands there.
-fn is_under<R: rt::Files + AllocGlobal + Abort>(
+/// Puts a symbolic link with this text into a folder.
+fn put_link<R: rt::Files + AllocGlobal>(
     rt: &R,
-    path: &PathBuf,
-    mode: u32,
-    link: Option<&str>,
+    place: &PathBuf,
+    name: &str,
+    text: &str,
 ) -> io::Result<()> {
-    let bits = fs::metadata(rt, path)?.permissions().mode() & 0o777;
-    same(rt, &"its mode", &bits, &mode);
-    let text = fs::read_link(rt, path).ok();
-    same(
-        rt,
-        &"its text",
-        &text.as_ref().and_then(|text| text.to_str()),
-        &link,
-    );
+    let path = place.join(rt.alloc(), name)?;
+    symlink(rt, text, &path)
+}
+
+/// Gives a file of a folder this mode.
+fn allow<R: rt::Files + AllocGlobal>(
+    rt: &R,
+    place: &PathBuf,
+    name: &str,
+    mode: u32,
+) -> io::Result<()> {
+    let path = place.join(rt.alloc(), name)?;
+    fs::set_permissions(rt, &path, Permissions::from_mode(mode))
+}
+
+/// The mode of what is under a name of a folder.
+fn has_mode<R: rt::Files + AllocGlobal + Abort>(
+    rt: &R,
+    place: &PathBuf,
+    name: &str,
+    mode: u32,
+) -> io::Result<()> {
+    let path = place.join(rt.alloc(), name)?;
+    let bits = fs::metadata(rt, &path)?.permissions().mode() & 0o777;
+    same(rt, &name, &bits, &mode);
     Ok(())
+}
+
+/// The text of the symbolic link that stands under a name of a folder.
+fn has_text<R: rt::Files + AllocGlobal + Abort>(
+    rt: &R,
+    place: &PathBuf,
+    name: &str,
+    want: Option<&str>,
+) -> io::Result<()> {
+    let path = place.join(rt.alloc(), name)?;
+    let text = fs::read_link(rt, &path).ok();
+    let text = text.as_ref().and_then(|text| text.to_str());
+    same(rt, &name, &text, &want);
+    Ok(())
+}
+
+/// A link that leads to nothing at first is followed, and the file that it leads to keeps its mode.
+fn follows_a_link<R: rt::Files + AllocGlobal + Abort>(
+    rt: &R,
+    files: &mut StdFiles<'_, R>,
+    place: &PathBuf,
+) -> io::Result<()> {
+    put_link(rt, place, "link", "a")?;
+    keeps_in(rt, files, place, "link", b"to be")?;
+    allow(rt, place, "a", 0o640)?;
+    keeps_in(rt, files, place, "link", b"or not")?;
+    for (name, text) in [("a", None), ("link", Some("a"))] {
+        has_mode(rt, place, name, 0o640)?;
+        has_text(rt, place, name, text)?;
+    }
+    loads_in(rt, files, place, "link", b"or not")
+}
+
+/// A link that leads round is not followed.
+fn follows_no_ring<R: rt::Files + AllocGlobal + Abort>(
+    rt: &R,
+    files: &mut StdFiles<'_, R>,
+    place: &PathBuf,
+) -> io::Result<()> {
+    put_link(rt, place, "round", "round")?;
+    let path = place.join(rt.alloc(), "round")?;
+    keeps_nothing(rt, files, name_of(&path), FileCause::Links);
+    Ok(())
+}
+
+/// Puts what a killed program left into a folder.
+fn put_left<R: rt::Files + AllocGlobal>(rt: &R, place: &PathBuf) -> io::Result<()> {
+    let path = place.join(rt.alloc(), ".gclq-0.new")?;
+    fs::write(rt, &path, "left")
 }
 
 #[test]
 fn a_keep_follows_links_and_leaves_modes_and_other_files(rt: HostRuntime) -> io::Result<()> {
     let place = empty_folder(&rt, "gclq_outside_std_links")?;
-    let a = place.join(rt.alloc(), "a")?;
-    let link = place.join(rt.alloc(), "link")?;
-    let left = place.join(rt.alloc(), ".gclq-0.new")?;
-    symlink(&rt, "a", &link)?;
-    fs::write(&rt, &left, "left")?;
-    let name = link.to_str().unwrap_or("").as_bytes();
+    put_left(&rt, &place)?;
     let mut files = StdFiles::new(&rt);
-    // the link leads to nothing at first
-    keeps(&rt, &mut files, name, b"to be");
-    fs::set_permissions(&rt, &a, Permissions::from_mode(0o640))?;
-    keeps(&rt, &mut files, name, b"or not");
-    is_under(&rt, &a, 0o640, None)?;
-    is_under(&rt, &link, 0o640, Some("a"))?;
-    loads(&rt, &mut files, name, 9, (Ok(Loaded::Whole), b"or not"));
-    let left = left.to_str().unwrap_or("").as_bytes();
-    loads(&rt, &mut files, left, 9, (Ok(Loaded::Whole), b"left"));
-    let round = place.join(rt.alloc(), "round")?;
-    symlink(&rt, "round", &round)?;
-    let round = round.to_str().unwrap_or("").as_bytes();
-    keeps_nothing(&rt, &mut files, round, FileCause::Links);
+    follows_a_link(&rt, &mut files, &place)?;
+    loads_in(&rt, &mut files, &place, ".gclq-0.new", b"left")?;
+    follows_no_ring(&rt, &mut files, &place)?;
     counts(&rt, file_count(&rt, &place)?, 4);
     fs::remove_dir_all(&rt, &place)
 }
