@@ -31,7 +31,7 @@ pub fn image(alloc: Global, version: &Version) -> Result<Bytes, AllocError>
     Ok(Bytes::of(out))
 }
 
-/// Puts all that an image has after the bytes, with so many terms that have this text.
+/// Appends a whole image: the mark, the numbers, the files, and the given number of terms with their text.
 fn put_all(out: &mut Vec<u8>, version: &Version, count: u64, terms: &[u8]) -> Result<(), AllocError>
     requires { ArePacked 0 version.now.first (files_of version.now.slots) }
     ensures { OnOk result (out.new.items ≡ out.old.items ++ mark Format.Two ++ eight_bytes version.now.first ++
