@@ -22,15 +22,23 @@ fn both_of_takes_the_greater_end_and_the_lesser_start(rt: HostRuntime) {
     }
 }
 
-/// Of two answers, where there are any, each way takes this one.
+/// Of two answers, where there are any, this one is taken.
 fn takes<R: Abort>(
     rt: &R,
     best: Option<Interval>,
     answer: Option<Interval>,
+    got: Option<Interval>,
     want: Option<Interval>,
 ) {
-    same(rt, &(best, answer), &one_forward(best, answer), &want);
-    same(rt, &(best, answer), &one_backward(best, answer), &want);
+    same(rt, &(best, answer), &got, &want);
+}
+
+/// Of two answers each way takes this one.
+fn both_take<R: Abort>(rt: &R, best: Interval, answer: Interval, want: Interval) {
+    let forward = one_forward(Some(best), Some(answer));
+    takes(rt, Some(best), Some(answer), forward, Some(want));
+    let backward = one_backward(Some(best), Some(answer));
+    takes(rt, Some(best), Some(answer), backward, Some(want));
 }
 
 #[test]
@@ -38,24 +46,28 @@ fn a_tie_goes_to_the_shorter_answer(rt: HostRuntime) {
     let wide = Interval::new(1, 4);
     let late = Interval::new(2, 4);
     let short = Interval::new(1, 3);
-    for (best, answer, want) in [
-        (wide, late, late),
-        (late, wide, late),
-        (wide, short, short),
-        (short, wide, short),
-    ] {
-        takes(&rt, Some(best), Some(answer), Some(want));
-    }
+    both_take(&rt, wide, late, late);
+    both_take(&rt, late, wide, late);
+    both_take(&rt, wide, short, short);
+    both_take(&rt, short, wide, short);
+}
+
+/// Of an answer and none this is taken.
+fn is_taken<R: Abort>(rt: &R, got: Option<Interval>, want: Option<Interval>) {
+    same(rt, &"with none", &got, &want);
 }
 
 #[test]
 fn none_gives_way_to_any_answer(rt: HostRuntime) {
-    let three = Some(Interval::new(3, 5));
-    for (best, answer, want) in [
-        (None, three, three),
-        (three, None, three),
-        (None, None, None),
+    let answer = Interval::new(3, 5);
+    for got in [
+        one_forward(None, Some(answer)),
+        one_forward(Some(answer), None),
+        one_backward(None, Some(answer)),
+        one_backward(Some(answer), None),
     ] {
-        takes(&rt, best, answer, want);
+        is_taken(&rt, got, Some(answer));
     }
+    is_taken(&rt, one_forward(None, None), None);
+    is_taken(&rt, one_backward(None, None), None);
 }

@@ -168,35 +168,50 @@ fn each_access_is_that_of_the_members(rt: HostRuntime) -> Result<(), Fail> {
     Ok(())
 }
 
-/// In a text of these words the four accesses of a phrase at an address are these, and take so many look-ups together.
-fn takes<R: Abort>(
+/// The four accesses of a phrase at an address of a text of these words, and how many look-ups they take together.
+fn counted_at<R: Abort>(
     rt: &R,
     alloc: Global,
     words: &[&str],
     phrase: &[&str],
     k: u64,
-    want: ([Option<Interval>; 4], u64),
-) -> Result<(), AllocError>
+) -> Result<([Option<Interval>; 4], u64), AllocError>
     requires { k < far }
 {
     let text = &text_of(rt, alloc, 0, words)?;
     let tokens = &tokens_of(rt, alloc, phrase)?;
-    same(
-        rt,
-        &phrase,
-        &counted(&AccessesAt { tokens, text, k }),
-        &want,
-    );
-    Ok(())
+    Ok(counted(&AccessesAt { tokens, text, k }))
+}
+
+/// Four answers, of the first start, the first end, the last end and the last start.
+fn four(
+    starting: Option<Interval>,
+    ending: Option<Interval>,
+    ended: Option<Interval>,
+    started: Option<Interval>,
+) -> [Option<Interval>; 4] {
+    [starting, ending, ended, started]
+}
+
+/// These are the answers, by this many look-ups.
+fn are_counted<R: Abort>(
+    rt: &R,
+    found: &([Option<Interval>; 4], u64),
+    want: [Option<Interval>; 4],
+    steps: u64,
+) {
+    same(rt, &"answers", &found.0, &want);
+    same(rt, &"look-ups", &found.1, &steps);
 }
 
 /// "to be" in `to or be to be` at 3: 2 look-ups for the first start, 2 for the first end, 3 for the last end and 2 for the last start.
 #[test]
 fn each_turn_of_a_walk_looks_up_each_token_once(rt: HostRuntime) -> Result<(), Fail> {
-    let to_be = Some(Interval::new(3, 4));
-    let want = ([to_be, to_be, None, to_be], 9);
     let words = &["to", "or", "be", "to", "be"];
-    takes(&rt, rt.alloc(), words, &["to", "be"], 3, want)?;
+    let found = counted_at(&rt, rt.alloc(), words, &["to", "be"], 3)?;
+    let to_be = Interval::new(3, 4);
+    let want = four(Some(to_be), Some(to_be), None, Some(to_be));
+    are_counted(&rt, &found, want, 9);
     Ok(())
 }
 
@@ -205,9 +220,10 @@ fn each_turn_of_a_walk_looks_up_each_token_once(rt: HostRuntime) -> Result<(), F
 /// takes none and 1.
 #[test]
 fn a_walk_ends_as_soon_as_each_token_agreed(rt: HostRuntime) -> Result<(), Fail> {
-    let the_king = Some(Interval::new(2, 3));
-    let want = ([the_king, the_king, None, None], 7);
     let words = &["the", "a", "the", "king", "a", "the"];
-    takes(&rt, rt.alloc(), words, &["the", "king"], 0, want)?;
+    let found = counted_at(&rt, rt.alloc(), words, &["the", "king"], 0)?;
+    let the_king = Interval::new(2, 3);
+    let want = four(Some(the_king), Some(the_king), None, None);
+    are_counted(&rt, &found, want, 7);
     Ok(())
 }

@@ -25,10 +25,34 @@ fn write(out: &mut Vec<u8>, expr: &Expr) -> Result<(), AllocError> {
         Expr::Both(operands) => write_chain(out, operands.as_slice(), b'^'),
         Expr::One(operands) => write_chain(out, operands.as_slice(), b'+'),
         Expr::Seq(operands) => write_chain(out, operands.as_slice(), b'.'),
-        Expr::Containing(left, right) => write_pair(out, left, right, b">"),
-        Expr::ContainedIn(left, right) => write_pair(out, left, right, b"<"),
-        Expr::NotContaining(left, right) => write_pair(out, left, right, b"/>"),
-        Expr::NotContainedIn(left, right) => write_pair(out, left, right, b"/<"),
+        Expr::Containing(left, right) => {
+            out.push(b'(')?;
+            write(out, left)?;
+            out.push(b'>')?;
+            write(out, right)?;
+            out.extend_from_slice(b")".as_slice())
+        }
+        Expr::ContainedIn(left, right) => {
+            out.push(b'(')?;
+            write(out, left)?;
+            out.push(b'<')?;
+            write(out, right)?;
+            out.extend_from_slice(b")".as_slice())
+        }
+        Expr::NotContaining(left, right) => {
+            out.push(b'(')?;
+            write(out, left)?;
+            out.extend_from_slice(b"/>".as_slice())?;
+            write(out, right)?;
+            out.extend_from_slice(b")".as_slice())
+        }
+        Expr::NotContainedIn(left, right) => {
+            out.push(b'(')?;
+            write(out, left)?;
+            out.extend_from_slice(b"/<".as_slice())?;
+            write(out, right)?;
+            out.extend_from_slice(b")".as_slice())
+        }
     }
 }
 
@@ -39,20 +63,6 @@ fn write_chain(out: &mut Vec<u8>, operands: &[Expr], joint: u8) -> Result<(), Al
         write(out, operand)?;
         out.push(joint)?;
     }
-    out.extend_from_slice(b")".as_slice())
-}
-
-#[cycle(write)]
-fn write_pair(
-    out: &mut Vec<u8>,
-    left: &Expr,
-    right: &Expr,
-    joint: &[u8],
-) -> Result<(), AllocError> {
-    out.push(b'(')?;
-    write(out, left)?;
-    out.extend_from_slice(joint)?;
-    write(out, right)?;
     out.extend_from_slice(b")".as_slice())
 }
 
