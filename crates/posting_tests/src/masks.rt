@@ -55,6 +55,12 @@ fn has_dead<R: Abort>(rt: &R, mask: &Mask, want: &[(u64, u64)]) {
     }
 }
 
+/// The mask has these ranges, and their addresses are dead.
+fn is_joined<R: Abort>(rt: &R, mask: &Mask, want: &[(u64, u64)]) {
+    has_ranges(rt, mask, want);
+    has_dead(rt, mask, want);
+}
+
 // The ranges that a mask is given, and those that it has then.
 const MASKS: [(&[(u64, u64)], &[(u64, u64)]); 7] = [
     (&[], &[]),
@@ -77,9 +83,7 @@ fn a_mask_has_the_ranges_that_it_was_given_joined_where_they_touch(
     rt: HostRuntime,
 ) -> Result<(), Fail> {
     for (given, want) in &MASKS {
-        let mask = given_ranges(&rt, rt.alloc(), given)?;
-        has_ranges(&rt, &mask, want);
-        has_dead(&rt, &mask, want);
+        is_joined(&rt, &given_ranges(&rt, rt.alloc(), given)?, want);
     }
     Ok(())
 }

@@ -365,15 +365,20 @@ fn has_one_slot<R: Abort>(rt: &R, version: &Version) {
     same(rt, &"files", &slot.records().len(), &1);
 }
 
+const BESIDE: [Step<'static>; 4] = [Add("to be or not to be"), Add(""), Del(0), Merge(0, 2)];
+
+/// The version has these words, which are those of a file's boundary at 8 and 9.
+fn has_one_file<R: Abort>(rt: &R, version: &Version, words: &[PlainWord<'_>]) {
+    same(rt, &"words", &difference(version, words), &None);
+    let start = plain_next(words, "<file!>", 0);
+    let end = plain_next(words, "</file!>", 0);
+    same(rt, &"boundary", &(start, end), &(Some(8), Some(9)));
+}
+
 #[test]
 fn words_keep_their_addresses_beside_a_deleted_file(rt: HostRuntime) -> Result<(), Fail> {
-    let steps = [Add("to be or not to be"), Add(""), Del(0), Merge(0, 2)];
-    let version = played(&rt, rt.alloc(), &steps)?;
+    let version = played(&rt, rt.alloc(), &BESIDE)?;
     has_one_slot(&rt, &version);
-    let words = plain_words(rt.alloc(), &steps)?;
-    same(&rt, &"words", &difference(&version, &words), &None);
-    let start = plain_next(&words, "<file!>", 0);
-    let end = plain_next(&words, "</file!>", 0);
-    same(&rt, &"boundary", &(start, end), &(Some(8), Some(9)));
+    has_one_file(&rt, &version, &plain_words(rt.alloc(), &BESIDE)?);
     Ok(())
 }

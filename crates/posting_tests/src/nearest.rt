@@ -2,7 +2,7 @@ use crate::checks::{holds, same};
 use crate::fixtures::addresses;
 use gcl_model::{Ledger, Question, Steps, counted};
 use posting_access::{at_or_after, at_or_before, rank};
-use posting_code::{ADDRESS_END, Postings, encode};
+use posting_code::{ADDRESS_END, PostingList, Postings, encode};
 use std::alloc::{AllocError, Global};
 use std::process::Abort;
 
@@ -214,8 +214,14 @@ fn two_addresses_far_apart_are_found(rt: HostRuntime) -> Result<(), AllocError> 
 }
 
 /// A look-up on either side takes so many probes.
-fn takes<R: Abort>(rt: &R, list: &Postings<'_>, k: u64, probes: (u64, u64)) {
-    same(rt, &k, &look_up(list, k).1, &probes);
+fn takes<R: Abort>(rt: &R, list: &PostingList, k: u64, probes: (u64, u64)) {
+    same(rt, &k, &look_up(&list.as_postings(), k).1, &probes);
+}
+
+fn takes_one_each<R: Abort>(rt: &R, list: &PostingList) {
+    for k in [0, 3, 9, 10] {
+        takes(rt, list, k, (1, 1));
+    }
 }
 
 /// Two blocks: behind the first one and before the second, the first address of the second is read once more.
@@ -229,11 +235,7 @@ fn is_between_blocks<R: Abort>(rt: &R, alloc: Global) -> Result<(), AllocError> 
 
 #[test]
 fn each_reading_of_a_first_address_is_a_probe(rt: HostRuntime) -> Result<(), AllocError> {
-    let few = encode(rt.alloc(), &[2, 5, 9])?;
-    for k in [0, 3, 9, 10] {
-        takes(&rt, &few.as_postings(), k, (1, 1));
-    }
-    let none = encode(rt.alloc(), &[])?;
-    takes(&rt, &none.as_postings(), 3, (0, 0));
+    takes_one_each(&rt, &encode(rt.alloc(), &[2, 5, 9])?);
+    takes(&rt, &encode(rt.alloc(), &[])?, 3, (0, 0));
     is_between_blocks(&rt, rt.alloc())
 }

@@ -123,13 +123,21 @@ const COUNTED: [Call<'static>; 8] = [
     Call::Load(b"d", Err(FileError::Failed)),
 ];
 
+/// The files fail at their third call and at their fourth.
+fn mem_files(alloc: Global) -> Result<MemFiles, AllocError> {
+    Ok(MemFiles::new(alloc, held(alloc)?, [3u64, 4].to_vec(alloc)?))
+}
+
+fn count_together<R: Abort>(rt: &R, alloc: Global, files: &mut MemFiles) {
+    answers(rt, alloc, files, &COUNTED);
+    same(rt, &"d", &files.content(b"d"), &None);
+    same(rt, &"c", &files.content(b"c"), &Some(b"or".as_slice()));
+}
+
 #[test]
 fn loads_and_keeps_are_counted_together(rt: HostRuntime) -> Result<(), Fail> {
-    let alloc = rt.alloc();
-    let mut files = MemFiles::new(alloc, held(alloc)?, [3u64, 4].to_vec(alloc)?);
-    answers(&rt, alloc, &mut files, &COUNTED);
-    same(&rt, &"d", &files.content(b"d"), &None);
-    same(&rt, &"c", &files.content(b"c"), &Some(b"or".as_slice()));
+    let mut files = mem_files(rt.alloc())?;
+    count_together(&rt, rt.alloc(), &mut files);
     Ok(())
 }
 
@@ -140,14 +148,17 @@ const KEPT: [Call<'static>; 2] = [
     Call::Load(b"d", Ok((Loaded::Long, b"or no"))),
 ];
 
+fn are_sure_of_bytes<R: Abort>(rt: &R, alloc: Global, files: &mut SureFiles) {
+    answers(rt, alloc, files, &UNHELD);
+    same(rt, &"d", &files.content(b"d"), &None);
+    answers(rt, alloc, files, &KEPT);
+    same(rt, &"a", &files.content(b"a"), &Some(b"to be".as_slice()));
+}
+
 #[test]
 fn a_sure_name_that_is_not_held_has_no_bytes(rt: HostRuntime) -> Result<(), Fail> {
-    let alloc = rt.alloc();
-    let mut files = SureFiles::new(alloc, held(alloc)?);
-    answers(&rt, alloc, &mut files, &UNHELD);
-    same(&rt, &"d", &files.content(b"d"), &None);
-    answers(&rt, alloc, &mut files, &KEPT);
-    same(&rt, &"a", &files.content(b"a"), &Some(b"to be".as_slice()));
+    let mut files = SureFiles::new(rt.alloc(), held(rt.alloc())?);
+    are_sure_of_bytes(&rt, rt.alloc(), &mut files);
     Ok(())
 }
 

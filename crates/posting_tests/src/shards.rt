@@ -151,12 +151,15 @@ const LOOK_UPS: [(&str, u64, Direction, Option<u64>); 9] = [
     ("", 0, Direction::Forward, None),
 ];
 
+fn finds_each<R: Abort>(rt: &R, shard: &Shard) {
+    for (word, k, direction, want) in &LOOK_UPS {
+        finds(rt, shard, word, *k, *direction, *want);
+    }
+}
+
 #[test]
 fn a_look_up_is_one_step_whatever_it_finds(rt: HostRuntime) -> Result<(), AllocError> {
-    let shard = hamlet(rt.alloc())?;
-    for (word, k, direction, want) in &LOOK_UPS {
-        finds(&rt, &shard, word, *k, *direction, *want);
-    }
+    finds_each(&rt, &hamlet(rt.alloc())?);
     Ok(())
 }
 
@@ -182,14 +185,17 @@ const TERMS: [(usize, &str, [Option<u64>; 3], u64); 4] = [
     (3, "to", [Some(1), Some(5), None], 2),
 ];
 
+fn has_each_term<R: Abort>(rt: &R, shard: &Shard) {
+    same(rt, &"terms", &shard.term_count(), &4);
+    for (place, term, postings, steps) in &TERMS {
+        has_term(rt, shard, *place, term, *steps as usize);
+        walks(rt, shard, *place, (*postings, *steps));
+    }
+}
+
 #[test]
 fn terms_come_in_byte_order_and_a_walk_in_address_order(rt: HostRuntime) -> Result<(), AllocError> {
-    let shard = hamlet(rt.alloc())?;
-    same(&rt, &"terms", &shard.term_count(), &4);
-    for (place, term, postings, steps) in &TERMS {
-        has_term(&rt, &shard, *place, term, *steps as usize);
-        walks(&rt, &shard, *place, (*postings, *steps));
-    }
+    has_each_term(&rt, &hamlet(rt.alloc())?);
     Ok(())
 }
 
@@ -204,42 +210,49 @@ const PLACES: [(&str, Option<usize>); 8] = [
     ("chapter100", None),
 ];
 
+fn has_each_place<R: Abort>(rt: &R, shard: &Shard) {
+    for (term, place) in &PLACES {
+        same(rt, term, &shard.place(term.as_bytes()), place);
+    }
+}
+
 #[test]
 fn terms_that_are_alike_in_eight_bytes_are_told_apart(rt: HostRuntime) -> Result<(), AllocError> {
-    let shard = chapters(rt.alloc())?;
-    for (term, place) in &PLACES {
-        same(&rt, term, &shard.place(term.as_bytes()), place);
-    }
+    has_each_place(&rt, &chapters(rt.alloc())?);
     Ok(())
 }
 
-/// The least term from a bound on, or after it, is this.
-fn has_term_from<R: Abort>(rt: &R, shard: &Shard, low: &str, strict: bool, want: Option<&str>) {
-    let want = want.map(|term: &str| term.as_bytes());
-    same(rt, &low, &shard.term_from(low.as_bytes(), strict), &want);
+/// A bound, whether the term is to come after it, and that term.
+type Bound = (&'static str, bool, Option<&'static [u8]>);
+
+/// The least term from each bound on, or after it, is this.
+fn has_terms_from<R: Abort>(rt: &R, shard: &Shard, bounds: &[Bound]) {
+    for (low, strict, want) in bounds {
+        same(rt, low, &shard.term_from(low.as_bytes(), *strict), want);
+    }
 }
 
-const BOUNDS: [(&str, bool, Option<&str>); 6] = [
-    ("", false, Some("be")),
-    ("be", false, Some("be")),
-    ("be", true, Some("not")),
-    ("bee", false, Some("not")),
+const OF_HAMLET: [Bound; 6] = [
+    ("", false, Some(b"be")),
+    ("be", false, Some(b"be")),
+    ("be", true, Some(b"not")),
+    ("bee", false, Some(b"not")),
     ("to", true, None),
     ("tz", false, None),
+];
+
+const OF_CHAPTERS: [Bound; 3] = [
+    ("chapter", true, Some(b"chapter\0")),
+    ("chapter1", true, Some(b"chapter10")),
+    ("chapter11", false, Some(b"chapter2")),
 ];
 
 #[test]
 fn the_least_term_from_a_bound_is_the_next_in_byte_order(
     rt: HostRuntime,
 ) -> Result<(), AllocError> {
-    let hamlet = hamlet(rt.alloc())?;
-    for (low, strict, want) in &BOUNDS {
-        has_term_from(&rt, &hamlet, low, *strict, *want);
-    }
-    let chapters = chapters(rt.alloc())?;
-    has_term_from(&rt, &chapters, "chapter", true, Some("chapter\0"));
-    has_term_from(&rt, &chapters, "chapter1", true, Some("chapter10"));
-    has_term_from(&rt, &chapters, "chapter11", false, Some("chapter2"));
+    has_terms_from(&rt, &hamlet(rt.alloc())?, &OF_HAMLET);
+    has_terms_from(&rt, &chapters(rt.alloc())?, &OF_CHAPTERS);
     Ok(())
 }
 
@@ -265,17 +278,19 @@ fn has_heads<R: Abort>(rt: &R, shard: &Shard, heads: &[u64]) {
     }
 }
 
+const HAMLET_HEADS: [u64; 2] = [0x6265_0000_0000_0000, 0x6e6f_7400_0000_0000];
+
+const CHAPTER_HEADS: [u64; 5] = [
+    0x6368_6170_7465_7200,
+    0x6368_6170_7465_7200,
+    0x6368_6170_7465_7231,
+    0x6368_6170_7465_7231,
+    0x6368_6170_7465_7232,
+];
+
 #[test]
 fn the_head_of_a_term_is_its_first_eight_bytes(rt: HostRuntime) -> Result<(), AllocError> {
-    let heads = [0x6265_0000_0000_0000, 0x6e6f_7400_0000_0000];
-    has_heads(&rt, &hamlet(rt.alloc())?, &heads);
-    let heads = [
-        0x6368_6170_7465_7200,
-        0x6368_6170_7465_7200,
-        0x6368_6170_7465_7231,
-        0x6368_6170_7465_7231,
-        0x6368_6170_7465_7232,
-    ];
-    has_heads(&rt, &chapters(rt.alloc())?, &heads);
+    has_heads(&rt, &hamlet(rt.alloc())?, &HAMLET_HEADS);
+    has_heads(&rt, &chapters(rt.alloc())?, &CHAPTER_HEADS);
     Ok(())
 }
