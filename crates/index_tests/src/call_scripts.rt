@@ -1,5 +1,6 @@
 ghost use Rattle.std.specs.Prelude.{◌≡◌, ◌<◌};
 
+use crate::checks::same;
 use crate::fixtures::opened;
 use Call::{Add, Delete, Merge};
 use address_space::{FileId, is_name};
@@ -9,6 +10,7 @@ use live_version::Version;
 use outside::FreeGate;
 use std::alloc::{AllocError, Global};
 use std::marker::Brand;
+use std::process::Abort;
 use std::sync::ledger::Blank;
 use std::sync::{Wait, ledger};
 use std::test::*;
@@ -155,7 +157,7 @@ fn looks_up(version: &Version, plain: &PlainFiles) -> bool {
 }
 
 /// What differs after these calls: a call that one alone accepts, or a look-up.
-#[derive(Clone, Copy, Debug, PartialEq, Eq)]
+#[derive(Clone, Copy, Debug, PartialEq)]
 enum Unlike {
     Accepts(usize),
     LooksUp,
@@ -202,6 +204,13 @@ fn played_anew<R: Wait>(
     differs
 }
 
+/// The calls answer as those of the plain collection.
+fn is_alike<R: Wait + Abort>(rt: &R, alloc: Global, calls: &[Call]) -> Result<(), AllocError> {
+    let differs = played_anew(rt, alloc, calls)?;
+    same(rt, &calls, &differs, &None);
+    Ok(())
+}
+
 /// Five calls, by their place among all such scripts.
 fn script(mut place: usize) -> [Call; 5] {
     let mut calls = [Merge; 5];
@@ -216,44 +225,42 @@ fn script(mut place: usize) -> [Call; 5] {
 #[test]
 fn every_script_of_five_calls_answers_as_the_plain_collection(rt: HostRuntime) -> Result<(), Fail> {
     for place in 0..16_807usize {
-        let calls = script(place);
-        let differs = played_anew(&rt, rt.alloc(), &calls)?;
-        assert_eq!(rt; differs, None, "{calls:?}");
+        is_alike(&rt, rt.alloc(), &script(place))?;
     }
     Ok(())
 }
 
+const MERGES: [&[Call]; 3] = [
+    &[
+        Add("to be or not to be"),
+        Add(""),
+        Delete(0),
+        Add("to be or not to be"),
+    ],
+    &[
+        Add("to be or not to be"),
+        Merge,
+        Add(""),
+        Merge,
+        Delete(0),
+        Merge,
+        Add("to be or not to be"),
+        Merge,
+    ],
+    &[
+        Add("to be or not to be"),
+        Add(""),
+        Delete(0),
+        Merge,
+        Merge,
+        Add("to be or not to be"),
+    ],
+];
+
 #[test]
 fn merges_between_change_no_look_up(rt: HostRuntime) -> Result<(), Fail> {
-    let scripts: [&[Call]; 3] = [
-        &[
-            Add("to be or not to be"),
-            Add(""),
-            Delete(0),
-            Add("to be or not to be"),
-        ],
-        &[
-            Add("to be or not to be"),
-            Merge,
-            Add(""),
-            Merge,
-            Delete(0),
-            Merge,
-            Add("to be or not to be"),
-            Merge,
-        ],
-        &[
-            Add("to be or not to be"),
-            Add(""),
-            Delete(0),
-            Merge,
-            Merge,
-            Add("to be or not to be"),
-        ],
-    ];
-    for calls in scripts {
-        let differs = played_anew(&rt, rt.alloc(), calls)?;
-        assert_eq!(rt; differs, None, "{calls:?}");
+    for calls in &MERGES {
+        is_alike(&rt, rt.alloc(), calls)?;
     }
     Ok(())
 }
@@ -275,9 +282,8 @@ fn a_thousand_adds_with_deletions_between_answer_as_the_plain_collection(
     rt: HostRuntime,
 ) -> Result<(), Fail> {
     let calls = long_script(rt.alloc())?;
-    assert_eq!(rt; calls.len(), 1_333);
-    let differs = played_anew(&rt, rt.alloc(), &calls)?;
-    assert_eq!(rt; differs, None);
+    same(&rt, &"calls", &calls.len(), &1_333);
+    is_alike(&rt, rt.alloc(), &calls)?;
     calls_reach();
     Ok(())
 }

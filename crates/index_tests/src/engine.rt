@@ -1,6 +1,7 @@
 ghost use Rattle.std.specs.Prelude.{◌≡◌, IfOk};
 ghost use Rattle.collection.specs.Changes.{IsOpened};
 
+use crate::checks::{holds, same};
 use crate::fixtures::opened;
 use address_space::{FileId, is_name};
 use collection::{AddFault, AdoptFault, DeleteFault, Engine, OpenFault};
@@ -28,16 +29,6 @@ fn added<R: Wait>(rt: &R, engine: &mut Engine, bytes: &[u8]) -> Result<(FileId, 
     Ok((added.id, added.first, added.last))
 }
 
-/// An add of these bytes answers so.
-fn adds<R: Wait + Abort>(
-    rt: &R,
-    engine: &mut Engine,
-    bytes: &[u8],
-    want: Result<(FileId, u64, u64), AddFault>,
-) {
-    assert_eq!(rt; added(rt, engine, bytes), want);
-}
-
 /// Merges, where numbers are left for it. It says whether it did.
 fn merged<R: Wait, G: Gate>(rt: &R, engine: &mut Engine, gate: &G) -> bool {
     engine.version().number() < MOST && engine.merge_all(rt, gate).is_ok()
@@ -56,11 +47,6 @@ fn numbers(engine: &Engine) -> [u64; 6] {
     ]
 }
 
-/// The numbers are these.
-fn has_numbers<R: Abort>(rt: &R, engine: &Engine, want: [u64; 6]) {
-    assert_eq!(rt; numbers(engine), want);
-}
-
 /// How many addresses each slot has.
 fn widths(alloc: Global, version: &Version) -> Result<Vec<u64>, AllocError> {
     let mut widths = Vec::new(alloc);
@@ -71,47 +57,136 @@ fn widths(alloc: Global, version: &Version) -> Result<Vec<u64>, AllocError> {
     Ok(widths)
 }
 
-/// The slots have so many addresses each.
-fn has_widths<R: Abort>(rt: &R, alloc: Global, engine: &Engine, want: &[u64]) {
-    match widths(alloc, engine.version()) {
-        Ok(widths) => assert_eq!(rt; widths.as_slice(), want),
-        Err(_) => assert!(rt; false, "memory is spent"),
+/// A version of no file, from which two were deleted before it was saved.
+fn image(alloc: Global) -> Result<Version, AllocError>
+    ensures { IfOk result IsOpened }
+{
+    let version = Version::of_slot(alloc, 7, 12, 2, None)?;
+    Ok(version)
+}
+
+/// Puts the image in the place of what is there, where numbers are left for it.
+fn adopted<R: Wait>(rt: &R, alloc: Global, engine: &mut Engine) -> Result<u64, AdoptFault> {
+    let version = image(alloc)?;
+    if MOST <= engine.version().number() {
+        return Err(AdoptFault::NoMemory);
     }
+    let receipt = engine.adopt(rt, version)?;
+    Ok(receipt.number)
+}
+
+/// A call of an engine with what it answers, or what the engine has then.
+#[derive(Clone, Copy)]
+enum Step {
+    Add(&'static [u8], Result<(FileId, u64, u64), AddFault>),
+    Delete(u64, Result<u64, DeleteFault>),
+    Merge,
+    /// The image of no file is put in the place of what is there.
+    Adopt(Result<u64, AdoptFault>),
+    Numbers([u64; 6]),
+}
+
+/// An add, a deletion or a merge answers so.
+fn is_made<R: Wait + Abort>(rt: &R, engine: &mut Engine, place: usize, step: &Step) {
+    match step {
+        Step::Add(bytes, want) => same(rt, &place, &added(rt, engine, bytes), want),
+        Step::Delete(id, want) => {
+            let answer = engine.delete(rt, FileId(*id)).map(|receipt| receipt.number);
+            same(rt, &place, &answer, want);
+        }
+        Step::Merge => holds(rt, &place, merged(rt, engine, &FreeGate)),
+        _ => {}
+    }
+}
+
+/// The step at a place answers so, or the engine has that.
+fn is_so<R: Wait + Abort>(rt: &R, alloc: Global, engine: &mut Engine, place: usize, step: &Step) {
+    match step {
+        Step::Adopt(want) => same(rt, &place, &adopted(rt, alloc, engine), want),
+        Step::Numbers(want) => same(rt, &place, &numbers(engine), want),
+        _ => is_made(rt, engine, place, step),
+    }
+}
+
+/// An engine that is opened from this address on goes through these steps.
+fn goes<R: Wait + Abort>(
+    rt: &R,
+    alloc: Global,
+    first: u64,
+    steps: &[Step],
+) -> Result<(), OpenFault> {
+    let (mut engine, _readers) = opened(rt, alloc, first, 1)?;
+    for (place, step) in steps.iter().enumerate() {
+        is_so(rt, alloc, &mut engine, place, step);
+    }
+    engine.end(rt);
+    Ok(())
+}
+
+/// The slots have so many addresses each, and these are the numbers.
+fn has<R: Abort>(
+    rt: &R,
+    alloc: Global,
+    engine: &Engine,
+    widths_are: &[u64],
+    numbers_are: [u64; 6],
+) {
+    let found = widths(alloc, engine.version()).expect(rt, "memory");
+    same(rt, &numbers_are, &found.as_slice(), &widths_are);
+    same(rt, &"numbers", &numbers(engine), &numbers_are);
 }
 
 #[test]
 fn an_engine_opens_up_to_the_end_of_addresses(rt: HostRuntime) -> Result<(), Fail> {
     match opened(&rt, rt.alloc(), ADDRESS_END + 1, 1) {
-        Err(fault) => assert_eq!(rt; fault, OpenFault::BadFirst(72_057_594_037_927_937)),
+        Err(fault) => same(
+            &rt,
+            &"a fault",
+            &fault,
+            &OpenFault::BadFirst(72_057_594_037_927_937),
+        ),
         Ok((engine, _readers)) => {
             engine.end(&rt);
-            assert!(rt; false, "an engine above the end of addresses");
+            holds(&rt, &"an engine above the end of addresses", false);
         }
     }
     Ok(())
 }
 
-/// A refusal for want of two addresses.
-fn spent(next: u64) -> Result<(FileId, u64, u64), AddFault> {
-    Err(AddFault::AddressesSpent { next, need: 2 })
-}
+const AT_END: [Step; 2] = [
+    Step::Add(
+        b"",
+        Err(AddFault::AddressesSpent {
+            next: 72_057_594_037_927_936,
+            need: 2,
+        }),
+    ),
+    Step::Numbers([0, 0, ADDRESS_END, ADDRESS_END, 0, 0]),
+];
 
 #[test]
 fn no_address_is_left_at_the_end(rt: HostRuntime) -> Result<(), Fail> {
-    let (mut engine, _readers) = opened(&rt, rt.alloc(), ADDRESS_END, 1)?;
-    adds(&rt, &mut engine, b"", spent(72_057_594_037_927_936));
-    has_numbers(&rt, &engine, [0, 0, ADDRESS_END, ADDRESS_END, 0, 0]);
-    engine.end(&rt);
+    goes(&rt, rt.alloc(), ADDRESS_END, &AT_END)?;
     Ok(())
 }
 
+const BEFORE_END: [Step; 2] = [
+    Step::Add(
+        b"to be or not to be",
+        Ok((FileId(0), ADDRESS_END - 8, ADDRESS_END - 1)),
+    ),
+    Step::Add(
+        b"",
+        Err(AddFault::AddressesSpent {
+            next: ADDRESS_END,
+            need: 2,
+        }),
+    ),
+];
+
 #[test]
 fn the_last_addresses_are_given(rt: HostRuntime) -> Result<(), Fail> {
-    let (mut engine, _readers) = opened(&rt, rt.alloc(), ADDRESS_END - 8, 1)?;
-    let whole = (FileId(0), ADDRESS_END - 8, ADDRESS_END - 1);
-    adds(&rt, &mut engine, b"to be or not to be", Ok(whole));
-    adds(&rt, &mut engine, b"", spent(ADDRESS_END));
-    engine.end(&rt);
+    goes(&rt, rt.alloc(), ADDRESS_END - 8, &BEFORE_END)?;
     Ok(())
 }
 
@@ -127,25 +202,26 @@ fn grows<R: Wait + Abort>(
     for _ in 0..adds {
         let _ = added(rt, &mut engine, b"");
     }
-    has_widths(rt, alloc, &engine, want);
-    has_numbers(rt, &engine, [adds, adds, 0, next, adds, 0]);
+    has(rt, alloc, &engine, want, [adds, adds, 0, next, adds, 0]);
     engine.end(rt);
     Ok(())
 }
 
+// How many files are added, the next address, and the widths of the slots.
+const GROWN: [(u64, u64, &[u64]); 7] = [
+    (0, 0, &[]),
+    (1, 2, &[2]),
+    (2, 4, &[4]),
+    (5, 10, &[10]),
+    (6, 12, &[10, 2]),
+    (7, 14, &[14]),
+    (33, 66, &[62, 4]),
+];
+
 #[test]
 fn the_last_slots_are_made_one_and_each_add_publishes_once(rt: HostRuntime) -> Result<(), Fail> {
-    let cases: [(u64, u64, &[u64]); 7] = [
-        (0, 0, &[]),
-        (1, 2, &[2]),
-        (2, 4, &[4]),
-        (5, 10, &[10]),
-        (6, 12, &[10, 2]),
-        (7, 14, &[14]),
-        (33, 66, &[62, 4]),
-    ];
-    for (adds, next, want) in cases {
-        grows(&rt, rt.alloc(), adds, next, want)?;
+    for (adds, next, want) in &GROWN {
+        grows(&rt, rt.alloc(), *adds, *next, want)?;
     }
     Ok(())
 }
@@ -209,26 +285,29 @@ fn merges<R: Wait + Abort>(
 ) -> Result<(), OpenFault> {
     let (mut engine, _readers) = opened(rt, alloc, 5, 1)?;
     filled(rt, &mut engine, changes.0, changes.1);
-    assert_eq!(rt; told_of_merge(rt, &mut engine), Some(want.1[0]));
-    has_widths(rt, alloc, &engine, want.0);
-    has_numbers(rt, &engine, want.1);
+    let told = told_of_merge(rt, &mut engine);
+    same(rt, &"told", &told, &Some(want.1[0]));
+    has(rt, alloc, &engine, want.0, want.1);
     engine.end(rt);
     Ok(())
 }
 
+const LONG: &[u8] = b"to be or not to be";
+
+// Files, how many of the first ones are deleted, and the widths of the slots and the numbers after a merge.
+const MERGED: [(&[&[u8]], u64, &[u64], [u64; 6]); 6] = [
+    (&[], 0, &[], [1, 0, 5, 5, 0, 0]),
+    (&[LONG], 0, &[8], [2, 1, 5, 13, 1, 0]),
+    (&[LONG], 1, &[], [3, 2, 5, 13, 1, 1]),
+    (&[LONG, b"", b""], 0, &[12], [4, 3, 5, 17, 3, 0]),
+    (&[LONG, b"", b""], 1, &[12], [5, 4, 5, 17, 3, 1]),
+    (&[LONG, b"", b""], 3, &[], [7, 6, 5, 17, 3, 3]),
+];
+
 #[test]
 fn a_merge_leaves_one_slot_or_none_and_tells_the_gate(rt: HostRuntime) -> Result<(), Fail> {
-    let long: &[u8] = b"to be or not to be";
-    let cases: [(&[&[u8]], u64, &[u64], [u64; 6]); 6] = [
-        (&[], 0, &[], [1, 0, 5, 5, 0, 0]),
-        (&[long], 0, &[8], [2, 1, 5, 13, 1, 0]),
-        (&[long], 1, &[], [3, 2, 5, 13, 1, 1]),
-        (&[long, b"", b""], 0, &[12], [4, 3, 5, 17, 3, 0]),
-        (&[long, b"", b""], 1, &[12], [5, 4, 5, 17, 3, 1]),
-        (&[long, b"", b""], 3, &[], [7, 6, 5, 17, 3, 3]),
-    ];
-    for (files, deletions, widths, numbers) in cases {
-        merges(&rt, rt.alloc(), (files, deletions), (widths, numbers))?;
+    for (files, deletions, widths, numbers) in &MERGED {
+        merges(&rt, rt.alloc(), (*files, *deletions), (*widths, *numbers))?;
     }
     Ok(())
 }
@@ -242,7 +321,7 @@ fn entered(reader: &mut Reader) -> Option<[u64; 3]> {
 
 /// The next pass is the first version, with one file.
 fn enters<R: Abort>(rt: &R, reader: &mut Reader) {
-    assert_eq!(rt; entered(reader), Some([1, 1, 8]));
+    same(rt, &"entered", &entered(reader), &Some([1, 1, 8]));
 }
 
 /// A file is added. The first reader learns the receipt and enters, then the second one enters, which learnt nothing.
@@ -258,8 +337,9 @@ fn both_enter<R: Wait + Abort>(rt: &R, engine: &mut Engine, first: &mut Reader, 
 /// The receipt and the pass are of the first version, with one file.
 fn shows_one_file<R: Abort>(rt: &R, engine: &Engine) -> Result<(), AllocError> {
     let receipt = engine.receipt();
-    assert_eq!(rt; (receipt.number, receipt.edition), (1, 1));
-    assert_eq!(rt; engine.pass()?.version().next(), 8);
+    let told = (receipt.number, receipt.edition);
+    same(rt, &"receipt", &told, &(1, 1));
+    same(rt, &"next", &engine.pass()?.version().next(), &8);
     Ok(())
 }
 
@@ -268,7 +348,7 @@ fn readers_see_what_was_published_whether_they_learn_it_or_not(
     rt: HostRuntime,
 ) -> Result<(), Fail> {
     let (mut engine, mut readers) = opened(&rt, rt.alloc(), 0, 2)?;
-    assert_eq!(rt; readers.len(), 2);
+    same(&rt, &"readers", &readers.len(), &2);
     if let (Some(mut first), Some(mut second)) = (readers.pop(), readers.pop()) {
         both_enter(&rt, &mut engine, &mut first, &mut second);
     }
@@ -278,73 +358,34 @@ fn readers_see_what_was_published_whether_they_learn_it_or_not(
     Ok(())
 }
 
-/// A deletion answers so, and leaves these numbers.
-fn deletes<R: Wait + Abort>(
-    rt: &R,
-    engine: &mut Engine,
-    id: u64,
-    want: Result<u64, DeleteFault>,
-    after: [u64; 6],
-) {
-    let answer = engine.delete(rt, FileId(id)).map(|receipt| receipt.number);
-    assert_eq!(rt; answer, want, "{id}");
-    has_numbers(rt, engine, after);
-}
+const REFUSED: [Step; 8] = [
+    Step::Add(b"to be", Ok((FileId(0), 3, 6))),
+    Step::Numbers([1, 1, 3, 7, 1, 0]),
+    Step::Delete(1, Err(DeleteFault::NotLive(FileId(1)))),
+    Step::Numbers([1, 1, 3, 7, 1, 0]),
+    Step::Delete(0, Ok(2)),
+    Step::Numbers([2, 2, 3, 7, 1, 1]),
+    Step::Delete(0, Err(DeleteFault::NotLive(FileId(0)))),
+    Step::Numbers([2, 2, 3, 7, 1, 1]),
+];
 
 #[test]
 fn a_refusal_leaves_all_as_it_was(rt: HostRuntime) -> Result<(), Fail> {
-    let (mut engine, _readers) = opened(&rt, rt.alloc(), 3, 1)?;
-    let _ = added(&rt, &mut engine, b"to be");
-    has_numbers(&rt, &engine, [1, 1, 3, 7, 1, 0]);
-    let cases = [
-        (1, Err(DeleteFault::NotLive(FileId(1))), [1, 1, 3, 7, 1, 0]),
-        (0, Ok(2), [2, 2, 3, 7, 1, 1]),
-        (0, Err(DeleteFault::NotLive(FileId(0))), [2, 2, 3, 7, 1, 1]),
-    ];
-    for (id, want, after) in cases {
-        deletes(&rt, &mut engine, id, want, after);
-    }
-    engine.end(&rt);
+    goes(&rt, rt.alloc(), 3, &REFUSED)?;
     Ok(())
 }
 
-/// A version of no file, from which two were deleted before it was saved.
-fn image(alloc: Global) -> Result<Version, AllocError>
-    ensures { IfOk result IsOpened }
-{
-    let version = Version::of_slot(alloc, 7, 12, 2, None)?;
-    Ok(version)
-}
-
-/// Puts the image in the place of what is there, where numbers are left for it.
-fn adopted<R: Wait>(rt: &R, alloc: Global, engine: &mut Engine) -> Result<u64, AdoptFault> {
-    let version = image(alloc)?;
-    if MOST <= engine.version().number() {
-        return Err(AdoptFault::NoMemory);
-    }
-    let receipt = engine.adopt(rt, version)?;
-    Ok(receipt.number)
-}
-
-/// Opening the image answers so.
-fn adopts<R: Wait + Abort>(
-    rt: &R,
-    alloc: Global,
-    engine: &mut Engine,
-    want: Result<u64, AdoptFault>,
-) {
-    assert_eq!(rt; adopted(rt, alloc, engine), want);
-}
+const OPENED: [Step; 6] = [
+    Step::Merge,
+    Step::Adopt(Ok(2)),
+    Step::Numbers([2, 1, 7, 12, 2, 0]),
+    Step::Adopt(Err(AdoptFault::NotEmpty(2))),
+    Step::Add(b"", Ok((FileId(2), 12, 13))),
+    Step::Numbers([3, 2, 7, 14, 3, 0]),
+];
 
 #[test]
 fn an_image_is_opened_where_there_never_was_a_file(rt: HostRuntime) -> Result<(), Fail> {
-    let (mut engine, _readers) = opened(&rt, rt.alloc(), 0, 1)?;
-    assert!(rt; merged(&rt, &mut engine, &FreeGate));
-    adopts(&rt, rt.alloc(), &mut engine, Ok(2));
-    has_numbers(&rt, &engine, [2, 1, 7, 12, 2, 0]);
-    adopts(&rt, rt.alloc(), &mut engine, Err(AdoptFault::NotEmpty(2)));
-    adds(&rt, &mut engine, b"", Ok((FileId(2), 12, 13)));
-    has_numbers(&rt, &engine, [3, 2, 7, 14, 3, 0]);
-    engine.end(&rt);
+    goes(&rt, rt.alloc(), 0, &OPENED)?;
     Ok(())
 }

@@ -4,7 +4,9 @@ ghost use Rattle.gcl_model.specs.Limits.{address_end};
 ghost use Rattle.gcl_model.specs.Slots.{slot_range};
 ghost use Rattle.index_shard.specs.Tables.{ArePostingsIn, IsShard};
 
-use address_space::{FileId, FileRecord, FileRun, Range};
+use crate::checks::{holds, same};
+use crate::versions::file;
+use address_space::{FileId, FileRun, Range};
 use gcl_model::{
     ADDRESS_END, Bytes, Direction, Interval, Leaves, Ledger, Pair, Question, Steps, TokenList,
     counted,
@@ -75,22 +77,6 @@ fn index(alloc: Global, range: Range, term: &[u8], gap: u64) -> Result<Shard, Al
     Ok(maker.finish())
 }
 
-fn file(alloc: Global, id: u64, base: u64, len: u64) -> Result<FileRecord, AllocError>
-    requires bounded { 2 ≤ len }
-    requires in_range { base + len ≤ address_end }
-    ensures id { IfOk result (λ file. file.id ≡ id) }
-    ensures base { IfOk result (λ file. file.base ≡ base) }
-    ensures len { IfOk result (λ file. file.len ≡ len) }
-{
-    let name = Bytes::copy_of(alloc, b"x")?;
-    Ok(FileRecord {
-        id: FileId(id),
-        base,
-        len,
-        name,
-    })
-}
-
 /// Three files side by side, each of a thousand addresses.
 fn three_files(alloc: Global, shard: Shard) -> Result<Slot, AllocError>
     requires { shard.range ≡ slot_range 0 2999 }
@@ -145,6 +131,19 @@ fn deleted<R: Abort>(rt: &R, version: &Version, id: u64) -> Result<Version, Allo
     version.without_file(FileId(id))
 }
 
+const LISTS: [(&str, u64); 10] = [
+    ("a", 1),
+    ("a", 63),
+    ("b", 64),
+    ("a", 64),
+    ("z", 1000),
+    ("a", 65),
+    ("a", 1000),
+    ("b", 128),
+    ("a", 129),
+    ("z", 1),
+];
+
 /// A slot with a dead middle, one without files, and lists whose lengths are about those of blocks.
 fn slots<R: Abort>(rt: &R, alloc: Global) -> Result<Version, AllocError> {
     let range = Range {
@@ -153,20 +152,11 @@ fn slots<R: Abort>(rt: &R, alloc: Global) -> Result<Version, AllocError> {
     };
     let slot = three_files(alloc, index(alloc, range, b"a", 1)?)?;
     let mut version = Version::of_slot(alloc, 0, 3000, 3, Some(slot))?;
-    let lists = [
-        (b"a", 1),
-        (b"a", 63),
-        (b"b", 64),
-        (b"a", 64),
-        (b"z", 1000),
-        (b"a", 65),
-        (b"a", 1000),
-        (b"b", 128),
-        (b"a", 129),
-        (b"z", 1),
-    ];
-    for (term, times) in lists {
-        version = added(alloc, &version, term, times)?.expect(rt, "a file may be added");
+    for (term, times) in &LISTS {
+        version = added(alloc, &version, term.as_bytes(), *times)?.expect(
+            rt,
+            "a file may be added",
+        );
     }
     deleted(rt, &deleted(rt, &version, 1)?, 6)
 }
@@ -192,6 +182,15 @@ fn found<V: Leaves>(leaves: &V, term: &str, k: u64, direction: Direction) -> (Op
     })
 }
 
+/// The fingers and the version answer the same at an address.
+fn both_answer<J: Naming, R: Abort>(rt: &R, version: &Version, fingers: &Fingers<'_, J>, k: u64) {
+    for (term, direction) in &ASKED {
+        let got = found(fingers, term, k, *direction);
+        let want = found(version, term, k, *direction);
+        same(rt, &(term, k, direction), &got, &want);
+    }
+}
+
 /// Asks fingers and the version the same, at addresses in no order.
 fn ask_both<J: Naming, R: Abort>(rt: &R, version: &Version)
     requires { version.now ≡ J.version }
@@ -202,22 +201,15 @@ fn ask_both<J: Naming, R: Abort>(rt: &R, version: &Version)
     }
     let mut state = 1u64;
     for _ in 0..5_000u32 {
-        state = state
-            .wrapping_mul(6364136223846793005)
-            .wrapping_add(1442695040888963407);
-        let k = (state >> 33) % 8000;
-        for (term, direction) in ASKED {
-            let got = found(&fingers, term, k, direction);
-            let want = found(version, term, k, direction);
-            assert_eq!(rt; got, want, "{term} at {k}, {direction:?}");
-        }
+        state = chance(state);
+        both_answer(rt, version, &fingers, (state >> 33) % 8000);
     }
 }
 
 #[test]
 fn look_ups_in_no_order_are_those_of_the_version(rt: HostRuntime) -> Result<(), Fail> {
     let version = slots(&rt, rt.alloc())?;
-    assert_eq!(rt; version.dels(), 2);
+    same(&rt, &"deletions", &version.dels(), &2);
     ask_both::<Brand, _>(&rt, &version);
     Ok(())
 }
@@ -275,7 +267,7 @@ fn of_chance<R: Abort>(rt: &R, alloc: Global) -> Result<Slot, AllocError>
     ensures mask { IfOk result (λ slot. slot.mask ≡ []) }
 {
     let words = chance_words(alloc, 1, 2998)?;
-    assert_eq!(rt; words.len(), 2998);
+    assert!(rt; words.len() == 2998);
     three_files(alloc, build(alloc, 0, &words)?)
 }
 
@@ -302,6 +294,35 @@ fn next_pair(version: &Version, first: &str, second: &str, k: u64) -> Option<u64
     None
 }
 
+/// Where the two words may stand next from `start` on, as the fingers say: no pair is passed over.
+fn told_from<J: Naming, R: Abort>(
+    rt: &R,
+    version: &Version,
+    fingers: &Fingers<'_, J>,
+    (first, second): (&str, &str),
+    start: u64,
+) -> u64 {
+    let told = fingers.earliest_pair(first.as_bytes(), second.as_bytes(), start);
+    let next = next_pair(version, first, second, start);
+    let case = (first, second, start);
+    holds(rt, &case, start <= told.at);
+    holds(rt, &case, next.is_none_or(|p| told.at <= p));
+    holds(rt, &case, !told.found || next == Some(told.at));
+    told.at
+}
+
+/// Where a phrase goes on that was told to look from `at` on.
+fn start_behind<J: Naming>(
+    fingers: &Fingers<'_, J>,
+    (first, second): (&str, &str),
+    at: u64,
+) -> Option<u64> {
+    let p = found(fingers, first, at, Direction::Forward).0?;
+    let start = p.saturating_add(1);
+    let q = found(fingers, second, start, Direction::Forward).0?;
+    Some(start.max(q.saturating_sub(1)))
+}
+
 /// Walks on from `k` as a phrase does, and gives over how many addresses it went without a look-up.
 fn went_over<J: Naming, R: Abort>(
     rt: &R,
@@ -310,30 +331,15 @@ fn went_over<J: Naming, R: Abort>(
     words: (&str, &str),
     k: u64,
 ) -> u64 {
-    let (first, second) = words;
     let mut start = k;
     let mut over = 0u64;
     for _ in 0..20u32 {
-        let told = fingers.earliest_pair(first.as_bytes(), second.as_bytes(), start);
-        let next = next_pair(version, first, second, start);
-        assert!(rt; start <= told.at, "{first} {second} at {start}");
-        assert!(rt;
-            next.is_none_or(|p| told.at <= p),
-            "{first} {second} at {start}"
-        );
-        assert!(rt;
-            !told.found || next == Some(told.at),
-            "{first} {second} at {start}"
-        );
-        over = over.saturating_add(told.at - start);
-        let Some(p) = found(fingers, first, told.at, Direction::Forward).0 else {
-            return over;
-        };
-        start = p.saturating_add(1);
-        let Some(q) = found(fingers, second, start, Direction::Forward).0 else {
-            return over;
-        };
-        start = start.max(q.saturating_sub(1));
+        let at = told_from(rt, version, fingers, words, start);
+        over = over.saturating_add(at.saturating_sub(start));
+        match start_behind(fingers, words, at) {
+            Some(next) => start = next,
+            None => return over,
+        }
     }
     over
 }
@@ -347,6 +353,20 @@ const ASIDE: [(&str, &str); 5] = [
     ("who", "of"),
 ];
 
+/// Over how many addresses walks from `k` on went without a look-up.
+fn went_over_all<J: Naming, R: Abort>(
+    rt: &R,
+    version: &Version,
+    fingers: &Fingers<'_, J>,
+    k: u64,
+) -> u64 {
+    let mut over = 0u64;
+    for words in &ASIDE {
+        over = over.saturating_add(went_over(rt, version, fingers, *words, k));
+    }
+    over
+}
+
 fn ask_aside<J: Naming, R: Abort>(rt: &R, version: &Version)
     requires { version.now ≡ J.version }
 {
@@ -358,25 +378,40 @@ fn ask_aside<J: Naming, R: Abort>(rt: &R, version: &Version)
     let mut over = 0u64;
     for _ in 0..200u32 {
         state = chance(state);
-        for words in ASIDE {
-            over = over.saturating_add(went_over(
-                rt,
-                version,
-                &fingers,
-                words,
-                (state >> 33) % 6000,
-            ));
-        }
+        let k = (state >> 33) % 6000;
+        over = over.saturating_add(went_over_all(rt, version, &fingers, k));
     }
-    assert!(rt; over > 10_000, "{over}");
+    holds(rt, &over, over > 10_000);
 }
 
 #[test]
 fn no_pair_is_passed_over(rt: HostRuntime) -> Result<(), Fail> {
     let version = chance_slots(&rt, rt.alloc())?;
-    assert_eq!(rt; version.dels(), 2);
+    same(&rt, &"deletions", &version.dels(), &2);
     ask_aside::<Brand, _>(&rt, &version);
     Ok(())
+}
+
+/// The word comes at `k` or later.
+fn is_found<J: Naming, R: Abort>(rt: &R, fingers: &Fingers<'_, J>, term: &str, k: u64) {
+    let (place, _) = found(fingers, term, k, Direction::Forward);
+    holds(rt, &(term, k), place.is_some());
+}
+
+/// The next pair from `k` on is told, and believed or not.
+fn is_told<J: Naming, R: Abort>(
+    rt: &R,
+    version: &Version,
+    fingers: &Fingers<'_, J>,
+    k: u64,
+    believed: bool,
+) {
+    let at = next_pair(version, "of", "the", k).expect(rt, "a pair comes soon");
+    let want = Pair {
+        at,
+        found: believed,
+    };
+    same(rt, &k, &fingers.earliest_pair(b"of", b"the", k), &want);
 }
 
 /// A block is unpacked as soon as it is looked into twice. A pair in it is believed where nothing in the slot is dead.
@@ -386,20 +421,11 @@ fn ask_unpacked<J: Naming, R: Abort>(rt: &R, version: &Version, believed: bool)
     let mut fingers = Fingers::<J>::new(version);
     for term in ["of", "the"] {
         fingers.add(term.as_bytes());
-        for k in [1, 2] {
-            assert!(rt; found(&fingers, term, k, Direction::Forward).0.is_some());
-        }
+        is_found(rt, &fingers, term, 1);
+        is_found(rt, &fingers, term, 2);
     }
     for k in 20..120u64 {
-        let at = next_pair(version, "of", "the", k).expect(rt, "a pair comes soon");
-        assert_eq!(rt;
-            fingers.earliest_pair(b"of", b"the", k),
-            Pair {
-                at,
-                found: believed
-            },
-            "at {k}"
-        );
+        is_told(rt, version, &fingers, k, believed);
     }
 }
 
@@ -463,6 +489,28 @@ fn looked_up<V: Leaves>(leaves: &V, k: u64, direction: Direction) -> Option<(u64
     }
 }
 
+/// Whether the interval is at hand after look-ups: then it is theirs, and takes three.
+fn is_at_hand<J: Naming, R: Abort>(
+    rt: &R,
+    fingers: &Fingers<'_, J>,
+    k: u64,
+    direction: Direction,
+) -> bool {
+    // the look-ups unpack the blocks around it, so they come first
+    let want = looked_up(fingers, k, direction);
+    let (got, count) = counted(&Element {
+        leaves: fingers,
+        k,
+        direction,
+    });
+    let Some(element) = got else {
+        return false;
+    };
+    let got = (Some((element.start, element.end)), count);
+    same(rt, &(k, direction), &got, &(want, 3));
+    true
+}
+
 /// Of how many addresses the interval was at hand, after look-ups that unpacked the blocks around it.
 fn times_at_hand<J: Naming, R: Abort>(rt: &R, version: &Version, direction: Direction) -> u64
     requires { version.now ≡ J.version }
@@ -473,18 +521,9 @@ fn times_at_hand<J: Naming, R: Abort>(rt: &R, version: &Version, direction: Dire
     }
     let mut times = 0u64;
     for k in 0..3000u64 {
-        let want = looked_up(&fingers, k, direction);
-        let (got, count) = counted(&Element {
-            leaves: &fingers,
-            k,
-            direction,
-        });
-        let Some(element) = got else {
-            continue;
-        };
-        times = times.saturating_add(1);
-        let got = (Some((element.start, element.end)), count);
-        assert_eq!(rt; got, (want, 3), "at {k}, {direction:?}");
+        if is_at_hand(rt, &fingers, k, direction) {
+            times = times.saturating_add(1);
+        }
     }
     times
 }
@@ -496,9 +535,9 @@ fn between_unpacked_words_is_at_hand_where_nothing_is_dead(rt: HostRuntime) -> R
     let rest = deleted(&rt, &version, 1)?;
     for direction in [Direction::Forward, Direction::Backward] {
         let times = times_at_hand::<Brand, _>(&rt, &version, direction);
-        assert!(rt; times > 2000, "{times}, {direction:?}");
+        holds(&rt, &(times, direction), times > 2000);
         let times = times_at_hand::<Brand, _>(&rt, &rest, direction);
-        assert_eq!(rt; times, 0, "{direction:?}");
+        same(&rt, &direction, &times, &0);
     }
     Ok(())
 }

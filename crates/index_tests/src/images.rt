@@ -1,6 +1,7 @@
 ghost use Rattle.std.specs.Prelude.{IfOk, IfSome};
 ghost use Rattle.image_file.specs.Images.{CanBeSaved};
 
+use crate::checks::{holds, same};
 use gcl_model::Bytes;
 use image_file::image;
 use image_read::{ImageFault, read_image};
@@ -168,7 +169,7 @@ const B_LONG: &[u8] = b"\x01b\x94\x01\x02";
 /// How many differences each of the two words has behind its first.
 const TWOS: usize = 148;
 
-fn joined(alloc: Global, parts: Parts) -> Result<Vec<u8>, AllocError> {
+fn joined(alloc: Global, parts: &Parts) -> Result<Vec<u8>, AllocError> {
     let mut out = Vec::new(alloc);
     for part in parts {
         out.extend_from_slice(part)?;
@@ -203,8 +204,8 @@ fn written_back(alloc: Global, bytes: &[u8]) -> Result<Option<Bytes>, AllocError
 /// These bytes, and no others, were written.
 fn is_written<R: Abort, C: Debug>(rt: &R, case: &C, written: Option<Bytes>, want: &[u8]) {
     match written {
-        Some(written) => assert_eq!(rt; written.as_slice(), want, "{case:?}"),
-        None => assert!(rt; false, "{case:?} is refused"),
+        Some(written) => same(rt, case, &written.as_slice(), &want),
+        None => holds(rt, case, false),
     }
 }
 
@@ -213,8 +214,8 @@ fn is_written_as<R: Abort>(
     rt: &R,
     alloc: Global,
     case: &str,
-    parts: Parts,
-    want: Parts,
+    parts: &Parts,
+    want: &Parts,
 ) -> Result<(), AllocError> {
     let want = joined(alloc, want)?;
     is_written(
@@ -223,73 +224,83 @@ fn is_written_as<R: Abort>(
         written_back(alloc, &joined(alloc, parts)?)?,
         &want,
     );
-    assert!(rt; is_image(alloc, &want)?, "{case}, written");
+    holds(rt, &case, is_image(alloc, &want)?);
     Ok(())
 }
 
+const A: Parts = [HEAD_A, FILE_A, TERMS_A];
+
+const B: Parts = [HEAD_B, FILE_B, TERMS_B];
+
+const OLD_B: Parts = [OLD_HEAD_B, OLD_FILE_B, OLD_TERMS_B];
+
+const NO_FILE: Parts = [EMPTY, b"", NO_TERMS];
+
+const NO_ADDRESS: Parts = [AT_END, b"", NO_TERMS];
+
+// What is read, and what is written then.
+const WRITTEN: [(&str, Parts, Parts); 6] = [
+    ("one file", A, A),
+    ("a hole", B, B),
+    ("a hole, in version 1", OLD_B, B),
+    ("no file", NO_FILE, NO_FILE),
+    ("no address left", NO_ADDRESS, NO_ADDRESS),
+    (
+        "no address left in version 1",
+        [OLD_AT_END, b"", NO_TERMS],
+        [NEW_AT_OLD_END, b"", NO_TERMS],
+    ),
+];
+
 #[test]
 fn what_is_read_is_written_as_version_two(rt: HostRuntime) -> Result<(), Fail> {
-    let a = [HEAD_A, FILE_A, TERMS_A];
-    let b = [HEAD_B, FILE_B, TERMS_B];
-    let empty = [EMPTY, b"", NO_TERMS];
-    let at_end = [AT_END, b"", NO_TERMS];
-    let cases = [
-        ("one file", a, a),
-        ("a hole", b, b),
-        (
-            "a hole, in version 1",
-            [OLD_HEAD_B, OLD_FILE_B, OLD_TERMS_B],
-            b,
-        ),
-        ("no file", empty, empty),
-        ("no address left", at_end, at_end),
-        (
-            "no address left in version 1",
-            [OLD_AT_END, b"", NO_TERMS],
-            [NEW_AT_OLD_END, b"", NO_TERMS],
-        ),
-    ];
-    for (case, parts, want) in cases {
+    for (case, parts, want) in &WRITTEN {
         is_written_as(&rt, rt.alloc(), case, parts, want)?;
     }
     Ok(())
 }
 
 /// The parts are no image.
-fn is_refused<R: Abort>(rt: &R, alloc: Global, case: &str, parts: Parts) -> Result<(), AllocError> {
-    assert!(rt; !is_image(alloc, &joined(alloc, parts)?)?, "{case}");
+fn is_refused<R: Abort>(
+    rt: &R,
+    alloc: Global,
+    case: &str,
+    parts: &Parts,
+) -> Result<(), AllocError> {
+    holds(rt, &case, !is_image(alloc, &joined(alloc, parts)?)?);
     Ok(())
 }
 
+const REFUSED: [(&str, Parts); 20] = [
+    ("too many files", [MANY_FILES, FILE_B, TERMS_B]),
+    ("too many terms", [HEAD_B, FILE_B, MANY_TERMS]),
+    ("a file that is too wide", [HEAD_WIDE, FILE_WIDE, TERMS_B]),
+    ("a padded number", [HEAD_B, b"\x81\0\x08\0\x01b", TERMS_B]),
+    ("a byte behind the last term", [HEAD_B, FILE_B, LONGER]),
+    ("terms that fall", [HEAD_B, FILE_B, FALLING]),
+    ("an address without a term", [HEAD_B, FILE_B, WITHOUT_START]),
+    ("an address twice under a term", [HEAD_B, FILE_B, TWICE]),
+    ("an end that is none", [HEAD_B, FILE_B, OUTSIDE]),
+    ("a start that is a word", [HEAD_B, FILE_B, OTHER_ROLE]),
+    ("no token", [HEAD_WITH_BE, FILE_WITH_BE, TERMS_WITH_BE]),
+    ("no name", [HEAD_B, b"\x01\x08\0\x01\x0a", TERMS_B]),
+    ("a hole, but no id", [ONE_ID, b"\0\x08\0\x01b", TERMS_B]),
+    ("an id, but no hole", [TWO_IDS, b"\0\0\0\x01b", AT_START]),
+    ("two at one address", [HEAD_TWO, SAME_ADDRESS, TERMS_TWO]),
+    ("two with one id", [HEAD_TWO, SAME_ID, TERMS_TWO]),
+    ("a first address behind the next", [TURNED, b"", NO_TERMS]),
+    ("the end of version 1", [OLD_BEYOND, b"", NO_TERMS]),
+    ("the end of version 2", [BEYOND, b"", NO_TERMS]),
+    ("the mark of no version", [UNMARKED, b"", NO_TERMS]),
+];
+
 #[test]
 fn what_is_laid_out_otherwise_is_no_image(rt: HostRuntime) -> Result<(), Fail> {
-    let cases = [
-        ("too many files", [MANY_FILES, FILE_B, TERMS_B]),
-        ("too many terms", [HEAD_B, FILE_B, MANY_TERMS]),
-        ("a file that is too wide", [HEAD_WIDE, FILE_WIDE, TERMS_B]),
-        ("a padded number", [HEAD_B, b"\x81\0\x08\0\x01b", TERMS_B]),
-        ("a byte behind the last term", [HEAD_B, FILE_B, LONGER]),
-        ("terms that fall", [HEAD_B, FILE_B, FALLING]),
-        ("an address without a term", [HEAD_B, FILE_B, WITHOUT_START]),
-        ("an address twice under a term", [HEAD_B, FILE_B, TWICE]),
-        ("an end that is none", [HEAD_B, FILE_B, OUTSIDE]),
-        ("a start that is a word", [HEAD_B, FILE_B, OTHER_ROLE]),
-        ("no token", [HEAD_WITH_BE, FILE_WITH_BE, TERMS_WITH_BE]),
-        ("no name", [HEAD_B, b"\x01\x08\0\x01\x0a", TERMS_B]),
-        ("a hole, but no id", [ONE_ID, b"\0\x08\0\x01b", TERMS_B]),
-        ("an id, but no hole", [TWO_IDS, b"\0\0\0\x01b", AT_START]),
-        ("two at one address", [HEAD_TWO, SAME_ADDRESS, TERMS_TWO]),
-        ("two with one id", [HEAD_TWO, SAME_ID, TERMS_TWO]),
-        ("a first address behind the next", [TURNED, b"", NO_TERMS]),
-        ("the end of version 1", [OLD_BEYOND, b"", NO_TERMS]),
-        ("the end of version 2", [BEYOND, b"", NO_TERMS]),
-        ("the mark of no version", [UNMARKED, b"", NO_TERMS]),
-    ];
-    for (case, parts) in cases {
+    for (case, parts) in &REFUSED {
         is_refused(&rt, rt.alloc(), case, parts)?;
     }
-    let two_files = joined(rt.alloc(), [HEAD_TWO, FILES_TWO, TERMS_TWO])?;
-    assert!(rt; is_image(rt.alloc(), &two_files)?);
+    let two_files = joined(rt.alloc(), &[HEAD_TWO, FILES_TWO, TERMS_TWO])?;
+    holds(&rt, &"two files", is_image(rt.alloc(), &two_files)?);
     Ok(())
 }
 
@@ -297,19 +308,14 @@ fn what_is_laid_out_otherwise_is_no_image(rt: HostRuntime) -> Result<(), Fail> {
 fn has_no_image_in_front<R: Abort>(rt: &R, alloc: Global, bytes: &[u8]) -> Result<(), AllocError> {
     for len in 0..bytes.len() {
         let (front, _) = bytes.split_at(len);
-        assert!(rt; !is_image(alloc, front)?, "{len} of {}", bytes.len());
+        holds(rt, &len, !is_image(alloc, front)?);
     }
     Ok(())
 }
 
 #[test]
 fn no_front_part_of_an_image_is_one(rt: HostRuntime) -> Result<(), Fail> {
-    let cases = [
-        [HEAD_A, FILE_A, TERMS_A],
-        [OLD_HEAD_B, OLD_FILE_B, OLD_TERMS_B],
-        [EMPTY, b"", NO_TERMS],
-    ];
-    for parts in cases {
+    for parts in &[A, OLD_B, NO_FILE] {
         has_no_image_in_front(&rt, rt.alloc(), &joined(rt.alloc(), parts)?)?;
     }
     Ok(())
@@ -342,18 +348,18 @@ fn kept_changes<R: Abort>(rt: &R, alloc: Global, bytes: &mut [u8]) -> Result<u64
 #[test]
 fn a_changed_byte_is_refused_or_written_back(rt: HostRuntime) -> Result<(), Fail> {
     let mut kept = 0u64;
-    for parts in [[HEAD_A, FILE_A, TERMS_A], [HEAD_B, FILE_B, TERMS_B]] {
+    for parts in &[A, B] {
         let mut bytes = joined(rt.alloc(), parts)?;
         kept = kept.wrapping_add(kept_changes(&rt, rt.alloc(), &mut bytes)?);
     }
-    assert!(rt; 0 < kept, "no changed byte is taken");
+    holds(&rt, &"a changed byte is taken", 0 < kept);
     Ok(())
 }
 
 /// The image of long lists, with these bytes in place of those at a place of the differences behind the first address of `a`, and others
 /// in place of those of `b`.
 fn long_image(alloc: Global, a: (usize, &[u8]), b: (usize, &[u8])) -> Result<Vec<u8>, AllocError> {
-    let mut out = joined(alloc, [HEAD_LONG, FILE_LONG, ENDS_LONG])?;
+    let mut out = joined(alloc, &[HEAD_LONG, FILE_LONG, ENDS_LONG])?;
     out.extend_from_slice(A_LONG)?;
     put_twos(&mut out, a)?;
     out.extend_from_slice(B_LONG)?;
@@ -374,26 +380,27 @@ fn put_twos(out: &mut Vec<u8>, change: (usize, &[u8])) -> Result<(), AllocError>
     Ok(())
 }
 
+const SAME: (usize, &[u8]) = (0, b"");
+
+// What is changed in the differences of `a`, and in those of `b`.
+const CHANGED: [(&str, (usize, &[u8]), (usize, &[u8])); 8] = [
+    ("a difference of nothing", (63, b"\0"), SAME),
+    ("the address before it again", SAME, (70, b"\0\x04")),
+    ("an address of another word", SAME, (64, b"\x01\x03")),
+    ("the end of the file", SAME, (147, b"\x03")),
+    ("beyond the file", SAME, (147, b"\x7f")),
+    ("an address without a word", SAME, (147, b"\x01")),
+    ("a padded difference", (64, b"\x82\0"), SAME),
+    ("a difference without an end", SAME, (147, b"\x82")),
+];
+
 #[test]
 fn long_lists_are_taken_over_exactly(rt: HostRuntime) -> Result<(), Fail> {
-    let same: (usize, &[u8]) = (0, b"");
-    let cases: [(&str, (usize, &[u8]), (usize, &[u8])); 8] = [
-        ("a difference of nothing", (63, b"\0"), same),
-        ("the address before it again", same, (70, b"\0\x04")),
-        ("an address of another word", same, (64, b"\x01\x03")),
-        ("the end of the file", same, (147, b"\x03")),
-        ("beyond the file", same, (147, b"\x7f")),
-        ("an address without a word", same, (147, b"\x01")),
-        ("a padded difference", (64, b"\x82\0"), same),
-        ("a difference without an end", same, (147, b"\x82")),
-    ];
-    for (case, a, b) in cases {
-        assert!(rt;
-            !is_image(rt.alloc(), &long_image(rt.alloc(), a, b)?)?,
-            "{case}"
-        );
+    for (case, a, b) in &CHANGED {
+        let bytes = long_image(rt.alloc(), *a, *b)?;
+        holds(&rt, case, !is_image(rt.alloc(), &bytes)?);
     }
-    let mut whole = long_image(rt.alloc(), same, same)?;
+    let mut whole = long_image(rt.alloc(), SAME, SAME)?;
     is_written(&rt, &"whole", written_back(rt.alloc(), &whole)?, &whole);
     kept_changes(&rt, rt.alloc(), &mut whole)?;
     Ok(())

@@ -7,12 +7,14 @@
 //! of `collection`, `images` of `image_read`, `plain_lists` of `plain_text`, `evaluation` of `gcl_eval`, and `fingers` of
 //! `term_fingers`.
 //!
-//! Beside them there are `fixtures`: what several tests begin with. Of an engine that was just opened from 5 on,
-//! with two readers, both have seen the empty version that begins at 5.
+//! Beside them there are `checks`, by which all compare, and `fixtures`: what several tests begin with. Of an engine that
+//! was just opened from 5 on, with two readers, both have seen the empty version that begins at 5.
 #![tactic(auto)]
 
 #[cfg(test)]
 mod call_scripts;
+#[cfg(test)]
+mod checks;
 #[cfg(test)]
 mod engine;
 #[cfg(test)]

@@ -1,3 +1,4 @@
+use crate::checks::{holds, same};
 use crate::fixtures::opened;
 use crate::versions::{with_words, without};
 use address_space::{FileId, is_name};
@@ -27,25 +28,26 @@ fn last_two_of_three<R: Abort>(rt: &R, alloc: Global) -> Result<Version, AllocEr
     Ok(without(&version, 0)?.expect(rt, "the file survives"))
 }
 
+const PLACES: [(&str, &[u64]); 6] = [
+    ("</file!>", &[11, 14]),
+    ("<file!>", &[8, 12]),
+    ("be", &[9, 13]),
+    ("not", &[]),
+    ("or", &[]),
+    ("to", &[10]),
+];
+
 #[test]
 fn terms_come_in_byte_order_with_their_live_postings(rt: HostRuntime) -> Result<(), Fail> {
     let version = last_two_of_three(&rt, rt.alloc())?;
-    let cases: [(&str, &[u64]); 6] = [
-        ("</file!>", &[11, 14]),
-        ("<file!>", &[8, 12]),
-        ("be", &[9, 13]),
-        ("not", &[]),
-        ("or", &[]),
-        ("to", &[10]),
-    ];
     let mut terms = SlotTerms::new(rt.alloc(), version.slots())?;
     let mut places = Vec::new(rt.alloc());
-    for (term, want) in cases {
+    for (term, want) in &PLACES {
         let found = terms.next(&mut places)?;
-        assert_eq!(rt; found, Some(term.as_bytes()));
-        assert_eq!(rt; places.as_slice(), want, "of {term}");
+        same(&rt, term, &found, &Some(term.as_bytes()));
+        same(&rt, term, &places.as_slice(), want);
     }
-    assert!(rt; terms.next(&mut places)?.is_none());
+    holds(&rt, &"no further term", terms.next(&mut places)?.is_none());
     Ok(())
 }
 
@@ -131,8 +133,10 @@ fn has_places<R: Abort>(
     version: &Version,
     want: &[u64],
 ) -> Result<(), AllocError> {
-    assert_eq!(rt; third_places(alloc, version)?.as_slice(), want);
-    assert_eq!(rt; version.count_of_term(b"be"), want.len() as u64);
+    let places = third_places(alloc, version)?;
+    same(rt, &"places", &places.as_slice(), &want);
+    let count = version.count_of_term(b"be");
+    same(rt, &"count", &count, &(want.len() as u64));
     Ok(())
 }
 
@@ -144,9 +148,9 @@ fn keeps<R: Wait + Abort>(
     ids: &[u64],
     want: &[u64],
 ) -> Result<(), AllocError> {
-    assert!(rt; deleted(rt, engine, ids));
+    holds(rt, &"deletions", deleted(rt, engine, ids));
     has_places(rt, alloc, engine.version(), want)?;
-    assert!(rt; merged(rt, engine));
+    holds(rt, &"merge", merged(rt, engine));
     has_places(rt, alloc, engine.version(), want)
 }
 
@@ -159,56 +163,57 @@ fn has_live<R: Wait + Abort>(
     want: usize,
 ) -> Result<(), Fail> {
     let places = plain_places(alloc, counts, ids)?;
-    assert_eq!(rt; places.len(), want, "{case}");
+    same(rt, &case, &places.len(), &want);
     let (mut engine, _readers) = opened(rt, alloc, 0, 0)?;
-    assert!(rt; added_in_one_slot(rt, alloc, &mut engine, counts), "{case}");
+    holds(rt, &case, added_in_one_slot(rt, alloc, &mut engine, counts));
     let kept = keeps(rt, alloc, &mut engine, ids, &places);
     engine.end(rt);
     kept?;
     Ok(())
 }
 
+// how often each file has `be`, which files are deleted, and how often the others have it; a block has 64 places
+const LISTS: [(&str, &[u16], &[u64], usize); 22] = [
+    ("one place", &[1], &[], 1),
+    ("none of one", &[1], &[0], 0),
+    ("no place in two files", &[0, 0], &[0], 0),
+    ("the first and not a block", &[1, 63], &[0], 63),
+    ("the last and not a block", &[64, 1], &[1], 64),
+    ("all but the last", &[64, 1], &[0], 1),
+    ("all but two blocks", &[1, 128], &[0], 128),
+    ("nothing is dead", &[200], &[], 200),
+    ("the first of a block", &[64, 1, 135], &[1], 199),
+    ("the last of a block", &[63, 1, 136], &[1], 199),
+    ("the ends of two blocks", &[63, 2, 135], &[1], 198),
+    ("what lies between two blocks", &[64, 0, 136], &[1], 200),
+    ("a whole block", &[64, 64, 72], &[1], 136),
+    ("a block but its ends", &[65, 62, 73], &[1], 138),
+    (
+        "three parts of a block",
+        &[70, 6, 5, 5, 14, 1, 99],
+        &[1, 3, 5],
+        188,
+    ),
+    (
+        "nothing of a block between ranges",
+        &[71, 0, 1, 0, 128],
+        &[1, 3],
+        200,
+    ),
+    ("the first", &[1, 199], &[0], 199),
+    ("the last", &[199, 1], &[1], 199),
+    ("all but the ends", &[1, 198, 1], &[1], 2),
+    ("all", &[200], &[0], 0),
+    ("all, by several ranges", &[71, 30, 99], &[0, 1, 2], 0),
+    ("of many blocks all but the ends", &[64, 935, 1], &[1], 65),
+];
+
 #[test]
 fn of_a_list_in_blocks_all_but_what_is_dead_is_counted_and_merged(
     rt: HostRuntime,
 ) -> Result<(), Fail> {
-    // how often each file has `be`, which files are deleted, and how often the others have it; a block has 64 places
-    let cases: [(&str, &[u16], &[u64], usize); 22] = [
-        ("one place", &[1], &[], 1),
-        ("none of one", &[1], &[0], 0),
-        ("no place in two files", &[0, 0], &[0], 0),
-        ("the first and not a block", &[1, 63], &[0], 63),
-        ("the last and not a block", &[64, 1], &[1], 64),
-        ("all but the last", &[64, 1], &[0], 1),
-        ("all but two blocks", &[1, 128], &[0], 128),
-        ("nothing is dead", &[200], &[], 200),
-        ("the first of a block", &[64, 1, 135], &[1], 199),
-        ("the last of a block", &[63, 1, 136], &[1], 199),
-        ("the ends of two blocks", &[63, 2, 135], &[1], 198),
-        ("what lies between two blocks", &[64, 0, 136], &[1], 200),
-        ("a whole block", &[64, 64, 72], &[1], 136),
-        ("a block but its ends", &[65, 62, 73], &[1], 138),
-        (
-            "three parts of a block",
-            &[70, 6, 5, 5, 14, 1, 99],
-            &[1, 3, 5],
-            188,
-        ),
-        (
-            "nothing of a block between ranges",
-            &[71, 0, 1, 0, 128],
-            &[1, 3],
-            200,
-        ),
-        ("the first", &[1, 199], &[0], 199),
-        ("the last", &[199, 1], &[1], 199),
-        ("all but the ends", &[1, 198, 1], &[1], 2),
-        ("all", &[200], &[0], 0),
-        ("all, by several ranges", &[71, 30, 99], &[0, 1, 2], 0),
-        ("of many blocks all but the ends", &[64, 935, 1], &[1], 65),
-    ];
-    for (case, counts, ids, want) in cases {
-        has_live(&rt, rt.alloc(), case, (counts, ids), want)?;
+    for (case, counts, ids, want) in &LISTS {
+        has_live(&rt, rt.alloc(), case, (*counts, *ids), *want)?;
     }
     Ok(())
 }

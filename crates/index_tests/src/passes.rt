@@ -4,6 +4,7 @@ ghost use Rattle.gcl_model.specs.FormOf.{form_of};
 ghost use Rattle.gcl_model.specs.Limits.{far};
 ghost use Rattle.gcl_model.specs.WellFormed.{IsWellFormed};
 
+use crate::checks::same;
 use crate::publications::{added, shared};
 use gcl_model::{Expr, IntervalList, Ledger, Question, Steps, counted, uncounted};
 use gcl_parser::parse;
@@ -16,10 +17,11 @@ use std::sync::Wait;
 use std::test::*;
 use std::thread::{Threads, join};
 
-pub(crate) fn query(alloc: Global, text: &[u8]) -> Option<Expr>
-    ensures { IfSome result (λ expr. IsWellFormed (form_of expr)) }
+/// The expression of a query.
+pub(crate) fn query<R: Abort>(rt: &R, alloc: Global, text: &str) -> Expr
+    ensures { IsWellFormed (form_of result) }
 {
-    parse(alloc, text).ok()
+    parse(alloc, text.as_bytes()).ok().expect(rt, "a query")
 }
 
 /// How many members there are.
@@ -113,29 +115,40 @@ fn listed(
     Ok(members)
 }
 
-/// A pass of one file of these bytes.
-fn pass_of<R: Wait>(rt: &R, alloc: Global, bytes: &[u8]) -> Result<Option<Pass>, AllocError> {
-    let opening = shared(alloc, Version::empty(alloc, 0))?;
-    let (mut publisher, _readers) = Publisher::new(rt, alloc, opening, 0)?;
-    let pass = match added(alloc, &publisher, bytes) {
-        Ok(Some(version)) => match publisher.publish(rt, version) {
-            Ok(_receipt) => publisher.pass().ok(),
-            Err(_) => None,
-        },
-        _ => None,
-    };
-    publisher.end(rt);
-    Ok(pass)
+/// Whether the version with one file more, of these bytes, was published.
+fn is_published<R: Wait>(rt: &R, alloc: Global, publisher: &mut Publisher, bytes: &[u8]) -> bool {
+    match added(alloc, publisher, bytes) {
+        Ok(Some(version)) => publisher.publish(rt, version).is_ok(),
+        _ => false,
+    }
+}
+
+/// A pass with one file more, of these bytes.
+fn next_pass<R: Wait>(
+    rt: &R,
+    alloc: Global,
+    publisher: &mut Publisher,
+    bytes: &[u8],
+) -> Option<Pass> {
+    if is_published(rt, alloc, publisher, bytes) {
+        publisher.pass().ok()
+    } else {
+        None
+    }
 }
 
 /// A pass of one file of these bytes.
 fn pass_on<R: Wait + Abort>(rt: &R, alloc: Global, bytes: &[u8]) -> Result<Pass, AllocError> {
-    Ok(pass_of(rt, alloc, bytes)?.expect(rt, "one file"))
+    let opening = shared(alloc, Version::empty(alloc, 0))?;
+    let (mut publisher, _readers) = Publisher::new(rt, alloc, opening, 0)?;
+    let pass = next_pass(rt, alloc, &mut publisher, bytes);
+    publisher.end(rt);
+    Ok(pass.expect(rt, "one file"))
 }
 
 /// How many members the query has, and how many look-ups the count took.
-fn count_of<R: Abort>(rt: &R, alloc: Global, pass: &Pass, text: &[u8]) -> (u64, u64) {
-    let expr = query(alloc, text).expect(rt, "a query");
+fn count_of<R: Abort>(rt: &R, alloc: Global, pass: &Pass, text: &str) -> (u64, u64) {
+    let expr = query(rt, alloc, text);
     counted(&Counting { pass, expr: &expr })
 }
 
@@ -151,31 +164,52 @@ fn many_words(alloc: Global) -> Result<Vec<u8>, AllocError> {
 #[test]
 fn a_count_leaps_over_a_hundred_thousand_words(rt: HostRuntime) -> Result<(), Fail> {
     let pass = pass_on(&rt, rt.alloc(), &many_words(rt.alloc())?)?;
-    let found = count_of(&rt, rt.alloc(), &pass, b"\"x\"^\"y\"");
-    assert_eq!(rt; found, (2, 10), "members, and look-ups");
+    let found = count_of(&rt, rt.alloc(), &pass, "\"x\"^\"y\"");
+    same(&rt, &"members, and look-ups", &found, &(2, 10));
     Ok(())
 }
+
+const TERM_COUNTS: [(&str, u64); 5] = [
+    ("\"to\"", 2),
+    ("\"who\"", 0),
+    ("\"to\"+\"be\"", 4),
+    ("\"to\"+\"be\"+\"to\"", 4),
+    ("\"who\"+\"not\"+\"who\"+\"not\"", 1),
+];
 
 #[test]
 fn a_term_and_one_of_several_terms_are_counted_without_a_look_up(
     rt: HostRuntime,
 ) -> Result<(), Fail> {
     let pass = pass_on(&rt, rt.alloc(), b"to be or not to be")?;
-    let cases = [
-        ("\"to\"", 2),
-        ("\"who\"", 0),
-        ("\"to\"+\"be\"", 4),
-        ("\"to\"+\"be\"+\"to\"", 4),
-        ("\"who\"+\"not\"+\"who\"+\"not\"", 1),
-    ];
-    for (text, want) in cases {
-        let found = count_of(&rt, rt.alloc(), &pass, text.as_bytes());
-        assert_eq!(rt; found, (want, 0), "{text}");
+    for (text, want) in &TERM_COUNTS {
+        let found = count_of(&rt, rt.alloc(), &pass, text);
+        same(&rt, text, &found, &(*want, 0));
     }
-    let (members, _) = count_of(&rt, rt.alloc(), &pass, b"\"to\"+\"not to\"");
-    assert_eq!(rt; members, 2);
+    let (members, _) = count_of(&rt, rt.alloc(), &pass, "\"to\"+\"not to\"");
+    same(&rt, &"one of a term and a phrase", &members, &2);
     Ok(())
 }
+
+/// The first members, from the first one on or from an address, are these.
+fn lists<R: Abort>(
+    rt: &R,
+    alloc: Global,
+    pass: &Pass,
+    expr: &Expr,
+    from: Option<u64>,
+    most: u64,
+    want: &[(u64, u64)],
+) -> Result<(), AllocError>
+    requires below { IfSome from (λ k. k < far) }
+    requires well_formed { IsWellFormed (form_of expr.now) }
+{
+    let members = listed(alloc, pass, expr, from, most)?;
+    same(rt, &(from, most), &members.as_slice(), &want);
+    Ok(())
+}
+
+const MEMBERS: [(u64, u64); 2] = [(1, 2), (5, 6)];
 
 fn lists_as_many_as_are_wanted<R: Abort>(
     rt: &R,
@@ -185,33 +219,25 @@ fn lists_as_many_as_are_wanted<R: Abort>(
 ) -> Result<(), AllocError>
     requires { IsWellFormed (form_of expr.now) }
 {
-    let all = [(1, 2), (5, 6)];
     for most in 0..4u64 {
-        let members = listed(alloc, pass, expr, None, most)?;
-        let want = all.split_at(all.len().min(most as usize)).0;
-        assert_eq!(rt; members.as_slice(), want, "the first {most}");
+        let want = &MEMBERS[..MEMBERS.len().min(most as usize)];
+        lists(rt, alloc, pass, expr, None, most, want)?;
     }
-    let members = listed(alloc, pass, expr, Some(2), 4)?;
-    assert_eq!(rt; members.as_slice(), all.split_at(1).1);
-    Ok(())
+    lists(rt, alloc, pass, expr, Some(2), 4, &MEMBERS[1..])
 }
 
 #[test]
 fn the_first_members_are_listed(rt: HostRuntime) -> Result<(), Fail> {
-    let alloc = rt.alloc();
-    let pass = pass_on(&rt, alloc, b"to be or not to be")?;
-    let expr = query(alloc, b"\"to be\"").expect(&rt, "a query");
-    lists_as_many_as_are_wanted(&rt, alloc, &pass, &expr)?;
+    let pass = pass_on(&rt, rt.alloc(), b"to be or not to be")?;
+    let expr = query(&rt, rt.alloc(), "\"to be\"");
+    lists_as_many_as_are_wanted(&rt, rt.alloc(), &pass, &expr)?;
     Ok(())
 }
 
 /// Adds so many files. It says whether all were published.
 fn add_all<R: Wait>(rt: &R, alloc: Global, publisher: &mut Publisher, times: u64) -> bool {
     for _ in 0..times {
-        let Ok(Some(version)) = added(alloc, publisher, b"to be or not to be") else {
-            return false;
-        };
-        if publisher.publish(rt, version).is_err() {
+        if !is_published(rt, alloc, publisher, b"to be or not to be") {
             return false;
         }
     }
@@ -282,7 +308,7 @@ fn add_beside_two<R: Threads + Wait + Sync>(
 #[test]
 fn one_thread_adds_while_two_read(rt: HostRuntime) -> Result<(), Fail> {
     let alloc = rt.alloc();
-    let expr = query(alloc, b"\"to be\"").expect(&rt, "a query");
+    let expr = query(&rt, alloc, "\"to be\"");
     let opening = shared(alloc, Version::empty(alloc, 0))?;
     let (mut publisher, mut readers) = Publisher::new(&rt, alloc, opening, 2)?;
     let done = match (readers.pop(), readers.pop()) {
@@ -292,6 +318,6 @@ fn one_thread_adds_while_two_read(rt: HostRuntime) -> Result<(), Fail> {
         _ => (false, (false, false)),
     };
     publisher.end(&rt);
-    assert_eq!(rt; done, (true, (true, true)));
+    same(&rt, &"done", &done, &(true, (true, true)));
     Ok(())
 }

@@ -1,3 +1,4 @@
+use crate::checks::same;
 use crate::passes::query;
 use gcl_model::{IntervalList, Leaves, Ledger, Question, Span, Steps, TokenList, counted};
 use plain_text::{PlainText, of_tokens, slow_list};
@@ -9,7 +10,7 @@ use std::test::Fail;
 fn hamlet<R: Abort>(rt: &R, alloc: Global) -> Result<PlainText, AllocError> {
     let words = ["<file!>", "to", "be", "or", "not", "to", "be", "</file!>"];
     let tokens = TokenList::of(alloc, &words)?;
-    assert_eq!(rt; tokens.len(), 8);
+    assert!(rt; tokens.len() == 8);
     of_tokens(alloc, 0, &tokens)
 }
 
@@ -41,14 +42,14 @@ impl Question for PlacesOfTo<'_> {
 
 /// The places of `to` are these, and were found in one step each.
 fn has_places<R: Abort>(rt: &R, text: &PlainText, want: [Option<u64>; 4]) {
-    assert_eq!(rt; counted(&PlacesOfTo { text }), (want, 4));
+    same(rt, &"places", &counted(&PlacesOfTo { text }), &(want, 4));
 }
 
 #[test]
 fn each_look_up_is_one_step(rt: HostRuntime) -> Result<(), Fail> {
     let text = hamlet(&rt, rt.alloc())?;
     has_places(&rt, &text, [Some(5), None, Some(1), None]);
-    assert_eq!(rt; text.span(), Span { first: 0, next: 8 });
+    same(&rt, &"span", &text.span(), &Span { first: 0, next: 8 });
     Ok(())
 }
 
@@ -82,31 +83,32 @@ fn has<R: Abort>(
     asked: &str,
     want: &[(u64, u64)],
 ) -> Result<(), AllocError> {
-    let expr = query(alloc, asked.as_bytes()).expect(rt, "a query");
+    let expr = query(rt, alloc, asked);
     let list = slow_list(alloc, &expr, text)?;
-    assert_eq!(rt; ends(alloc, &list)?.as_slice(), want, "{asked}");
+    same(rt, &asked, &ends(alloc, &list)?.as_slice(), &want);
     Ok(())
 }
+
+const QUERIES: [(&str, &[(u64, u64)]); 13] = [
+    ("\"to\"..\"be\"", &[(1, 2), (5, 6)]),
+    ("\"be\"..\"be\"", &[(2, 6)]),
+    ("\"to\"^\"not\"", &[(1, 4), (4, 5)]),
+    ("(\"to\"^\"not\")+\"be\"", &[(2, 2), (4, 5), (6, 6)]),
+    ("(\"be\"..\"to\")>\"not\"", &[(2, 5)]),
+    ("(\"be\"..\"to\")/>\"or\"", &[]),
+    ("\"to\"<(\"be\"..\"to\")", &[(5, 5)]),
+    ("\"to\"/<(\"be\"..\"to\")", &[(1, 1)]),
+    ("[7]", &[(0, 6), (1, 7)]),
+    ("[8]", &[(0, 7)]),
+    ("[9]", &[]),
+    ("(\"to\"^\"not\")<[3]", &[(4, 5)]),
+    ("\"to be\"", &[(1, 2), (5, 6)]),
+];
 
 #[test]
 fn members_are_found_by_a_look_at_every_pair(rt: HostRuntime) -> Result<(), Fail> {
     let text = hamlet(&rt, rt.alloc())?;
-    let cases: [(&str, &[(u64, u64)]); 13] = [
-        ("\"to\"..\"be\"", &[(1, 2), (5, 6)]),
-        ("\"be\"..\"be\"", &[(2, 6)]),
-        ("\"to\"^\"not\"", &[(1, 4), (4, 5)]),
-        ("(\"to\"^\"not\")+\"be\"", &[(2, 2), (4, 5), (6, 6)]),
-        ("(\"be\"..\"to\")>\"not\"", &[(2, 5)]),
-        ("(\"be\"..\"to\")/>\"or\"", &[]),
-        ("\"to\"<(\"be\"..\"to\")", &[(5, 5)]),
-        ("\"to\"/<(\"be\"..\"to\")", &[(1, 1)]),
-        ("[7]", &[(0, 6), (1, 7)]),
-        ("[8]", &[(0, 7)]),
-        ("[9]", &[]),
-        ("(\"to\"^\"not\")<[3]", &[(4, 5)]),
-        ("\"to be\"", &[(1, 2), (5, 6)]),
-    ];
-    for (asked, want) in cases {
+    for (asked, want) in &QUERIES {
         has(&rt, rt.alloc(), &text, asked, want)?;
     }
     Ok(())

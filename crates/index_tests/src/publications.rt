@@ -1,6 +1,8 @@
 ghost use Rattle.std.specs.Prelude.{◌≡◌, ◌≤◌, ◌++◌, ◌∷◌, [], IfOk, IfSome};
+ghost use Rattle.gcl_model.specs.Limits.{most_readers};
 ghost use Rattle.manifest_publish.specs.Histories.{IsLawful};
 
+use crate::checks::same;
 use address_space::{FileId, FileRecord, is_name};
 use gcl_model::{ADDRESS_END, Bytes};
 use live_version::Version;
@@ -8,6 +10,7 @@ use manifest_publish::{EnterFault, Publisher, Reader, Receipt};
 use shard_build::build;
 use std::alloc::{AllocError, Global};
 use std::marker::{Brand, PhantomData};
+use std::process::Abort;
 use std::sync::{Arc, Mutex, Wait};
 use std::test::*;
 use std::thread::{Threads, join};
@@ -111,20 +114,29 @@ fn a_reader_that_learnt_nothing_sees_what_is_published(rt: HostRuntime) -> Resul
     let receipt = publisher.receipt();
     let pass = publisher.pass();
     publisher.end(&rt);
-    assert_eq!(rt; made, 2);
-    assert_eq!(rt; numbers, Some([(1, 1); 3]));
-    assert_eq!(rt; (receipt.number, receipt.edition), (1, 1));
-    assert_eq!(rt; pass?.version().next(), 7);
+    same(&rt, &"readers", &made, &2);
+    same(&rt, &"numbers", &numbers, &Some([(1, 1); 3]));
+    let told = (receipt.number, receipt.edition);
+    same(&rt, &"receipt", &told, &(1, 1));
+    same(&rt, &"next", &pass?.version().next(), &7);
     Ok(())
+}
+
+/// How many readers a publisher is made with that is asked for so many.
+fn readers_made<R: Wait>(rt: &R, alloc: Global, readers: usize) -> Result<usize, AllocError>
+    requires { readers ≤ most_readers }
+{
+    let opening = shared(alloc, Version::empty(alloc, 5))?;
+    let (publisher, made) = Publisher::new(rt, alloc, opening, readers)?;
+    publisher.end(rt);
+    Ok(made.len())
 }
 
 #[test]
 fn as_many_readers_are_made_as_are_asked_for(rt: HostRuntime) -> Result<(), Fail> {
     for readers in [0, 1, 16] {
-        let opening = shared(rt.alloc(), Version::empty(rt.alloc(), 5))?;
-        let (publisher, made) = Publisher::new(&rt, rt.alloc(), opening, readers)?;
-        publisher.end(&rt);
-        assert_eq!(rt; made.len(), readers);
+        let made = readers_made(&rt, rt.alloc(), readers)?;
+        same(&rt, &"readers", &made, &readers);
     }
     Ok(())
 }
@@ -146,24 +158,39 @@ fn told<R: Wait>(
     Some(number)
 }
 
-#[test]
-fn once_the_publisher_has_ended_a_reader_gets_its_last_pass_or_is_owed_more(
-    rt: HostRuntime,
-) -> Result<(), Fail> {
-    let opening = shared(rt.alloc(), Version::empty(rt.alloc(), 5))?;
-    let (mut publisher, mut readers) = Publisher::new(&rt, rt.alloc(), opening, 2)?;
+/// The number of the version that the first reader was told, and both readers of a publisher that has ended then.
+fn told_and_ended<R: Wait>(
+    rt: &R,
+    alloc: Global,
+) -> Result<Option<(Option<u64>, Reader, Reader)>, AllocError> {
+    let opening = shared(alloc, Version::empty(alloc, 5))?;
+    let (mut publisher, mut readers) = Publisher::new(rt, alloc, opening, 2)?;
     let ends = match (readers.pop(), readers.pop()) {
         (Some(mut first), Some(second)) => {
-            let number = told(&rt, rt.alloc(), &mut publisher, &mut first);
+            let number = told(rt, alloc, &mut publisher, &mut first);
             Some((number, first, second))
         }
         _ => None,
     };
-    publisher.end(&rt);
+    publisher.end(rt);
+    Ok(ends)
+}
+
+/// The first reader is owed a version, and the second one gets its last pass.
+fn are_left<R: Abort>(rt: &R, first: &mut Reader, second: &mut Reader) {
+    let owed = Err(EnterFault::NoEntry(0));
+    same(rt, &"first", &entered(first), &owed);
+    same(rt, &"second", &entered(second), &Ok((0, 0)));
+}
+
+#[test]
+fn once_the_publisher_has_ended_a_reader_gets_its_last_pass_or_is_owed_more(
+    rt: HostRuntime,
+) -> Result<(), Fail> {
+    let ends = told_and_ended(&rt, rt.alloc())?;
     let (number, mut first, mut second) = ends.expect(&rt, "two readers");
-    assert_eq!(rt; number, Some(1));
-    assert_eq!(rt; entered(&mut first), Err(EnterFault::NoEntry(0)));
-    assert_eq!(rt; entered(&mut second), Ok((0, 0)));
+    same(&rt, &"told", &number, &Some(1));
+    are_left(&rt, &mut first, &mut second);
     Ok(())
 }
 
@@ -303,7 +330,7 @@ fn numbers_beside<R: Threads + Wait + Sync>(
 fn no_reader_goes_back_beside_a_publisher_that_runs(rt: HostRuntime) -> Result<(), Fail> {
     for (writes, reads) in [(100, 100), (1_000, 10_000)] {
         let numbers = numbers_beside(&rt, rt.alloc(), writes, reads)?;
-        assert_eq!(rt; numbers, Some((writes, true, writes)));
+        same(&rt, &reads, &numbers, &Some((writes, true, writes)));
     }
     Ok(())
 }

@@ -1,5 +1,6 @@
 ghost use Rattle.std.specs.Prelude.{◌<◌};
 
+use crate::checks::same;
 use gcl_model::{Ledger, Question, Steps, TokenList, counted};
 use index_shard::{Direction, Shard};
 use shard_build::{Names, build, build_from, build_text};
@@ -79,59 +80,92 @@ fn term_at(shard: &Shard, place: usize) -> Option<&[u8]> {
     }
 }
 
+// The terms, the first three postings of each, and how many steps these take.
+const HAMLET: [(&str, ([Option<u64>; 3], u64)); 6] = [
+    ("</file!>", ([Some(7), None, None], 1)),
+    ("<file!>", ([Some(0), None, None], 1)),
+    ("be", ([Some(2), Some(6), None], 2)),
+    ("not", ([Some(4), None, None], 1)),
+    ("or", ([Some(3), None, None], 1)),
+    ("to", ([Some(1), Some(5), None], 2)),
+];
+
 /// The shard is that of `to be or not to be` from address 0 on.
 fn is_hamlet<R: Abort>(rt: &R, shard: &Shard) {
-    let cases: [(&str, [Option<u64>; 3], u64); 6] = [
-        ("</file!>", [Some(7), None, None], 1),
-        ("<file!>", [Some(0), None, None], 1),
-        ("be", [Some(2), Some(6), None], 2),
-        ("not", [Some(4), None, None], 1),
-        ("or", [Some(3), None, None], 1),
-        ("to", [Some(1), Some(5), None], 2),
-    ];
-    assert_eq!(rt; shard.term_count(), cases.len());
-    for (place, (term, postings, steps)) in cases.into_iter().enumerate() {
-        assert_eq!(rt; term_at(shard, place), Some(term.as_bytes()));
-        assert_eq!(rt; walked(shard, place), Some((postings, steps)), "of {term}");
+    same(rt, &"terms", &shard.term_count(), &HAMLET.len());
+    for (place, (term, want)) in HAMLET.iter().enumerate() {
+        same(rt, term, &term_at(shard, place), &Some(term.as_bytes()));
+        same(rt, term, &walked(shard, place), &Some(*want));
     }
 }
 
 #[test]
 fn a_file_is_indexed_with_its_boundaries(rt: HostRuntime) -> Result<(), Fail> {
     let tokens = TokenList::of(rt.alloc(), &["to", "be", "or", "not", "to", "be"])?;
-    assert_eq!(rt; tokens.len(), 6);
+    assert!(rt; tokens.len() == 6);
     is_hamlet(&rt, &build(rt.alloc(), 0, &tokens)?);
+    Ok(())
+}
+
+const TEXT: &[u8] = b"To be, or NOT to be?";
+
+/// With these names the shard of the text is that of its tokens.
+fn is_built<R: Abort>(rt: &R, alloc: Global, names: &mut Names) -> Result<(), AllocError> {
+    assert!(rt; token_count(TEXT) == 6);
+    is_hamlet(rt, &build_text(alloc, names, 0, TEXT)?);
     Ok(())
 }
 
 #[test]
 fn a_text_is_indexed_as_its_tokens_whether_it_was_cut_or_not(rt: HostRuntime) -> Result<(), Fail> {
-    let bytes = b"To be, or NOT to be?";
-    let text = token_text(rt.alloc(), bytes)?;
-    assert_eq!(rt; text.len(), 6);
+    let text = token_text(rt.alloc(), TEXT)?;
+    assert!(rt; text.len() == 6);
     is_hamlet(&rt, &build_from(rt.alloc(), 0, &text)?);
-    assert_eq!(rt; token_count(bytes), 6);
-    is_hamlet(
-        &rt,
-        &build_text(rt.alloc(), &mut Names::new(rt.alloc()), 0, bytes)?,
-    );
+    is_built(&rt, rt.alloc(), &mut Names::new(rt.alloc()))?;
+    Ok(())
+}
+
+const BEFORE: [&str; 4] = [
+    "be that or this",
+    "to to to to to to to to to to to to to to to to to to to to to to to to to to to to to to to to to to to to to to to to to to \
+     be to to to to to to to to to to to to to to to to to to to to to to to to to to to to to to to to to to to to to to to to",
+    "to be not to be",
+    "",
+];
+
+/// The same after each of these texts was built.
+fn is_built_after_each<R: Abort>(
+    rt: &R,
+    alloc: Global,
+    names: &mut Names,
+) -> Result<(), AllocError> {
+    for before in &BEFORE {
+        let _ = build_text(alloc, names, 7, before.as_bytes());
+        is_built(rt, alloc, names)?;
+    }
     Ok(())
 }
 
 #[test]
 fn names_that_were_met_before_change_no_shard(rt: HostRuntime) -> Result<(), Fail> {
-    let names = &mut Names::new(rt.alloc());
-    let many =
-        "to to to to to to to to to to to to to to to to to to to to to to to to to to to to to to to to to to to to to to to to to to \
-        be to to to to to to to to to to to to to to to to to to to to to to to to to to to to to to to to to to to to to to to to";
-    for before in ["be that or this", many, "to be not to be", ""] {
-        let _ = build_text(rt.alloc(), names, 7, before.as_bytes());
-        is_hamlet(
-            &rt,
-            &build_text(rt.alloc(), names, 0, b"To be, or NOT to be?")?,
-        );
-    }
+    let mut names = Names::new(rt.alloc());
+    is_built_after_each(&rt, rt.alloc(), &mut names)?;
     Ok(())
+}
+
+/// One of 16 letters.
+fn letter(n: u64) -> u8 {
+    b'a'.wrapping_add((n % 16) as u8)
+}
+
+fn put_word(text: &mut Vec<u8>, round: u8, n: u64) -> Result<(), AllocError> {
+    text.extend_from_slice(if n % 2 == 0 { b"longprefix" } else { b"w" })?;
+    let letters = [letter(n), letter(n / 16), letter(round as u64), b' '];
+    if n % 8 < 2 {
+        text.extend_from_slice(&letters)
+    } else {
+        text.extend_from_slice(&[letters[0], letters[1], b' '])
+    }
 }
 
 /// A text of so many words out of 256. Each second has its first eight bytes in common with the others, and each fourth is new in each round.
@@ -145,13 +179,7 @@ fn mixed_words(
     let mut text = Vec::new(alloc);
     let mut n = first;
     for _ in 0..words {
-        text.extend_from_slice(if n % 2 == 0 { b"longprefix" } else { b"w" })?;
-        text.push(b'a'.wrapping_add((n % 16) as u8))?;
-        text.push(b'a'.wrapping_add((n / 16 % 16) as u8))?;
-        if n % 8 < 2 {
-            text.push(b'a'.wrapping_add(round % 16))?;
-        }
-        text.push(b' ')?;
+        put_word(&mut text, round, n)?;
         n = n.wrapping_mul(5).wrapping_add(step) % 256;
     }
     Ok(text)
@@ -159,14 +187,10 @@ fn mixed_words(
 
 /// The two shards have the same terms with the same postings.
 fn is_same<R: Abort>(rt: &R, one: &Shard, other: &Shard) {
-    assert_eq!(rt; one.term_count(), other.term_count());
+    same(rt, &"terms", &one.term_count(), &other.term_count());
     for place in 0..one.term_count() {
-        assert_eq!(rt; term_at(one, place), term_at(other, place), "at {place}");
-        assert_eq!(rt;
-            walked(one, place),
-            walked(other, place),
-            "of the term at {place}"
-        );
+        same(rt, &place, &term_at(one, place), &term_at(other, place));
+        same(rt, &place, &walked(one, place), &walked(other, place));
     }
 }
 
@@ -183,25 +207,39 @@ fn gives_the_same<R: Abort>(
     Ok(())
 }
 
+// The first number of a text of mixed words, the step from each to the next, and how many words it has.
+const MIXED: [(u64, u64, usize); 10] = [
+    (3, 7, 90),
+    (200, 7, 120),
+    (9, 11, 3),
+    (9, 11, 200),
+    (17, 129, 300),
+    (90, 7, 100),
+    (0, 1, 70),
+    (255, 3, 256),
+    (4, 31, 2),
+    (5, 77, 256),
+];
+
+/// The same of each text of a round.
+fn each_gives_the_same<R: Abort>(
+    rt: &R,
+    alloc: Global,
+    names: &mut Names,
+    round: u8,
+) -> Result<(), AllocError> {
+    for (first, step, words) in &MIXED {
+        let text = mixed_words(alloc, round, *first, *step, *words)?;
+        gives_the_same(rt, alloc, names, &text)?;
+    }
+    Ok(())
+}
+
 #[test]
 fn names_that_are_put_in_order_change_no_shard(rt: HostRuntime) -> Result<(), Fail> {
     let names = &mut Names::new(rt.alloc());
     for round in 0..8u8 {
-        for (first, step, words) in [
-            (3, 7, 90),
-            (200, 7, 120),
-            (9, 11, 3),
-            (9, 11, 200),
-            (17, 129, 300),
-            (90, 7, 100),
-            (0, 1, 70),
-            (255, 3, 256),
-            (4, 31, 2),
-            (5, 77, 256),
-        ] {
-            let text = mixed_words(rt.alloc(), round, first, step, words)?;
-            gives_the_same(&rt, rt.alloc(), names, &text)?;
-        }
+        each_gives_the_same(&rt, rt.alloc(), names, round)?;
     }
     Ok(())
 }
@@ -221,20 +259,20 @@ fn finds<R: Abort>(
         k,
         direction,
     });
-    assert_eq!(rt; found, (want, 1), "{direction:?} at {k}");
+    same(rt, &(direction, k), &found, &(want, 1));
 }
 
 #[test]
 fn a_file_without_tokens_has_its_boundaries(rt: HostRuntime) -> Result<(), Fail> {
-    let shard = &build(rt.alloc(), 5, &TokenList::new(rt.alloc()))?;
-    assert_eq!(rt; shard.term_count(), 2);
-    finds(&rt, shard, b"<file!>", 0, Direction::Forward, Some(5));
-    finds(&rt, shard, b"</file!>", 0, Direction::Forward, Some(6));
+    let shard = build(rt.alloc(), 5, &TokenList::new(rt.alloc()))?;
+    same(&rt, &"terms", &shard.term_count(), &2);
+    finds(&rt, &shard, b"<file!>", 0, Direction::Forward, Some(5));
+    finds(&rt, &shard, b"</file!>", 0, Direction::Forward, Some(6));
     Ok(())
 }
 
 /// The address of the token that is nearest to `k` on one side, by a look at each. The first is at 100.
-fn plain_look_up(tokens: &[&[u8]], term: &[u8], k: u64, direction: Direction) -> Option<u64> {
+fn plain_look_up(tokens: &[&str], term: &[u8], k: u64, direction: Direction) -> Option<u64> {
     let mut found = None;
     let mut address = 100u64;
     for token in tokens {
@@ -242,7 +280,7 @@ fn plain_look_up(tokens: &[&[u8]], term: &[u8], k: u64, direction: Direction) ->
             Direction::Forward => k <= address && found.is_none(),
             Direction::Backward => address <= k,
         };
-        if is_nearer && *token == term {
+        if is_nearer && token.as_bytes() == term {
             found = Some(address);
         }
         address = address.wrapping_add(1);
@@ -251,7 +289,7 @@ fn plain_look_up(tokens: &[&[u8]], term: &[u8], k: u64, direction: Direction) ->
 }
 
 /// Each look-up of the term in the shard is that by a look at each token.
-fn agrees<R: Abort>(rt: &R, shard: &Shard, tokens: &[&[u8]], term: &[u8]) {
+fn agrees<R: Abort>(rt: &R, shard: &Shard, tokens: &[&str], term: &[u8]) {
     for k in 98..115u64 {
         for direction in [Direction::Forward, Direction::Backward] {
             let plain = plain_look_up(tokens, term, k, direction);
@@ -260,21 +298,23 @@ fn agrees<R: Abort>(rt: &R, shard: &Shard, tokens: &[&[u8]], term: &[u8]) {
     }
 }
 
+const WORDS: [&str; 11] = [
+    "<b>", "to", "42", "</b>", "<a.b:c>", "to", "\u{e9}", "t", "toe", "to", "</a.b:c>",
+];
+
+// The same words between the tokens of a file's boundary.
+const BETWEEN: [&str; 13] = [
+    "<file!>", "<b>", "to", "42", "</b>", "<a.b:c>", "to", "\u{e9}", "t", "toe", "to", "</a.b:c>",
+    "</file!>",
+];
+
 #[test]
 fn look_ups_agree_with_a_look_at_each_token(rt: HostRuntime) -> Result<(), Fail> {
-    let words = [
-        "<b>", "to", "42", "</b>", "<a.b:c>", "to", "\u{e9}", "t", "toe", "to", "</a.b:c>",
-    ];
-    let tokens = TokenList::of(rt.alloc(), &words)?;
-    assert_eq!(rt; tokens.len(), 11);
-    let shard = &build(rt.alloc(), 100, &tokens)?;
-    let mut all = vec![in rt.alloc(); b"<file!>".as_slice()]?;
-    for word in &words {
-        all.push(word.as_bytes())?;
-    }
-    all.push(b"</file!>".as_slice())?;
-    for term in &all {
-        agrees(&rt, shard, &all, term);
+    let tokens = TokenList::of(rt.alloc(), &WORDS)?;
+    assert!(rt; tokens.len() == 11);
+    let shard = build(rt.alloc(), 100, &tokens)?;
+    for term in &BETWEEN {
+        agrees(&rt, &shard, &BETWEEN, term.as_bytes());
     }
     Ok(())
 }

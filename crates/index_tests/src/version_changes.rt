@@ -1,3 +1,4 @@
+use crate::checks::same;
 use address_space::{FileId, FileRecord, Range};
 use gcl_model::{ADDRESS_END, Bytes};
 use index_shard::ShardMaker;
@@ -95,26 +96,28 @@ fn numbers(version: &Version) -> [u64; 5] {
 /// The version has these numbers, slots and files.
 fn has<R: Abort>(rt: &R, step: Step, version: &Version, want: ([u64; 5], usize, u64)) {
     let found = (numbers(version), version.slot_count(), version.file_count());
-    assert_eq!(rt; found, want, "{step:?}");
-    assert_eq!(rt; version.first(), 5, "{step:?}");
+    same(rt, &step, &found, &want);
+    same(rt, &step, &version.first(), &5);
 }
+
+// The numbers after each step, the slots and the files.
+const STEPS: [(Step, ([u64; 5], usize, u64)); 8] = [
+    (Step::Add(4), ([1, 1, 9, 1, 0], 1, 1)),
+    (Step::Add(2), ([2, 2, 11, 2, 0], 2, 2)),
+    (Step::Delete(0), ([3, 3, 11, 2, 1], 2, 1)),
+    (Step::Leave, ([4, 3, 11, 2, 1], 2, 1)),
+    (Step::Add(3), ([5, 4, 14, 3, 1], 3, 2)),
+    (Step::Delete(2), ([6, 5, 14, 3, 2], 3, 1)),
+    (Step::Follow, ([7, 6, 9, 2, 0], 0, 0)),
+    (Step::Add(2), ([8, 7, 11, 3, 0], 1, 1)),
+];
 
 #[test]
 fn each_change_counts_what_it_changes(rt: HostRuntime) -> Result<(), Fail> {
-    let steps = [
-        (Step::Add(4), ([1, 1, 9, 1, 0], 1, 1)),
-        (Step::Add(2), ([2, 2, 11, 2, 0], 2, 2)),
-        (Step::Delete(0), ([3, 3, 11, 2, 1], 2, 1)),
-        (Step::Leave, ([4, 3, 11, 2, 1], 2, 1)),
-        (Step::Add(3), ([5, 4, 14, 3, 1], 3, 2)),
-        (Step::Delete(2), ([6, 5, 14, 3, 2], 3, 1)),
-        (Step::Follow, ([7, 6, 9, 2, 0], 0, 0)),
-        (Step::Add(2), ([8, 7, 11, 3, 0], 1, 1)),
-    ];
     let mut version = Version::empty(rt.alloc(), 5);
-    for (step, want) in steps {
-        version = stepped(rt.alloc(), &version, step)?.expect(&rt, "a step that may be made");
-        has(&rt, step, &version, want);
+    for (step, want) in &STEPS {
+        version = stepped(rt.alloc(), &version, *step)?.expect(&rt, "a step that may be made");
+        has(&rt, *step, &version, *want);
     }
     Ok(())
 }
@@ -135,10 +138,10 @@ fn after_steps(alloc: Global, steps: &[Step]) -> Result<Option<Version>, AllocEr
 fn has_slot<R: Abort>(rt: &R, version: &Version, i: usize, range: Range, is_dead: bool) {
     assert!(rt; i < version.slot_count());
     let slot = version.slot(i);
-    assert_eq!(rt; slot.range(), range);
+    same(rt, &i, &slot.range(), &range);
     for p in 4..13u64 {
         let dead = is_dead && range.first <= p && p <= range.last;
-        assert_eq!(rt; slot.mask().dead(p).is_some(), dead, "{p} in slot {i}");
+        same(rt, &(p, i), &slot.mask().dead(p).is_some(), &dead);
     }
 }
 

@@ -4,6 +4,7 @@ ghost use Rattle.gcl_model.specs.Slots.{slot_range};
 ghost use Rattle.index_shard.specs.Tables.{IsShard};
 ghost use Rattle.gcl_model.specs.Limits.{address_end};
 
+use crate::checks::{holds, same};
 use crate::version_changes::added;
 use address_space::{FileId, FileRecord, FileRun, Range};
 use gcl_model::{
@@ -47,7 +48,7 @@ impl Question for Nearest<'_> {
     }
 }
 
-fn file(alloc: Global, id: u64, base: u64, len: u64) -> Result<FileRecord, AllocError>
+pub(crate) fn file(alloc: Global, id: u64, base: u64, len: u64) -> Result<FileRecord, AllocError>
     requires bounded { 2 ≤ len }
     requires in_range { base + len ≤ address_end }
     ensures id { IfOk result (λ file. file.id ≡ id) }
@@ -190,35 +191,30 @@ fn found_near(version: &Version, term: &str, k: u64) -> ((Option<u64>, Option<u6
 #[test]
 fn a_look_up_is_one_among_the_live_words(rt: HostRuntime) -> Result<(), Fail> {
     let version = three_of_four(&rt, rt.alloc())?;
-    assert_eq!(rt; version.dels(), 1);
+    same(&rt, &"deletions", &version.dels(), &1);
     for term in ["be", "not", "or", "to", "who"] {
         for k in 0..26u64 {
-            assert_eq!(rt;
-                found_near(&version, term, k).0,
-                plain_look_up(term, k),
-                "{term} at {k}"
-            );
+            let (found, _) = found_near(&version, term, k);
+            same(&rt, &(term, k), &found, &plain_look_up(term, k));
         }
     }
     Ok(())
 }
 
+// A term, an address, the next and the previous word there, and how many look-ups they take.
+const PASSED: [(&str, u64, ((Option<u64>, Option<u64>), u64)); 5] = [
+    ("to", 0, ((None, None), 1)),
+    ("to", 9, ((None, None), 2)),
+    ("</file!>", 0, ((Some(9), None), 1)),
+    ("</file!>", 8, ((Some(9), None), 2)),
+    ("<file!>", 9, ((None, Some(8)), 2)),
+];
+
 #[test]
 fn what_was_deleted_is_passed_as_a_whole(rt: HostRuntime) -> Result<(), Fail> {
     let version = second_of_two(&rt, rt.alloc())?;
-    let cases = [
-        ("to", 0, None, None, 1),
-        ("to", 9, None, None, 2),
-        ("</file!>", 0, Some(9), None, 1),
-        ("</file!>", 8, Some(9), None, 2),
-        ("<file!>", 9, None, Some(8), 2),
-    ];
-    for (term, k, next, previous, steps) in cases {
-        assert_eq!(rt;
-            found_near(&version, term, k),
-            ((next, previous), steps),
-            "{term} at {k}"
-        );
+    for (term, k, want) in &PASSED {
+        same(&rt, term, &found_near(&version, term, *k), want);
     }
     Ok(())
 }
@@ -226,39 +222,36 @@ fn what_was_deleted_is_passed_as_a_whole(rt: HostRuntime) -> Result<(), Fail> {
 #[test]
 fn a_count_is_of_the_words_that_survive(rt: HostRuntime) -> Result<(), Fail> {
     let version = three_of_four(&rt, rt.alloc())?;
-    for (term, want) in [("be", 3), ("not", 1), ("or", 0), ("to", 3), ("who", 0)] {
-        assert_eq!(rt; version.count_of_term(term.as_bytes()), want, "{term}");
+    for (term, want) in &[("be", 3), ("not", 1), ("or", 0), ("to", 3), ("who", 0)] {
+        same(&rt, term, &version.count_of_term(term.as_bytes()), want);
     }
     Ok(())
 }
 
 /// The least term from a bound on, or after it, is this.
 fn has_term_from<R: Abort>(rt: &R, version: &Version, low: &str, strict: bool, want: Option<&str>) {
-    let found = version.term_from(low.as_bytes(), strict);
-    assert_eq!(rt;
-        found,
-        want.map(|term: &str| term.as_bytes()),
-        "from {low}, {strict}"
-    );
+    let want = want.map(|term: &str| term.as_bytes());
+    same(rt, &low, &version.term_from(low.as_bytes(), strict), &want);
 }
+
+const BOUNDS: [(&str, bool, Option<&str>); 10] = [
+    ("", false, Some("</file!>")),
+    ("<file!>", true, Some("be")),
+    ("be", false, Some("be")),
+    ("be", true, Some("not")),
+    ("bee", false, Some("not")),
+    ("not", true, Some("or")),
+    ("or", true, Some("to")),
+    ("to", false, Some("to")),
+    ("to", true, None),
+    ("tom", false, None),
+];
 
 #[test]
 fn the_least_term_from_a_bound_on_is_that_of_any_slot(rt: HostRuntime) -> Result<(), Fail> {
     let version = three_of_four(&rt, rt.alloc())?;
-    let cases = [
-        ("", false, Some("</file!>")),
-        ("<file!>", true, Some("be")),
-        ("be", false, Some("be")),
-        ("be", true, Some("not")),
-        ("bee", false, Some("not")),
-        ("not", true, Some("or")),
-        ("or", true, Some("to")),
-        ("to", false, Some("to")),
-        ("to", true, None),
-        ("tom", false, None),
-    ];
-    for (low, strict, want) in cases {
-        has_term_from(&rt, &version, low, strict, want);
+    for (low, strict, want) in &BOUNDS {
+        has_term_from(&rt, &version, low, *strict, *want);
     }
     has_term_from(&rt, &empty(rt.alloc()), "", false, None);
     Ok(())
@@ -300,11 +293,10 @@ fn counted_apart<R: Threads>(rt: &R, version: Version, slot: Slot) -> (u64, u64)
 fn a_version_is_read_by_two_threads_and_goes_to_another_one(rt: HostRuntime) -> Result<(), Fail> {
     let version = three_of_four(&rt, rt.alloc())?;
     let found = both_nearest(&rt, &version, b"to", b"be");
-    assert_eq!(rt; found, ((Some(9), Some(1)), (Some(8), Some(2))));
-    assert_eq!(rt;
-        counted_apart(&rt, version, three_files(rt.alloc())?),
-        (3, 3)
-    );
+    let want = ((Some(9), Some(1)), (Some(8), Some(2)));
+    same(&rt, &"to and be", &found, &want);
+    let counts = counted_apart(&rt, version, three_files(rt.alloc())?);
+    same(&rt, &"files", &counts, &(3, 3));
     Ok(())
 }
 
@@ -312,20 +304,20 @@ fn a_version_is_read_by_two_threads_and_goes_to_another_one(rt: HostRuntime) -> 
 fn has_file<R: Abort>(rt: &R, version: &Version, i: u64, id: u64) {
     assert!(rt; i < version.file_count());
     let file = version.file_at(i);
-    assert_eq!(rt; file.id, FileId(id));
+    same(rt, &i, &file.id, &FileId(id));
     let found = version.find_file(FileId(id)).map(|found| found.base);
-    assert_eq!(rt; found, Some(file.base));
+    same(rt, &i, &found, &Some(file.base));
 }
 
 #[test]
 fn files_are_told_by_place_and_by_id(rt: HostRuntime) -> Result<(), Fail> {
     let version = three_of_four(&rt, rt.alloc())?;
-    assert_eq!(rt; version.file_count(), 3);
+    same(&rt, &"files", &version.file_count(), &3);
     for (i, id) in [(0, 0), (1, 2), (2, 9)] {
         has_file(&rt, &version, i, id);
     }
     for id in [1, 3, 10] {
-        assert!(rt; version.find_file(FileId(id)).is_none());
+        holds(&rt, &id, version.find_file(FileId(id)).is_none());
     }
     Ok(())
 }
@@ -334,8 +326,8 @@ fn files_are_told_by_place_and_by_id(rt: HostRuntime) -> Result<(), Fail> {
 fn a_version_that_is_opened_has_its_slot(rt: HostRuntime) -> Result<(), Fail> {
     let version = three_in_one(rt.alloc())?;
     let numbers = (version.next(), version.next_id(), version.number());
-    assert_eq!(rt; numbers, (20, 9, 0));
-    assert_eq!(rt; version.slot_count(), 1);
+    same(&rt, &"numbers", &numbers, &(20, 9, 0));
+    same(&rt, &"slots", &version.slot_count(), &1);
     Ok(())
 }
 
@@ -348,22 +340,34 @@ fn with_widths<R: Abort>(rt: &R, alloc: Global, widths: &[u64]) -> Result<Versio
     Ok(version)
 }
 
+/// Of a version with files of these widths the tail has so many slots.
+fn has_tail<R: Abort>(
+    rt: &R,
+    alloc: Global,
+    widths: &[u64],
+    want: usize,
+) -> Result<(), AllocError> {
+    let version = with_widths(rt, alloc, widths)?;
+    assert!(rt; 1 <= version.slot_count());
+    same(rt, &widths, &version.tail(), &want);
+    Ok(())
+}
+
+const TAILS: [(&[u64], usize); 8] = [
+    (&[2], 1),
+    (&[2, 2], 2),
+    (&[8, 2], 2),
+    (&[9, 2], 1),
+    (&[44, 10, 2, 2], 4),
+    (&[57, 10, 2, 2], 3),
+    (&[90, 20, 2, 2], 2),
+    (&[100, 5, 20, 2], 1),
+];
+
 #[test]
 fn the_tail_is_as_long_as_four_times_its_width_reaches(rt: HostRuntime) -> Result<(), Fail> {
-    let cases: [(&[u64], usize); 8] = [
-        (&[2], 1),
-        (&[2, 2], 2),
-        (&[8, 2], 2),
-        (&[9, 2], 1),
-        (&[44, 10, 2, 2], 4),
-        (&[57, 10, 2, 2], 3),
-        (&[90, 20, 2, 2], 2),
-        (&[100, 5, 20, 2], 1),
-    ];
-    for (widths, want) in cases {
-        let version = with_widths(&rt, rt.alloc(), widths)?;
-        assert!(rt; 1 <= version.slot_count());
-        assert_eq!(rt; version.tail(), want, "{widths:?}");
+    for (widths, want) in &TAILS {
+        has_tail(&rt, rt.alloc(), widths, *want)?;
     }
     Ok(())
 }
