@@ -1,5 +1,5 @@
 -- What is left of the cost to readers that move.
-use Rattle.std.proofs.Common.{◌≡◌, ℕ, ◌+◌, ◌*◌, ◌<◌, ◌≤◌, Bool, true, false, cond, leb, List, [], ◌∷◌, ◌++◌, length, take, drop, filter, Option, Some, None, refl, sym, ap, ◌∙◌, arith, inl, inr, le_refl}
+use Rattle.std.proofs.Common.{◌≡◌, ℕ, ◌+◌, ◌*◌, ◌<◌, ◌≤◌, Bool, true, false, cond, leb, List, [], ◌∷◌, ◌++◌, length, take, drop, filter, Option, Some, None, refl, sym, ap, ◌∙◌, subst, arith, inl, inr, le_refl}
 use Rattle.std.proofs.Math.Nat.{mul-le-mul_left, mul-le-mul_right}
 use Rattle.std.proofs.lemmas.Bool.{leb-true, le-leb, lt-leb, cases_lt}
 use Rattle.gcl_model.specs.declared.expr.Expr.{Expr}
@@ -205,6 +205,63 @@ count_more exprs others x c e = ap (λ es. forms_count (operand_forms es) * c) e
   where
     plus : (n c : ℕ) → (n + 1) * c ≡ n * c + c
     plus n c = omega arith
+
+-- an operand and the others, one after the other, and what an operand may take besides
+two_costs : (a b c d whole after old mid new : ℕ) → whole ≡ a + b → after ≡ c + d → mid + c ≤ old + a → new + d ≤ mid + b → new + after ≤ old + whole
+two_costs a b c d whole after old mid new e f le more = omega arith
+
+more_costs : (a b c d whole after old mid new n m extra : ℕ) → whole ≡ a + b → after ≡ c + d → n ≡ m + extra → mid + c ≤ old + a + extra → new + d ≤ mid + b + m → new + after ≤ old + whole + n
+more_costs a b c d whole after old mid new n m extra e f g le more = omega arith
+
+three_costs : (a b c d h whole after old mid rest new n m extra : ℕ) → whole ≡ a + b → after ≡ h + d → n ≡ m + extra → mid + c ≤ old + a → rest + d ≤ mid + b + m → new + h ≤ rest + c + extra → new + after ≤ old + whole + n
+three_costs a b c d h whole after old mid rest new n m extra e f g le more last = omega arith
+
+module _ (text : Text) (most : ℕ) (exprs others : List Expr) (x : Expr) (e : exprs ≡ x ∷ others) (places mine later : List Place) (size : ℕ) (front : mine ≡ take size places) (back : later ≡ drop size places) (s : Stands text (form_of x) mine)
+    (mine_after later_after : List Place) (t : Stands text (form_of x) mine_after) (old mid new : ℕ) where
+  pub chain_cost : mid + cost_left text most (form_of x) mine_after ≤ old + cost_left text most (form_of x) mine →
+      new + costs_left text most (operand_forms others) later_after ≤ mid + costs_left text most (operand_forms others) later →
+      new + costs_left text most (operand_forms exprs) (mine_after ++ later_after) ≤ old + costs_left text most (operand_forms exprs) places
+  chain_cost le more =
+      two_costs (cost_left text most (form_of x) mine) (costs_left text most (operand_forms others) later) (cost_left text most (form_of x) mine_after) (costs_left text most (operand_forms others) later_after)
+      (costs_left text most (operand_forms exprs) places) (costs_left text most (operand_forms exprs) (mine_after ++ later_after)) old mid new
+      (costs_split text most exprs others x e places mine later size s front back) (costs_joined text most exprs others x e mine_after later_after t) le more
+
+  pub chain_cost_more : (extra : ℕ) → mid + cost_left text most (form_of x) mine_after ≤ old + cost_left text most (form_of x) mine + extra →
+      new + costs_left text most (operand_forms others) later_after ≤ mid + costs_left text most (operand_forms others) later + forms_count (operand_forms others) * extra →
+      new + costs_left text most (operand_forms exprs) (mine_after ++ later_after) ≤ old + costs_left text most (operand_forms exprs) places + forms_count (operand_forms exprs) * extra
+  chain_cost_more extra le more =
+      more_costs (cost_left text most (form_of x) mine) (costs_left text most (operand_forms others) later) (cost_left text most (form_of x) mine_after) (costs_left text most (operand_forms others) later_after)
+      (costs_left text most (operand_forms exprs) places) (costs_left text most (operand_forms exprs) (mine_after ++ later_after)) old mid new
+      (forms_count (operand_forms exprs) * extra) (forms_count (operand_forms others) * extra) extra
+      (costs_split text most exprs others x e places mine later size s front back) (costs_joined text most exprs others x e mine_after later_after t) (count_more exprs others x extra e) le more
+
+  -- the operand once more after the others
+  pub chain_cost_back : (extra : ℕ) (between : List Place) (rest : ℕ) → mid + cost_left text most (form_of x) between ≤ old + cost_left text most (form_of x) mine →
+      rest + costs_left text most (operand_forms others) later_after ≤ mid + costs_left text most (operand_forms others) later + forms_count (operand_forms others) * extra →
+      new + cost_left text most (form_of x) mine_after ≤ rest + cost_left text most (form_of x) between + extra →
+      new + costs_left text most (operand_forms exprs) (mine_after ++ later_after) ≤ old + costs_left text most (operand_forms exprs) places + forms_count (operand_forms exprs) * extra
+  chain_cost_back extra between rest le more last =
+      three_costs (cost_left text most (form_of x) mine) (costs_left text most (operand_forms others) later) (cost_left text most (form_of x) between) (costs_left text most (operand_forms others) later_after) (cost_left text most (form_of x) mine_after)
+      (costs_left text most (operand_forms exprs) places) (costs_left text most (operand_forms exprs) (mine_after ++ later_after)) old mid rest new
+      (forms_count (operand_forms exprs) * extra) (forms_count (operand_forms others) * extra) extra
+      (costs_split text most exprs others x e places mine later size s front back) (costs_joined text most exprs others x e mine_after later_after t) (count_more exprs others x extra e) le more last
+
+pub le-add : (a b c : ℕ) → a + b ≤ a + b + c
+le-add a b c = omega arith
+
+pub more_left : (old new a b extra : ℕ) → new + a ≤ old + b → new + a ≤ old + b + extra
+more_left old new a b extra le = omega arith
+
+-- finding a member takes what its node does once, or more
+once_or_more : (n m : ℕ) → m ≤ (n + 1) * m
+once_or_more n m = omega arith
+
+pub find_by : (text : Text) (most : ℕ) (e form : Form) → e ≡ form → (places after : List Place) (old new k : ℕ) (o : Option Extent) →
+    new + cost_below text most form after ≤ old + cost_below text most form places + member_cost text most form → new + cost_below text most e after ≤ old + cost_below text most e places + find_cost text most e k o
+find_by text most e form is places after old new k o le =
+    let more = once_or_more (fewest_between text.words (tokens_of form) k (walk_end text o)) (member_cost text most form) in
+    let here : new + cost_below text most form after ≤ old + cost_below text most form places + find_cost text most form k o = omega (arith, le, more) in
+    subst (λ (f : Form). new + cost_below text most f after ≤ old + cost_below text most f places + find_cost text most f k o) (sym is) here
 
 -- containments
 contain_cost : (containment : Containment) (text : Text) (most : ℕ) (a b : Form) (places : List Place) →

@@ -1,10 +1,13 @@
 -- New readers stand.
-use Rattle.std.proofs.Common.{◌≡◌, ℕ, ◌+◌, ◌-◌, List, [], ◌∷◌, ◌++◌, length, take, drop, set, refl, sym, ap, ◌∙◌, subst, arith, Option, Some, None, IfSome, inl}
+use Rattle.std.proofs.Common.{◌≡◌, ℕ, ◌+◌, ◌-◌, List, [], ◌∷◌, ◌++◌, length, take, drop, set, refl, sym, ap, ◌∙◌, subst, arith, Option, Some, None, IfSome, inl, append_assoc}
 use Rattle.std.proofs.lemmas.List.{length-append}
+use Rattle.gcl_model.specs.declared.expr.Expr.{Expr}
+use Rattle.gcl_model.specs.FormOf.{form_of}
 use Rattle.gcl_model.specs.Extents.{Extent}
 use Rattle.gcl_model.specs.Texts.{Text}
 use Rattle.gcl_model.specs.Forms.{Form, Forms, term, phrase, width, both, one, seq, containing, contained_in, not_containing, not_contained_in, no_forms, more_forms}
 use Rattle.gcl_model.specs.Meaning.{concordance, operands}
+use Rattle.gcl_eval.specs.Operands.{operand_forms}
 use Rattle.gcl_readers.specs.declared.front.Place.{Place}
 use Rattle.gcl_readers.specs.Agreement.{AllAnswerFrom, AllAnswerOrEnd, AllAnswerInOrder, AnswersFrom, AnswersByEnds}
 use Rattle.gcl_model.specs.Access.{first_start}
@@ -139,3 +142,11 @@ put_right old pushed all form p at len is there from to =
     ∙ ap (λ n. set all n (place_before (nodes form))) from
     ∙ ap (λ l. set l (length old) (place_before (nodes form))) whole
     ∙ set_between old (new_places_below form) p (place_before (nodes form))
+
+-- the places of one node more
+pub put_more : (old new all : List Place) (exprs others : List Expr) (x : Expr) → exprs ≡ x ∷ others → new ≡ old ++ new_places (form_of x) → old ++ new_places_of (operand_forms exprs) ≡ all → new ++ new_places_of (operand_forms others) ≡ all
+put_more old new all exprs others x e is kept =
+    ap (λ (l : List Place). l ++ new_places_of (operand_forms others)) is
+    ∙ append_assoc old (new_places (form_of x)) (new_places_of (operand_forms others))
+    ∙ sym (ap (λ (es : List Expr). old ++ new_places_of (operand_forms es)) e)
+    ∙ kept

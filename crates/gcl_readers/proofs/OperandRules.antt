@@ -1,7 +1,9 @@
 -- One operand more of a chain, by its reader.
-use Rattle.std.proofs.Common.{◌≡◌, ℕ, ◌+◌, ◌≤◌, List, ◌∷◌, ◌++◌, take, drop, refl, sym, ap, ◌∙◌, subst}
+use Rattle.std.proofs.Common.{◌≡◌, ℕ, ◌+◌, ◌≤◌, List, ◌∷◌, ◌++◌, length, take, drop, refl, sym, ap, ◌∙◌, subst, arith}
+use Rattle.std.proofs.lemmas.List.{length-append, take-append-drop}
 use Rattle.gcl_model.specs.declared.expr.Expr.{Expr}
 use Rattle.gcl_model.specs.Texts.{Text}
+use Rattle.gcl_model.specs.Forms.{Form}
 use Rattle.gcl_model.specs.FormOf.{form_of}
 use Rattle.gcl_model.specs.Meaning.{concordance}
 use Rattle.gcl_model.specs.WellFormed.{IsWellFormed, AreWellFormed}
@@ -9,7 +11,7 @@ use Rattle.gcl_eval.specs.Operands.{operand_forms, operand_lists}
 use Rattle.gcl_readers.specs.declared.front.Place.{Place}
 use Rattle.gcl_readers.specs.Agreement.{AllAnswerFrom, AllAnswerInOrder, AnswersFrom}
 use Rattle.gcl_readers.specs.Standing.{nodes, nodes_of, start_at, starts_at, size_of, Stands, AllStand}
-use Rattle.gcl_readers.proofs.Standings.{nodes_some, first_stands, starts_joined}
+use Rattle.gcl_readers.proofs.Standings.{nodes_some, first_stands, first_joined, starts_joined}
 
 -- an operand and the places of its node
 pub record IsOperand (text : Text) (exprs others : List Expr) (x : Expr) (places mine later : List Place) : Type 0 where
@@ -67,3 +69,22 @@ pub first_in_order : (text : Text) (exprs others : List Expr) (x : Expr) → exp
     AllAnswerInOrder (operand_lists text exprs) (starts_at (operand_forms exprs) places) k → AllAnswerInOrder (concordance text (form_of x) ∷ operand_lists text others) (start_at mine ∷ starts_at (operand_forms others) later) k
 first_in_order text exprs others x e places mine later k starts all =
     subst (λ es. AllAnswerInOrder (operand_lists text es) (start_at mine ∷ starts_at (operand_forms others) later) k) e (subst (λ xs. AllAnswerInOrder (operand_lists text exprs) xs k) starts all)
+
+-- the others stand as they did
+pub others_stand : (text : Text) (exprs others : List Expr) (x : Expr) → exprs ≡ x ∷ others → (places later : List Place) (size : ℕ) → AllStand text (operand_forms exprs) places → size ≡ size_of places → later ≡ drop size places →
+    AllStand text (operand_forms others) later
+others_stand text exprs others x e places later size s is back =
+    let f = first_stands text (form_of x) (operand_forms others) places (subst (λ es. AllStand text (operand_forms es) places) e s) in
+    subst (AllStand text (operand_forms others)) (sym (back ∙ ap (λ m. drop m places) (is ∙ f.size))) f.rest
+
+pub stands_joined : (text : Text) (exprs others : List Expr) (x : Expr) → exprs ≡ x ∷ others → (mine later : List Place) → Stands text (form_of x) mine → AllStand text (operand_forms others) later →
+    AllStand text (operand_forms exprs) (mine ++ later)
+stands_joined text exprs others x e mine later s t = subst (λ es. AllStand text (operand_forms es) (mine ++ later)) (sym e) (first_joined text (form_of x) (operand_forms others) mine later s t)
+
+-- as many places as before
+pub joined_length : (text : Text) (form : Form) (places mine later : List Place) (size : ℕ) → mine ≡ take size places → later ≡ drop size places → Stands text form mine → (mine_after later_after : List Place) → Stands text form mine_after →
+    length later_after ≡ length later → length (mine_after ++ later_after) ≡ length places
+joined_length text form places mine later size front back s mine_after later_after t same =
+    let whole : length mine + length later ≡ length places = sym (length-append mine later) ∙ ap (λ l. length (l ++ later)) front ∙ ap (λ l. length (take size places ++ l)) back ∙ ap length (take-append-drop size places) in
+    let m : length mine_after ≡ length mine = t.count ∙ sym s.count in
+    length-append mine_after later_after ∙ omega (arith, whole, m, same)

@@ -1,6 +1,6 @@
-use Rattle.std.proofs.Common.{◌≡◌, ◌+◌, ◌-◌, ◌<◌, ◌≤◌, ◌++◌, ◌∷◌, length, take, drop, Some, None, refl, ap, sym, ◌∙◌, subst, arith, rules, le_refl}
+use Rattle.std.proofs.Common.{◌≡◌, ◌+◌, ◌-◌, ◌*◌, ◌<◌, ◌≤◌, ◌++◌, ◌∷◌, length, take, drop, Some, None, refl, ap, sym, ◌∙◌, subst, arith, rules, le_refl}
 use Rattle.gcl_model.specs.Extents.{Extent}
-use Rattle.gcl_model.specs.Forms.{width, seq, forms_count}
+use Rattle.gcl_model.specs.Forms.{width, both, one, seq, forms_count}
 use Rattle.gcl_model.specs.FormOf.{form_of}
 use Rattle.gcl_model.specs.Meaning.{concordance}
 use Rattle.gcl_model.specs.WellFormed.{IsWellFormed}
@@ -22,8 +22,8 @@ use Rattle.gcl_readers.specs.declared.front.Front.TheVariants.{On}
 use Rattle.gcl_readers.specs.Fronts.{IsFrontOf, IsTold, IsUnknown, asked_of, start_left, start_or_end, member_of, front_at}
 use Rattle.gcl_readers.specs.Agreement.{AllAnswerOrEnd, AllAnswerInOrder, all_left}
 use Rattle.gcl_readers.specs.Standing.{nodes, Stands, StandBelow, Tell, TellsFrom, front_of, with_front, start_at, starts_at, left_to}
-use Rattle.gcl_readers.specs.MergeCost.{find_cost, cost_below, cost_left}
-use Rattle.gcl_readers.proofs.CostLemmas.{told_cost, look_cost, contain_costs}
+use Rattle.gcl_readers.specs.MergeCost.{find_cost, cost_below, costs_left, cost_left}
+use Rattle.gcl_readers.proofs.CostLemmas.{told_cost, look_cost, contain_costs, chain_cost, chain_cost_more, chain_cost_back, le-add, more_left, find_by}
 use Rattle.gcl_readers.proofs.Members.{agrees_at, first_member, first_itself, last_of_left}
 use Rattle.gcl_readers.proofs.Answers.{moved_answers}
 use Rattle.gcl_readers.proofs.Standings.{some_place, restand_below, restand_told, within_text, proper_text, bounded_text, within_left, within_first, within_first_end, within_last, front_with, front_found, start_front, member_front, member_is}
@@ -31,8 +31,8 @@ use Rattle.gcl_readers.proofs.BothLemmas.{both_none, both_some, both_tell}
 use Rattle.gcl_readers.proofs.SeqLemmas.{seq_none, seq_alone, seq_no_tail, seq_joined, tail_after, back_finds, joins_in_order, in_order_alone, in_order_more, no_others, some_others}
 use Rattle.gcl_readers.proofs.EndLemmas.{first_left, first_found, ends_from_first, ends_none, ends_here, ends_onward, ends_over, backs_from_first, backs_none, backs_before, backs_onward, backs_here, later_found, later_none}
 use Rattle.gcl_readers.proofs.TellLemmas.{tells_from, unknown_from}
-use Rattle.gcl_readers.proofs.ContainRules.{second_asked, second_moved, node_begins, node_begins_none, go_agrees, go_later, contain_split, contain_tell}
-use Rattle.gcl_readers.proofs.OperandRules.{operand_at, answers_joined, first_answers, in_order_joined, first_in_order}
+use Rattle.gcl_readers.proofs.ContainRules.{second_asked, second_moved, node_begins, node_begins_none, go_agrees, go_later, contain_split, contain_joined, contain_tell}
+use Rattle.gcl_readers.proofs.OperandRules.{others_stand, stands_joined, joined_length, operand_at, answers_joined, first_answers, in_order_joined, first_in_order}
 use Rattle.gcl_readers.proofs.FormRules.{form-Width, form-Term, width_left, term_ends, one_tell}
 use Rattle.gcl_readers.proofs.+reading.Goals as goal
 use Rattle.gcl_readers.proofs.+reading.Goals.{reading::node_back-in-Some+then-k-next, reading::node_back-in_default}
@@ -547,3 +547,294 @@ reading::start-returns-in-None g t c =
       counted = c.look.ensures.counted;
       cost = c.look.ensures.cost;
     }
+
+-- the places and the costs of chains
+pub chains::one_find-returns-clause-stands : goal.chains::one_find-returns-clause-stands
+chains::one_find-returns-clause-stands g t c =
+    stands_joined (g.C.CountedLeaves.text c.args.source.now) c.args.operands.now c.in-Some.others.now c.in-Some.operand.now c.in-Some.ensures.cases.0 c.start-answer.new.places c.one_find.new.places c.start-answer.ensures.stands c.one_find.ensures.stands
+
+pub chains::one_find-returns-clause-len : goal.chains::one_find-returns-clause-len
+chains::one_find-returns-clause-len g t c =
+    let here = operand_at (g.C.CountedLeaves.text c.args.source.now) c.args.operands.now c.in-Some.others.now c.in-Some.operand.now c.in-Some.ensures.cases.0 c.args.places.now c.split_at_mut-mine.result.0.now c.split_at_mut-mine.result.1.now c.size_of-size.result c.requires.well_formed c.requires.stands c.size_of-size.ensures c.split_at_mut-mine.ensures.front c.split_at_mut-mine.ensures.back in
+    joined_length (g.C.CountedLeaves.text c.args.source.now) (form_of c.in-Some.operand.now) c.args.places.now c.split_at_mut-mine.result.0.now c.split_at_mut-mine.result.1.now c.size_of-size.result c.split_at_mut-mine.ensures.front c.split_at_mut-mine.ensures.back here.stands c.start-answer.new.places c.one_find.new.places c.start-answer.ensures.stands c.one_find.ensures.len
+
+pub chains::one_find-returns-clause-cost : goal.chains::one_find-returns-clause-cost
+chains::one_find-returns-clause-cost g t c =
+    let here = operand_at (g.C.CountedLeaves.text c.args.source.now) c.args.operands.now c.in-Some.others.now c.in-Some.operand.now c.in-Some.ensures.cases.0 c.args.places.now c.split_at_mut-mine.result.0.now c.split_at_mut-mine.result.1.now c.size_of-size.result c.requires.well_formed c.requires.stands c.size_of-size.ensures c.split_at_mut-mine.ensures.front c.split_at_mut-mine.ensures.back in
+    chain_cost (g.C.CountedLeaves.text c.args.source.now) (g.C.CountedLeaves.most c.args.source.now) c.args.operands.now c.in-Some.others.now c.in-Some.operand.now c.in-Some.ensures.cases.0 c.args.places.now c.split_at_mut-mine.result.0.now c.split_at_mut-mine.result.1.now c.size_of-size.result c.split_at_mut-mine.ensures.front c.split_at_mut-mine.ensures.back here.stands c.start-answer.new.places c.one_find.new.places c.start-answer.ensures.stands (g.C.CountedLeaves.count c.args.counter.now) (g.C.CountedLeaves.count c.start-answer.new.counter) (g.C.CountedLeaves.count c.one_find.new.counter) c.start-answer.ensures.cost c.one_find.ensures.cost
+
+pub chains::both_ends-returns-in_err-answer-clause-stands : goal.chains::both_ends-returns-in_err-answer-clause-stands
+chains::both_ends-returns-in_err-answer-clause-stands g t c =
+    stands_joined (g.C.CountedLeaves.text c.args.source.now) c.args.operands.now c.in-Some.others.now c.in-Some.operand.now c.in-Some.ensures.cases.0 c.start.new.places c.split_at_mut-mine.result.1.now c.start.ensures.stands (others_stand (g.C.CountedLeaves.text c.args.source.now) c.args.operands.now c.in-Some.others.now c.in-Some.operand.now c.in-Some.ensures.cases.0 c.args.places.now c.split_at_mut-mine.result.1.now c.size_of-size.result c.requires.stands c.size_of-size.ensures c.split_at_mut-mine.ensures.back)
+
+pub chains::both_ends-returns-in_err-answer-clause-len : goal.chains::both_ends-returns-in_err-answer-clause-len
+chains::both_ends-returns-in_err-answer-clause-len g t c =
+    let here = operand_at (g.C.CountedLeaves.text c.args.source.now) c.args.operands.now c.in-Some.others.now c.in-Some.operand.now c.in-Some.ensures.cases.0 c.args.places.now c.split_at_mut-mine.result.0.now c.split_at_mut-mine.result.1.now c.size_of-size.result c.requires.well_formed c.requires.stands c.size_of-size.ensures c.split_at_mut-mine.ensures.front c.split_at_mut-mine.ensures.back in
+    joined_length (g.C.CountedLeaves.text c.args.source.now) (form_of c.in-Some.operand.now) c.args.places.now c.split_at_mut-mine.result.0.now c.split_at_mut-mine.result.1.now c.size_of-size.result c.split_at_mut-mine.ensures.front c.split_at_mut-mine.ensures.back here.stands c.start.new.places c.split_at_mut-mine.result.1.now c.start.ensures.stands refl
+
+pub chains::both_ends-returns-in_err-answer-clause-cost : goal.chains::both_ends-returns-in_err-answer-clause-cost
+chains::both_ends-returns-in_err-answer-clause-cost g t c =
+    let here = operand_at (g.C.CountedLeaves.text c.args.source.now) c.args.operands.now c.in-Some.others.now c.in-Some.operand.now c.in-Some.ensures.cases.0 c.args.places.now c.split_at_mut-mine.result.0.now c.split_at_mut-mine.result.1.now c.size_of-size.result c.requires.well_formed c.requires.stands c.size_of-size.ensures c.split_at_mut-mine.ensures.front c.split_at_mut-mine.ensures.back in
+    chain_cost (g.C.CountedLeaves.text c.args.source.now) (g.C.CountedLeaves.most c.args.source.now) c.args.operands.now c.in-Some.others.now c.in-Some.operand.now c.in-Some.ensures.cases.0 c.args.places.now c.split_at_mut-mine.result.0.now c.split_at_mut-mine.result.1.now c.size_of-size.result c.split_at_mut-mine.ensures.front c.split_at_mut-mine.ensures.back here.stands c.start.new.places c.split_at_mut-mine.result.1.now c.start.ensures.stands (g.C.CountedLeaves.count c.args.counter.now) (g.C.CountedLeaves.count c.start.new.counter) (g.C.CountedLeaves.count c.start.new.counter) c.start.ensures.cost (le_refl ((g.C.CountedLeaves.count c.start.new.counter) + costs_left (g.C.CountedLeaves.text c.args.source.now) (g.C.CountedLeaves.most c.args.source.now) (operand_forms c.in-Some.others.now) c.split_at_mut-mine.result.1.now))
+
+pub chains::both_ends-returns-clause-stands : goal.chains::both_ends-returns-clause-stands
+chains::both_ends-returns-clause-stands g t c =
+    stands_joined (g.C.CountedLeaves.text c.args.source.now) c.args.operands.now c.in-Some.others.now c.in-Some.operand.now c.in-Some.ensures.cases.0 c.start.new.places c.both_ends.new.places c.start.ensures.stands c.both_ends.ensures.stands
+
+pub chains::both_ends-returns-clause-len : goal.chains::both_ends-returns-clause-len
+chains::both_ends-returns-clause-len g t c =
+    let here = operand_at (g.C.CountedLeaves.text c.args.source.now) c.args.operands.now c.in-Some.others.now c.in-Some.operand.now c.in-Some.ensures.cases.0 c.args.places.now c.split_at_mut-mine.result.0.now c.split_at_mut-mine.result.1.now c.size_of-size.result c.requires.well_formed c.requires.stands c.size_of-size.ensures c.split_at_mut-mine.ensures.front c.split_at_mut-mine.ensures.back in
+    joined_length (g.C.CountedLeaves.text c.args.source.now) (form_of c.in-Some.operand.now) c.args.places.now c.split_at_mut-mine.result.0.now c.split_at_mut-mine.result.1.now c.size_of-size.result c.split_at_mut-mine.ensures.front c.split_at_mut-mine.ensures.back here.stands c.start.new.places c.both_ends.new.places c.start.ensures.stands c.both_ends.ensures.len
+
+pub chains::both_ends-returns-clause-cost : goal.chains::both_ends-returns-clause-cost
+chains::both_ends-returns-clause-cost g t c =
+    let here = operand_at (g.C.CountedLeaves.text c.args.source.now) c.args.operands.now c.in-Some.others.now c.in-Some.operand.now c.in-Some.ensures.cases.0 c.args.places.now c.split_at_mut-mine.result.0.now c.split_at_mut-mine.result.1.now c.size_of-size.result c.requires.well_formed c.requires.stands c.size_of-size.ensures c.split_at_mut-mine.ensures.front c.split_at_mut-mine.ensures.back in
+    chain_cost (g.C.CountedLeaves.text c.args.source.now) (g.C.CountedLeaves.most c.args.source.now) c.args.operands.now c.in-Some.others.now c.in-Some.operand.now c.in-Some.ensures.cases.0 c.args.places.now c.split_at_mut-mine.result.0.now c.split_at_mut-mine.result.1.now c.size_of-size.result c.split_at_mut-mine.ensures.front c.split_at_mut-mine.ensures.back here.stands c.start.new.places c.both_ends.new.places c.start.ensures.stands (g.C.CountedLeaves.count c.args.counter.now) (g.C.CountedLeaves.count c.start.new.counter) (g.C.CountedLeaves.count c.both_ends.new.counter) c.start.ensures.cost c.both_ends.ensures.cost
+
+pub chains::both_starts-returns-in_err-answer-clause-stands : goal.chains::both_starts-returns-in_err-answer-clause-stands
+chains::both_starts-returns-in_err-answer-clause-stands g t c =
+    stands_joined (g.C.CountedLeaves.text c.args.source.now) c.args.operands.now c.in-Some.others.now c.in-Some.operand.now c.in-Some.ensures.cases.0 c.back.new.places c.split_at_mut-mine.result.1.now c.back.ensures.stands (others_stand (g.C.CountedLeaves.text c.args.source.now) c.args.operands.now c.in-Some.others.now c.in-Some.operand.now c.in-Some.ensures.cases.0 c.args.places.now c.split_at_mut-mine.result.1.now c.size_of-size.result c.requires.stands c.size_of-size.ensures c.split_at_mut-mine.ensures.back)
+
+pub chains::both_starts-returns-in_err-answer-clause-len : goal.chains::both_starts-returns-in_err-answer-clause-len
+chains::both_starts-returns-in_err-answer-clause-len g t c =
+    let here = operand_at (g.C.CountedLeaves.text c.args.source.now) c.args.operands.now c.in-Some.others.now c.in-Some.operand.now c.in-Some.ensures.cases.0 c.args.places.now c.split_at_mut-mine.result.0.now c.split_at_mut-mine.result.1.now c.size_of-size.result c.requires.well_formed c.requires.stands c.size_of-size.ensures c.split_at_mut-mine.ensures.front c.split_at_mut-mine.ensures.back in
+    joined_length (g.C.CountedLeaves.text c.args.source.now) (form_of c.in-Some.operand.now) c.args.places.now c.split_at_mut-mine.result.0.now c.split_at_mut-mine.result.1.now c.size_of-size.result c.split_at_mut-mine.ensures.front c.split_at_mut-mine.ensures.back here.stands c.back.new.places c.split_at_mut-mine.result.1.now c.back.ensures.stands refl
+
+pub chains::both_starts-returns-in_err-answer-clause-cost : goal.chains::both_starts-returns-in_err-answer-clause-cost
+chains::both_starts-returns-in_err-answer-clause-cost g t c =
+    let here = operand_at (g.C.CountedLeaves.text c.args.source.now) c.args.operands.now c.in-Some.others.now c.in-Some.operand.now c.in-Some.ensures.cases.0 c.args.places.now c.split_at_mut-mine.result.0.now c.split_at_mut-mine.result.1.now c.size_of-size.result c.requires.well_formed c.requires.stands c.size_of-size.ensures c.split_at_mut-mine.ensures.front c.split_at_mut-mine.ensures.back in
+    chain_cost_more (g.C.CountedLeaves.text c.args.source.now) (g.C.CountedLeaves.most c.args.source.now) c.args.operands.now c.in-Some.others.now c.in-Some.operand.now c.in-Some.ensures.cases.0 c.args.places.now c.split_at_mut-mine.result.0.now c.split_at_mut-mine.result.1.now c.size_of-size.result c.split_at_mut-mine.ensures.front c.split_at_mut-mine.ensures.back here.stands c.back.new.places c.split_at_mut-mine.result.1.now c.back.ensures.stands (g.C.CountedLeaves.count c.args.counter.now) (g.C.CountedLeaves.count c.back.new.counter) (g.C.CountedLeaves.count c.back.new.counter) (2 * g.C.CountedLeaves.most c.args.source.now) c.back.ensures.cost (le-add (g.C.CountedLeaves.count c.back.new.counter) (costs_left (g.C.CountedLeaves.text c.args.source.now) (g.C.CountedLeaves.most c.args.source.now) (operand_forms c.in-Some.others.now) c.split_at_mut-mine.result.1.now) (forms_count (operand_forms c.in-Some.others.now) * (2 * g.C.CountedLeaves.most c.args.source.now)))
+
+pub chains::both_starts-returns-clause-stands : goal.chains::both_starts-returns-clause-stands
+chains::both_starts-returns-clause-stands g t c =
+    stands_joined (g.C.CountedLeaves.text c.args.source.now) c.args.operands.now c.in-Some.others.now c.in-Some.operand.now c.in-Some.ensures.cases.0 c.back.new.places c.both_starts.new.places c.back.ensures.stands c.both_starts.ensures.stands
+
+pub chains::both_starts-returns-clause-len : goal.chains::both_starts-returns-clause-len
+chains::both_starts-returns-clause-len g t c =
+    let here = operand_at (g.C.CountedLeaves.text c.args.source.now) c.args.operands.now c.in-Some.others.now c.in-Some.operand.now c.in-Some.ensures.cases.0 c.args.places.now c.split_at_mut-mine.result.0.now c.split_at_mut-mine.result.1.now c.size_of-size.result c.requires.well_formed c.requires.stands c.size_of-size.ensures c.split_at_mut-mine.ensures.front c.split_at_mut-mine.ensures.back in
+    joined_length (g.C.CountedLeaves.text c.args.source.now) (form_of c.in-Some.operand.now) c.args.places.now c.split_at_mut-mine.result.0.now c.split_at_mut-mine.result.1.now c.size_of-size.result c.split_at_mut-mine.ensures.front c.split_at_mut-mine.ensures.back here.stands c.back.new.places c.both_starts.new.places c.back.ensures.stands c.both_starts.ensures.len
+
+pub chains::both_starts-returns-clause-cost : goal.chains::both_starts-returns-clause-cost
+chains::both_starts-returns-clause-cost g t c =
+    let here = operand_at (g.C.CountedLeaves.text c.args.source.now) c.args.operands.now c.in-Some.others.now c.in-Some.operand.now c.in-Some.ensures.cases.0 c.args.places.now c.split_at_mut-mine.result.0.now c.split_at_mut-mine.result.1.now c.size_of-size.result c.requires.well_formed c.requires.stands c.size_of-size.ensures c.split_at_mut-mine.ensures.front c.split_at_mut-mine.ensures.back in
+    chain_cost_more (g.C.CountedLeaves.text c.args.source.now) (g.C.CountedLeaves.most c.args.source.now) c.args.operands.now c.in-Some.others.now c.in-Some.operand.now c.in-Some.ensures.cases.0 c.args.places.now c.split_at_mut-mine.result.0.now c.split_at_mut-mine.result.1.now c.size_of-size.result c.split_at_mut-mine.ensures.front c.split_at_mut-mine.ensures.back here.stands c.back.new.places c.both_starts.new.places c.back.ensures.stands (g.C.CountedLeaves.count c.args.counter.now) (g.C.CountedLeaves.count c.back.new.counter) (g.C.CountedLeaves.count c.both_starts.new.counter) (2 * g.C.CountedLeaves.most c.args.source.now) c.back.ensures.cost c.both_starts.ensures.cost
+
+pub chains::seq_find-returns-in_err-first-clause-stands : goal.chains::seq_find-returns-in_err-first-clause-stands
+chains::seq_find-returns-in_err-first-clause-stands g t c =
+    stands_joined (g.C.CountedLeaves.text c.args.source.now) c.args.operands.now c.in_ok-operand.others.now c.in_ok-operand.operand.now c.in_ok-operand.ensures.cases.0 c.start.new.places c.split_at_mut-mine.result.1.now c.start.ensures.stands (others_stand (g.C.CountedLeaves.text c.args.source.now) c.args.operands.now c.in_ok-operand.others.now c.in_ok-operand.operand.now c.in_ok-operand.ensures.cases.0 c.args.places.now c.split_at_mut-mine.result.1.now c.size_of-size.result c.requires.stands c.size_of-size.ensures c.split_at_mut-mine.ensures.back)
+
+pub chains::seq_find-returns-in_err-first-clause-len : goal.chains::seq_find-returns-in_err-first-clause-len
+chains::seq_find-returns-in_err-first-clause-len g t c =
+    let here = operand_at (g.C.CountedLeaves.text c.args.source.now) c.args.operands.now c.in_ok-operand.others.now c.in_ok-operand.operand.now c.in_ok-operand.ensures.cases.0 c.args.places.now c.split_at_mut-mine.result.0.now c.split_at_mut-mine.result.1.now c.size_of-size.result c.requires.well_formed c.requires.stands c.size_of-size.ensures c.split_at_mut-mine.ensures.front c.split_at_mut-mine.ensures.back in
+    joined_length (g.C.CountedLeaves.text c.args.source.now) (form_of c.in_ok-operand.operand.now) c.args.places.now c.split_at_mut-mine.result.0.now c.split_at_mut-mine.result.1.now c.size_of-size.result c.split_at_mut-mine.ensures.front c.split_at_mut-mine.ensures.back here.stands c.start.new.places c.split_at_mut-mine.result.1.now c.start.ensures.stands refl
+
+pub chains::seq_find-returns-in_err-first-clause-cost : goal.chains::seq_find-returns-in_err-first-clause-cost
+chains::seq_find-returns-in_err-first-clause-cost g t c =
+    let here = operand_at (g.C.CountedLeaves.text c.args.source.now) c.args.operands.now c.in_ok-operand.others.now c.in_ok-operand.operand.now c.in_ok-operand.ensures.cases.0 c.args.places.now c.split_at_mut-mine.result.0.now c.split_at_mut-mine.result.1.now c.size_of-size.result c.requires.well_formed c.requires.stands c.size_of-size.ensures c.split_at_mut-mine.ensures.front c.split_at_mut-mine.ensures.back in
+    chain_cost_more (g.C.CountedLeaves.text c.args.source.now) (g.C.CountedLeaves.most c.args.source.now) c.args.operands.now c.in_ok-operand.others.now c.in_ok-operand.operand.now c.in_ok-operand.ensures.cases.0 c.args.places.now c.split_at_mut-mine.result.0.now c.split_at_mut-mine.result.1.now c.size_of-size.result c.split_at_mut-mine.ensures.front c.split_at_mut-mine.ensures.back here.stands c.start.new.places c.split_at_mut-mine.result.1.now c.start.ensures.stands (g.C.CountedLeaves.count c.args.counter.now) (g.C.CountedLeaves.count c.start.new.counter) (g.C.CountedLeaves.count c.start.new.counter) (2 * g.C.CountedLeaves.most c.args.source.now) (more_left (g.C.CountedLeaves.count c.args.counter.now) (g.C.CountedLeaves.count c.start.new.counter) (cost_left (g.C.CountedLeaves.text c.args.source.now) (g.C.CountedLeaves.most c.args.source.now) (form_of c.in_ok-operand.operand.now) c.start.new.places) (cost_left (g.C.CountedLeaves.text c.args.source.now) (g.C.CountedLeaves.most c.args.source.now) (form_of c.in_ok-operand.operand.now) c.split_at_mut-mine.result.0.now) (2 * g.C.CountedLeaves.most c.args.source.now) c.start.ensures.cost) (le-add (g.C.CountedLeaves.count c.start.new.counter) (costs_left (g.C.CountedLeaves.text c.args.source.now) (g.C.CountedLeaves.most c.args.source.now) (operand_forms c.in_ok-operand.others.now) c.split_at_mut-mine.result.1.now) (forms_count (operand_forms c.in_ok-operand.others.now) * (2 * g.C.CountedLeaves.most c.args.source.now)))
+
+pub chains::seq_find-returns-then-is_empty-clause-stands : goal.chains::seq_find-returns-then-is_empty-clause-stands
+chains::seq_find-returns-then-is_empty-clause-stands g t c =
+    stands_joined (g.C.CountedLeaves.text c.args.source.now) c.args.operands.now c.in_ok-operand.others.now c.in_ok-operand.operand.now c.in_ok-operand.ensures.cases.0 c.start.new.places c.split_at_mut-mine.result.1.now c.start.ensures.stands (others_stand (g.C.CountedLeaves.text c.args.source.now) c.args.operands.now c.in_ok-operand.others.now c.in_ok-operand.operand.now c.in_ok-operand.ensures.cases.0 c.args.places.now c.split_at_mut-mine.result.1.now c.size_of-size.result c.requires.stands c.size_of-size.ensures c.split_at_mut-mine.ensures.back)
+
+pub chains::seq_find-returns-then-is_empty-clause-len : goal.chains::seq_find-returns-then-is_empty-clause-len
+chains::seq_find-returns-then-is_empty-clause-len g t c =
+    let here = operand_at (g.C.CountedLeaves.text c.args.source.now) c.args.operands.now c.in_ok-operand.others.now c.in_ok-operand.operand.now c.in_ok-operand.ensures.cases.0 c.args.places.now c.split_at_mut-mine.result.0.now c.split_at_mut-mine.result.1.now c.size_of-size.result c.requires.well_formed c.requires.stands c.size_of-size.ensures c.split_at_mut-mine.ensures.front c.split_at_mut-mine.ensures.back in
+    joined_length (g.C.CountedLeaves.text c.args.source.now) (form_of c.in_ok-operand.operand.now) c.args.places.now c.split_at_mut-mine.result.0.now c.split_at_mut-mine.result.1.now c.size_of-size.result c.split_at_mut-mine.ensures.front c.split_at_mut-mine.ensures.back here.stands c.start.new.places c.split_at_mut-mine.result.1.now c.start.ensures.stands refl
+
+pub chains::seq_find-returns-then-is_empty-clause-cost : goal.chains::seq_find-returns-then-is_empty-clause-cost
+chains::seq_find-returns-then-is_empty-clause-cost g t c =
+    let here = operand_at (g.C.CountedLeaves.text c.args.source.now) c.args.operands.now c.in_ok-operand.others.now c.in_ok-operand.operand.now c.in_ok-operand.ensures.cases.0 c.args.places.now c.split_at_mut-mine.result.0.now c.split_at_mut-mine.result.1.now c.size_of-size.result c.requires.well_formed c.requires.stands c.size_of-size.ensures c.split_at_mut-mine.ensures.front c.split_at_mut-mine.ensures.back in
+    chain_cost_more (g.C.CountedLeaves.text c.args.source.now) (g.C.CountedLeaves.most c.args.source.now) c.args.operands.now c.in_ok-operand.others.now c.in_ok-operand.operand.now c.in_ok-operand.ensures.cases.0 c.args.places.now c.split_at_mut-mine.result.0.now c.split_at_mut-mine.result.1.now c.size_of-size.result c.split_at_mut-mine.ensures.front c.split_at_mut-mine.ensures.back here.stands c.start.new.places c.split_at_mut-mine.result.1.now c.start.ensures.stands (g.C.CountedLeaves.count c.args.counter.now) (g.C.CountedLeaves.count c.start.new.counter) (g.C.CountedLeaves.count c.start.new.counter) (2 * g.C.CountedLeaves.most c.args.source.now) (more_left (g.C.CountedLeaves.count c.args.counter.now) (g.C.CountedLeaves.count c.start.new.counter) (cost_left (g.C.CountedLeaves.text c.args.source.now) (g.C.CountedLeaves.most c.args.source.now) (form_of c.in_ok-operand.operand.now) c.start.new.places) (cost_left (g.C.CountedLeaves.text c.args.source.now) (g.C.CountedLeaves.most c.args.source.now) (form_of c.in_ok-operand.operand.now) c.split_at_mut-mine.result.0.now) (2 * g.C.CountedLeaves.most c.args.source.now) c.start.ensures.cost) (le-add (g.C.CountedLeaves.count c.start.new.counter) (costs_left (g.C.CountedLeaves.text c.args.source.now) (g.C.CountedLeaves.most c.args.source.now) (operand_forms c.in_ok-operand.others.now) c.split_at_mut-mine.result.1.now) (forms_count (operand_forms c.in_ok-operand.others.now) * (2 * g.C.CountedLeaves.most c.args.source.now)))
+
+pub chains::seq_find-returns-in_err-tail-clause-stands : goal.chains::seq_find-returns-in_err-tail-clause-stands
+chains::seq_find-returns-in_err-tail-clause-stands g t c =
+    stands_joined (g.C.CountedLeaves.text c.args.source.now) c.args.operands.now c.in_ok-operand.others.now c.in_ok-operand.operand.now c.in_ok-operand.ensures.cases.0 c.start.new.places c.seq_find.new.places c.start.ensures.stands c.seq_find.ensures.stands
+
+pub chains::seq_find-returns-in_err-tail-clause-len : goal.chains::seq_find-returns-in_err-tail-clause-len
+chains::seq_find-returns-in_err-tail-clause-len g t c =
+    let here = operand_at (g.C.CountedLeaves.text c.args.source.now) c.args.operands.now c.in_ok-operand.others.now c.in_ok-operand.operand.now c.in_ok-operand.ensures.cases.0 c.args.places.now c.split_at_mut-mine.result.0.now c.split_at_mut-mine.result.1.now c.size_of-size.result c.requires.well_formed c.requires.stands c.size_of-size.ensures c.split_at_mut-mine.ensures.front c.split_at_mut-mine.ensures.back in
+    joined_length (g.C.CountedLeaves.text c.args.source.now) (form_of c.in_ok-operand.operand.now) c.args.places.now c.split_at_mut-mine.result.0.now c.split_at_mut-mine.result.1.now c.size_of-size.result c.split_at_mut-mine.ensures.front c.split_at_mut-mine.ensures.back here.stands c.start.new.places c.seq_find.new.places c.start.ensures.stands c.seq_find.ensures.len
+
+pub chains::seq_find-returns-in_err-tail-clause-cost : goal.chains::seq_find-returns-in_err-tail-clause-cost
+chains::seq_find-returns-in_err-tail-clause-cost g t c =
+    let here = operand_at (g.C.CountedLeaves.text c.args.source.now) c.args.operands.now c.in_ok-operand.others.now c.in_ok-operand.operand.now c.in_ok-operand.ensures.cases.0 c.args.places.now c.split_at_mut-mine.result.0.now c.split_at_mut-mine.result.1.now c.size_of-size.result c.requires.well_formed c.requires.stands c.size_of-size.ensures c.split_at_mut-mine.ensures.front c.split_at_mut-mine.ensures.back in
+    chain_cost_more (g.C.CountedLeaves.text c.args.source.now) (g.C.CountedLeaves.most c.args.source.now) c.args.operands.now c.in_ok-operand.others.now c.in_ok-operand.operand.now c.in_ok-operand.ensures.cases.0 c.args.places.now c.split_at_mut-mine.result.0.now c.split_at_mut-mine.result.1.now c.size_of-size.result c.split_at_mut-mine.ensures.front c.split_at_mut-mine.ensures.back here.stands c.start.new.places c.seq_find.new.places c.start.ensures.stands (g.C.CountedLeaves.count c.args.counter.now) (g.C.CountedLeaves.count c.start.new.counter) (g.C.CountedLeaves.count c.seq_find.new.counter) (2 * g.C.CountedLeaves.most c.args.source.now) (more_left (g.C.CountedLeaves.count c.args.counter.now) (g.C.CountedLeaves.count c.start.new.counter) (cost_left (g.C.CountedLeaves.text c.args.source.now) (g.C.CountedLeaves.most c.args.source.now) (form_of c.in_ok-operand.operand.now) c.start.new.places) (cost_left (g.C.CountedLeaves.text c.args.source.now) (g.C.CountedLeaves.most c.args.source.now) (form_of c.in_ok-operand.operand.now) c.split_at_mut-mine.result.0.now) (2 * g.C.CountedLeaves.most c.args.source.now) c.start.ensures.cost) c.seq_find.ensures.cost
+
+pub chains::seq_find-returns-in_err-head-clause-stands : goal.chains::seq_find-returns-in_err-head-clause-stands
+chains::seq_find-returns-in_err-head-clause-stands g t c =
+    stands_joined (g.C.CountedLeaves.text c.args.source.now) c.args.operands.now c.in_ok-operand.others.now c.in_ok-operand.operand.now c.in_ok-operand.ensures.cases.0 c.back.new.places c.seq_find.new.places c.back.ensures.stands c.seq_find.ensures.stands
+
+pub chains::seq_find-returns-in_err-head-clause-len : goal.chains::seq_find-returns-in_err-head-clause-len
+chains::seq_find-returns-in_err-head-clause-len g t c =
+    let here = operand_at (g.C.CountedLeaves.text c.args.source.now) c.args.operands.now c.in_ok-operand.others.now c.in_ok-operand.operand.now c.in_ok-operand.ensures.cases.0 c.args.places.now c.split_at_mut-mine.result.0.now c.split_at_mut-mine.result.1.now c.size_of-size.result c.requires.well_formed c.requires.stands c.size_of-size.ensures c.split_at_mut-mine.ensures.front c.split_at_mut-mine.ensures.back in
+    joined_length (g.C.CountedLeaves.text c.args.source.now) (form_of c.in_ok-operand.operand.now) c.args.places.now c.split_at_mut-mine.result.0.now c.split_at_mut-mine.result.1.now c.size_of-size.result c.split_at_mut-mine.ensures.front c.split_at_mut-mine.ensures.back here.stands c.back.new.places c.seq_find.new.places c.back.ensures.stands c.seq_find.ensures.len
+
+pub chains::seq_find-returns-in_err-head-clause-cost : goal.chains::seq_find-returns-in_err-head-clause-cost
+chains::seq_find-returns-in_err-head-clause-cost g t c =
+    let here = operand_at (g.C.CountedLeaves.text c.args.source.now) c.args.operands.now c.in_ok-operand.others.now c.in_ok-operand.operand.now c.in_ok-operand.ensures.cases.0 c.args.places.now c.split_at_mut-mine.result.0.now c.split_at_mut-mine.result.1.now c.size_of-size.result c.requires.well_formed c.requires.stands c.size_of-size.ensures c.split_at_mut-mine.ensures.front c.split_at_mut-mine.ensures.back in
+    chain_cost_back (g.C.CountedLeaves.text c.args.source.now) (g.C.CountedLeaves.most c.args.source.now) c.args.operands.now c.in_ok-operand.others.now c.in_ok-operand.operand.now c.in_ok-operand.ensures.cases.0 c.args.places.now c.split_at_mut-mine.result.0.now c.split_at_mut-mine.result.1.now c.size_of-size.result c.split_at_mut-mine.ensures.front c.split_at_mut-mine.ensures.back here.stands c.back.new.places c.seq_find.new.places c.back.ensures.stands (g.C.CountedLeaves.count c.args.counter.now) (g.C.CountedLeaves.count c.start.new.counter) (g.C.CountedLeaves.count c.back.new.counter) (2 * g.C.CountedLeaves.most c.args.source.now) c.start.new.places (g.C.CountedLeaves.count c.seq_find.new.counter) c.start.ensures.cost c.seq_find.ensures.cost c.back.ensures.cost
+
+pub chains::seq_find-returns-clause-stands : goal.chains::seq_find-returns-clause-stands
+chains::seq_find-returns-clause-stands g t c =
+    stands_joined (g.C.CountedLeaves.text c.args.source.now) c.args.operands.now c.in_ok-operand.others.now c.in_ok-operand.operand.now c.in_ok-operand.ensures.cases.0 c.back.new.places c.seq_find.new.places c.back.ensures.stands c.seq_find.ensures.stands
+
+pub chains::seq_find-returns-clause-len : goal.chains::seq_find-returns-clause-len
+chains::seq_find-returns-clause-len g t c =
+    let here = operand_at (g.C.CountedLeaves.text c.args.source.now) c.args.operands.now c.in_ok-operand.others.now c.in_ok-operand.operand.now c.in_ok-operand.ensures.cases.0 c.args.places.now c.split_at_mut-mine.result.0.now c.split_at_mut-mine.result.1.now c.size_of-size.result c.requires.well_formed c.requires.stands c.size_of-size.ensures c.split_at_mut-mine.ensures.front c.split_at_mut-mine.ensures.back in
+    joined_length (g.C.CountedLeaves.text c.args.source.now) (form_of c.in_ok-operand.operand.now) c.args.places.now c.split_at_mut-mine.result.0.now c.split_at_mut-mine.result.1.now c.size_of-size.result c.split_at_mut-mine.ensures.front c.split_at_mut-mine.ensures.back here.stands c.back.new.places c.seq_find.new.places c.back.ensures.stands c.seq_find.ensures.len
+
+pub chains::seq_find-returns-clause-cost : goal.chains::seq_find-returns-clause-cost
+chains::seq_find-returns-clause-cost g t c =
+    let here = operand_at (g.C.CountedLeaves.text c.args.source.now) c.args.operands.now c.in_ok-operand.others.now c.in_ok-operand.operand.now c.in_ok-operand.ensures.cases.0 c.args.places.now c.split_at_mut-mine.result.0.now c.split_at_mut-mine.result.1.now c.size_of-size.result c.requires.well_formed c.requires.stands c.size_of-size.ensures c.split_at_mut-mine.ensures.front c.split_at_mut-mine.ensures.back in
+    chain_cost_back (g.C.CountedLeaves.text c.args.source.now) (g.C.CountedLeaves.most c.args.source.now) c.args.operands.now c.in_ok-operand.others.now c.in_ok-operand.operand.now c.in_ok-operand.ensures.cases.0 c.args.places.now c.split_at_mut-mine.result.0.now c.split_at_mut-mine.result.1.now c.size_of-size.result c.split_at_mut-mine.ensures.front c.split_at_mut-mine.ensures.back here.stands c.back.new.places c.seq_find.new.places c.back.ensures.stands (g.C.CountedLeaves.count c.args.counter.now) (g.C.CountedLeaves.count c.start.new.counter) (g.C.CountedLeaves.count c.back.new.counter) (2 * g.C.CountedLeaves.most c.args.source.now) c.start.new.places (g.C.CountedLeaves.count c.seq_find.new.counter) c.start.ensures.cost c.seq_find.ensures.cost c.back.ensures.cost
+
+pub containments::containment_find-returns-in_err-member-clause-stands : goal.containments::containment_find-returns-in_err-member-clause-stands
+containments::containment_find-returns-in_err-member-clause-stands g t c =
+    let here = contain_split c.operands-containment.result.0 (g.C.CountedLeaves.text c.args.source.now) (form_of c.args.expr.now) (form_of c.operands-containment.result.1.now) (form_of c.operands-containment.result.2.now) c.operands-containment.ensures c.args.places.now c.split_at_mut-first_places.result.0.now c.split_at_mut-first_places.result.1.now c.args.k c.size_of-size.result c.requires.stands c.requires.tells c.size_of-size.ensures c.split_at_mut-first_places.ensures.front c.split_at_mut-first_places.ensures.back in
+    contain_joined c.operands-containment.result.0 (g.C.CountedLeaves.text c.args.source.now) (form_of c.args.expr.now) (form_of c.operands-containment.result.1.now) (form_of c.operands-containment.result.2.now) c.operands-containment.ensures c.start.new.places c.split_at_mut-first_places.result.1.now c.start.ensures.stands here.seconds
+
+pub containments::containment_find-returns-in_err-member-clause-len : goal.containments::containment_find-returns-in_err-member-clause-len
+containments::containment_find-returns-in_err-member-clause-len g t c =
+    let here = contain_split c.operands-containment.result.0 (g.C.CountedLeaves.text c.args.source.now) (form_of c.args.expr.now) (form_of c.operands-containment.result.1.now) (form_of c.operands-containment.result.2.now) c.operands-containment.ensures c.args.places.now c.split_at_mut-first_places.result.0.now c.split_at_mut-first_places.result.1.now c.args.k c.size_of-size.result c.requires.stands c.requires.tells c.size_of-size.ensures c.split_at_mut-first_places.ensures.front c.split_at_mut-first_places.ensures.back in
+    joined_length (g.C.CountedLeaves.text c.args.source.now) (form_of c.operands-containment.result.1.now) c.args.places.now c.split_at_mut-first_places.result.0.now c.split_at_mut-first_places.result.1.now c.size_of-size.result c.split_at_mut-first_places.ensures.front c.split_at_mut-first_places.ensures.back here.firsts c.start.new.places c.split_at_mut-first_places.result.1.now c.start.ensures.stands refl
+
+pub containments::containment_find-returns-in_err-member-clause-cost : goal.containments::containment_find-returns-in_err-member-clause-cost
+containments::containment_find-returns-in_err-member-clause-cost g t c =
+    let here = contain_split c.operands-containment.result.0 (g.C.CountedLeaves.text c.args.source.now) (form_of c.args.expr.now) (form_of c.operands-containment.result.1.now) (form_of c.operands-containment.result.2.now) c.operands-containment.ensures c.args.places.now c.split_at_mut-first_places.result.0.now c.split_at_mut-first_places.result.1.now c.args.k c.size_of-size.result c.requires.stands c.requires.tells c.size_of-size.ensures c.split_at_mut-first_places.ensures.front c.split_at_mut-first_places.ensures.back in
+    let after = contain_costs c.operands-containment.result.0 (g.C.CountedLeaves.text c.args.source.now) (g.C.CountedLeaves.most c.args.source.now) (form_of c.args.expr.now) (form_of c.operands-containment.result.1.now) (form_of c.operands-containment.result.2.now) c.operands-containment.ensures c.start.new.places c.split_at_mut-first_places.result.1.now c.start.ensures.stands.count in
+    let before = contain_costs c.operands-containment.result.0 (g.C.CountedLeaves.text c.args.source.now) (g.C.CountedLeaves.most c.args.source.now) (form_of c.args.expr.now) (form_of c.operands-containment.result.1.now) (form_of c.operands-containment.result.2.now) c.operands-containment.ensures c.split_at_mut-first_places.result.0.now c.split_at_mut-first_places.result.1.now here.firsts.count in
+    let whole = ap (cost_below (g.C.CountedLeaves.text c.args.source.now) (g.C.CountedLeaves.most c.args.source.now) (form_of c.args.expr.now)) c.split_at_mut-first_places.ensures.value in
+    omega (arith, after, before, whole, c.start.ensures.cost)
+
+pub containments::containment_find-returns-in-Accept-clause-stands : goal.containments::containment_find-returns-in-Accept-clause-stands
+containments::containment_find-returns-in-Accept-clause-stands g t c =
+    contain_joined c.operands-containment.result.0 (g.C.CountedLeaves.text c.args.source.now) (form_of c.args.expr.now) (form_of c.operands-containment.result.1.now) (form_of c.operands-containment.result.2.now) c.operands-containment.ensures c.loop-next.first_places c.ask-answer.new.places c.loop-next.invariant.first c.ask-answer.ensures.stands
+
+pub containments::containment_find-returns-in-Accept-clause-len : goal.containments::containment_find-returns-in-Accept-clause-len
+containments::containment_find-returns-in-Accept-clause-len g t c =
+    let here = contain_split c.operands-containment.result.0 (g.C.CountedLeaves.text c.args.source.now) (form_of c.args.expr.now) (form_of c.operands-containment.result.1.now) (form_of c.operands-containment.result.2.now) c.operands-containment.ensures c.args.places.now c.split_at_mut-first_places.result.0.now c.split_at_mut-first_places.result.1.now c.args.k c.size_of-size.result c.requires.stands c.requires.tells c.size_of-size.ensures c.split_at_mut-first_places.ensures.front c.split_at_mut-first_places.ensures.back in
+    joined_length (g.C.CountedLeaves.text c.args.source.now) (form_of c.operands-containment.result.1.now) c.args.places.now c.split_at_mut-first_places.result.0.now c.split_at_mut-first_places.result.1.now c.size_of-size.result c.split_at_mut-first_places.ensures.front c.split_at_mut-first_places.ensures.back here.firsts c.loop-next.first_places c.ask-answer.new.places c.loop-next.invariant.first (c.ask-answer.ensures.stands.count ∙ sym here.seconds.count)
+
+pub containments::containment_find-returns-in-Accept-clause-cost : goal.containments::containment_find-returns-in-Accept-clause-cost
+containments::containment_find-returns-in-Accept-clause-cost g t c =
+    let after = contain_costs c.operands-containment.result.0 (g.C.CountedLeaves.text c.args.source.now) (g.C.CountedLeaves.most c.args.source.now) (form_of c.args.expr.now) (form_of c.operands-containment.result.1.now) (form_of c.operands-containment.result.2.now) c.operands-containment.ensures c.loop-next.first_places c.ask-answer.new.places c.loop-next.invariant.first.count in
+    omega (arith, after, c.loop-next.invariant.cost, c.ask-answer.ensures.cost)
+
+pub containments::containment_find-returns-in-Accept-clause-counted : goal.containments::containment_find-returns-in-Accept-clause-counted
+containments::containment_find-returns-in-Accept-clause-counted g t c =
+    omega (arith, c.loop-next.invariant.counted, c.ask-answer.ensures.counted)
+
+pub containments::containment_find-returns-in-Finish-clause-stands : goal.containments::containment_find-returns-in-Finish-clause-stands
+containments::containment_find-returns-in-Finish-clause-stands g t c =
+    contain_joined c.operands-containment.result.0 (g.C.CountedLeaves.text c.args.source.now) (form_of c.args.expr.now) (form_of c.operands-containment.result.1.now) (form_of c.operands-containment.result.2.now) c.operands-containment.ensures c.loop-next.first_places c.ask-answer.new.places c.loop-next.invariant.first c.ask-answer.ensures.stands
+
+pub containments::containment_find-returns-in-Finish-clause-len : goal.containments::containment_find-returns-in-Finish-clause-len
+containments::containment_find-returns-in-Finish-clause-len g t c =
+    let here = contain_split c.operands-containment.result.0 (g.C.CountedLeaves.text c.args.source.now) (form_of c.args.expr.now) (form_of c.operands-containment.result.1.now) (form_of c.operands-containment.result.2.now) c.operands-containment.ensures c.args.places.now c.split_at_mut-first_places.result.0.now c.split_at_mut-first_places.result.1.now c.args.k c.size_of-size.result c.requires.stands c.requires.tells c.size_of-size.ensures c.split_at_mut-first_places.ensures.front c.split_at_mut-first_places.ensures.back in
+    joined_length (g.C.CountedLeaves.text c.args.source.now) (form_of c.operands-containment.result.1.now) c.args.places.now c.split_at_mut-first_places.result.0.now c.split_at_mut-first_places.result.1.now c.size_of-size.result c.split_at_mut-first_places.ensures.front c.split_at_mut-first_places.ensures.back here.firsts c.loop-next.first_places c.ask-answer.new.places c.loop-next.invariant.first (c.ask-answer.ensures.stands.count ∙ sym here.seconds.count)
+
+pub containments::containment_find-returns-in-Finish-clause-cost : goal.containments::containment_find-returns-in-Finish-clause-cost
+containments::containment_find-returns-in-Finish-clause-cost g t c =
+    let after = contain_costs c.operands-containment.result.0 (g.C.CountedLeaves.text c.args.source.now) (g.C.CountedLeaves.most c.args.source.now) (form_of c.args.expr.now) (form_of c.operands-containment.result.1.now) (form_of c.operands-containment.result.2.now) c.operands-containment.ensures c.loop-next.first_places c.ask-answer.new.places c.loop-next.invariant.first.count in
+    omega (arith, after, c.loop-next.invariant.cost, c.ask-answer.ensures.cost)
+
+pub containments::containment_find-returns-in-Finish-clause-counted : goal.containments::containment_find-returns-in-Finish-clause-counted
+containments::containment_find-returns-in-Finish-clause-counted g t c =
+    omega (arith, c.loop-next.invariant.counted, c.ask-answer.ensures.counted)
+
+pub containments::containment_find-returns-in_err-member-in-GoTo-clause-stands : goal.containments::containment_find-returns-in_err-member-in-GoTo-clause-stands
+containments::containment_find-returns-in_err-member-in-GoTo-clause-stands g t c =
+    contain_joined c.operands-containment.result.0 (g.C.CountedLeaves.text c.args.source.now) (form_of c.args.expr.now) (form_of c.operands-containment.result.1.now) (form_of c.operands-containment.result.2.now) c.operands-containment.ensures c.go_on.new.places c.ask-answer.new.places c.go_on.ensures.stands c.ask-answer.ensures.stands
+
+pub containments::containment_find-returns-in_err-member-in-GoTo-clause-len : goal.containments::containment_find-returns-in_err-member-in-GoTo-clause-len
+containments::containment_find-returns-in_err-member-in-GoTo-clause-len g t c =
+    let here = contain_split c.operands-containment.result.0 (g.C.CountedLeaves.text c.args.source.now) (form_of c.args.expr.now) (form_of c.operands-containment.result.1.now) (form_of c.operands-containment.result.2.now) c.operands-containment.ensures c.args.places.now c.split_at_mut-first_places.result.0.now c.split_at_mut-first_places.result.1.now c.args.k c.size_of-size.result c.requires.stands c.requires.tells c.size_of-size.ensures c.split_at_mut-first_places.ensures.front c.split_at_mut-first_places.ensures.back in
+    joined_length (g.C.CountedLeaves.text c.args.source.now) (form_of c.operands-containment.result.1.now) c.args.places.now c.split_at_mut-first_places.result.0.now c.split_at_mut-first_places.result.1.now c.size_of-size.result c.split_at_mut-first_places.ensures.front c.split_at_mut-first_places.ensures.back here.firsts c.go_on.new.places c.ask-answer.new.places c.go_on.ensures.stands (c.ask-answer.ensures.stands.count ∙ sym here.seconds.count)
+
+pub containments::containment_find-returns-in_err-member-in-GoTo-clause-cost : goal.containments::containment_find-returns-in_err-member-in-GoTo-clause-cost
+containments::containment_find-returns-in_err-member-in-GoTo-clause-cost g t c =
+    let after = contain_costs c.operands-containment.result.0 (g.C.CountedLeaves.text c.args.source.now) (g.C.CountedLeaves.most c.args.source.now) (form_of c.args.expr.now) (form_of c.operands-containment.result.1.now) (form_of c.operands-containment.result.2.now) c.operands-containment.ensures c.go_on.new.places c.ask-answer.new.places c.go_on.ensures.stands.count in
+    omega (arith, after, c.loop-next.invariant.cost, c.ask-answer.ensures.cost, c.go_on.ensures.cost)
+
+pub containments::containment_find-returns-in_err-member-in-GoTo-clause-counted : goal.containments::containment_find-returns-in_err-member-in-GoTo-clause-counted
+containments::containment_find-returns-in_err-member-in-GoTo-clause-counted g t c =
+    omega (arith, c.loop-next.invariant.counted, c.ask-answer.ensures.counted, c.go_on.ensures.counted)
+
+pub chains::one_find-returns-clause-counted : goal.chains::one_find-returns-clause-counted
+chains::one_find-returns-clause-counted g t c =
+    omega (arith, c.start-answer.ensures.counted, c.one_find.ensures.counted)
+
+pub chains::both_ends-returns-clause-counted : goal.chains::both_ends-returns-clause-counted
+chains::both_ends-returns-clause-counted g t c =
+    omega (arith, c.start.ensures.counted, c.both_ends.ensures.counted)
+
+pub chains::both_starts-returns-clause-counted : goal.chains::both_starts-returns-clause-counted
+chains::both_starts-returns-clause-counted g t c =
+    omega (arith, c.back.ensures.counted, c.both_starts.ensures.counted)
+
+pub chains::both_find-returns-in_err-start-clause-counted : goal.chains::both_find-returns-in_err-start-clause-counted
+chains::both_find-returns-in_err-start-clause-counted g t c =
+    omega (arith, c.both_ends.ensures.counted, c.both_starts.ensures.counted)
+
+pub chains::both_find-returns-clause-counted : goal.chains::both_find-returns-clause-counted
+chains::both_find-returns-clause-counted g t c =
+    omega (arith, c.both_ends.ensures.counted, c.both_starts.ensures.counted)
+
+pub chains::seq_find-returns-in_err-tail-clause-counted : goal.chains::seq_find-returns-in_err-tail-clause-counted
+chains::seq_find-returns-in_err-tail-clause-counted g t c =
+    omega (arith, c.start.ensures.counted, c.seq_find.ensures.counted)
+
+pub chains::seq_find-returns-in_err-head-clause-counted : goal.chains::seq_find-returns-in_err-head-clause-counted
+chains::seq_find-returns-in_err-head-clause-counted g t c =
+    omega (arith, c.start.ensures.counted, c.seq_find.ensures.counted, c.back.ensures.counted)
+
+pub chains::seq_find-returns-clause-counted : goal.chains::seq_find-returns-clause-counted
+chains::seq_find-returns-clause-counted g t c =
+    omega (arith, c.start.ensures.counted, c.seq_find.ensures.counted, c.back.ensures.counted)
+
+pub chains::both_find-returns-in_err-start-clause-cost : goal.chains::both_find-returns-in_err-start-clause-cost
+chains::both_find-returns-in_err-start-clause-cost g t c =
+    omega (arith, c.both_ends.ensures.cost, c.both_starts.ensures.cost)
+
+pub chains::both_find-returns-in_err-start-clause-len : goal.chains::both_find-returns-in_err-start-clause-len
+chains::both_find-returns-in_err-start-clause-len g t c =
+    c.both_starts.ensures.len ∙ c.both_ends.ensures.len
+
+pub chains::both_find-returns-clause-cost : goal.chains::both_find-returns-clause-cost
+chains::both_find-returns-clause-cost g t c =
+    omega (arith, c.both_ends.ensures.cost, c.both_starts.ensures.cost)
+
+pub chains::both_find-returns-clause-len : goal.chains::both_find-returns-clause-len
+chains::both_find-returns-clause-len g t c =
+    c.both_starts.ensures.len ∙ c.both_ends.ensures.len
+
+pub reading::find-returns-in-Both-clause-cost : goal.reading::find-returns-in-Both-clause-cost
+reading::find-returns-in-Both-clause-cost g t c =
+    let form = form-Both c.args.expr.now c.in-Both.operands c.deref.result.now c.in-Both.is c.deref.ensures.value in
+    find_by (g.C.CountedLeaves.text c.args.source.now) (g.C.CountedLeaves.most c.args.source.now) (form_of c.args.expr.now) (both (operand_forms c.deref.result.now)) form c.args.places.now c.both_find.new.places (g.C.CountedLeaves.count c.args.counter.now) (g.C.CountedLeaves.count c.both_find.new.counter) c.args.k c.both_find.result c.both_find.ensures.cost
+
+pub reading::find-returns-in-Both-clause-stands : goal.reading::find-returns-in-Both-clause-stands
+reading::find-returns-in-Both-clause-stands g t c =
+    let form = form-Both c.args.expr.now c.in-Both.operands c.deref.result.now c.in-Both.is c.deref.ensures.value in
+    subst (λ f. StandBelow (g.C.CountedLeaves.text c.args.source.now) f c.both_find.new.places) (sym form) c.both_find.ensures.stands
+
+pub reading::find-returns-in-One-clause-cost : goal.reading::find-returns-in-One-clause-cost
+reading::find-returns-in-One-clause-cost g t c =
+    let form = form-One c.args.expr.now c.in-One.operands c.deref-in-One.result.now c.in-One.is c.deref-in-One.ensures.value in
+    find_by (g.C.CountedLeaves.text c.args.source.now) (g.C.CountedLeaves.most c.args.source.now) (form_of c.args.expr.now) (one (operand_forms c.deref-in-One.result.now)) form c.args.places.now c.one_find.new.places (g.C.CountedLeaves.count c.args.counter.now) (g.C.CountedLeaves.count c.one_find.new.counter) c.args.k c.one_find.result (more_left (g.C.CountedLeaves.count c.args.counter.now) (g.C.CountedLeaves.count c.one_find.new.counter) (costs_left (g.C.CountedLeaves.text c.args.source.now) (g.C.CountedLeaves.most c.args.source.now) (operand_forms c.deref-in-One.result.now) c.one_find.new.places) (costs_left (g.C.CountedLeaves.text c.args.source.now) (g.C.CountedLeaves.most c.args.source.now) (operand_forms c.deref-in-One.result.now) c.args.places.now) 0 c.one_find.ensures.cost)
+
+pub reading::find-returns-in-One-clause-stands : goal.reading::find-returns-in-One-clause-stands
+reading::find-returns-in-One-clause-stands g t c =
+    let form = form-One c.args.expr.now c.in-One.operands c.deref-in-One.result.now c.in-One.is c.deref-in-One.ensures.value in
+    subst (λ f. StandBelow (g.C.CountedLeaves.text c.args.source.now) f c.one_find.new.places) (sym form) c.one_find.ensures.stands
+
+pub reading::find-returns-in-Seq-clause-cost : goal.reading::find-returns-in-Seq-clause-cost
+reading::find-returns-in-Seq-clause-cost g t c =
+    let form = form-Seq c.args.expr.now c.in-Seq.operands c.deref-in-Seq.result.now c.in-Seq.is c.deref-in-Seq.ensures.value in
+    find_by (g.C.CountedLeaves.text c.args.source.now) (g.C.CountedLeaves.most c.args.source.now) (form_of c.args.expr.now) (seq (operand_forms c.deref-in-Seq.result.now)) form c.args.places.now c.seq_find.new.places (g.C.CountedLeaves.count c.args.counter.now) (g.C.CountedLeaves.count c.seq_find.new.counter) c.args.k c.seq_find.result c.seq_find.ensures.cost
+
+pub reading::find-returns-in-Seq-clause-stands : goal.reading::find-returns-in-Seq-clause-stands
+reading::find-returns-in-Seq-clause-stands g t c =
+    let form = form-Seq c.args.expr.now c.in-Seq.operands c.deref-in-Seq.result.now c.in-Seq.is c.deref-in-Seq.ensures.value in
+    subst (λ f. StandBelow (g.C.CountedLeaves.text c.args.source.now) f c.seq_find.new.places) (sym form) c.seq_find.ensures.stands
