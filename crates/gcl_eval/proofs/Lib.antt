@@ -15,3 +15,4 @@ pub mod OperandLemmas
 pub mod TermAccess
 pub mod TwoWidths
 mod Worked
+mod PageCost

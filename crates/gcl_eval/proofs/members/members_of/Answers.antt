@@ -1,9 +1,11 @@
-use Rattle.std.proofs.Common.{◌∷◌, length, refl, ap, sym, ◌∙◌, arith}
+use Rattle.std.proofs.Common.{◌+◌, ◌*◌, ◌≤◌, ◌∷◌, length, take, refl, ap, sym, ◌∙◌, arith}
 use Rattle.gcl_model.specs.FormOf.{form_of}
 use Rattle.gcl_model.specs.Meaning.{concordance}
 use Rattle.gcl_model.proofs.Meanings.{concordance_rises}
 use Rattle.gcl_eval.specs.Costs.{near_cost}
 use Rattle.gcl_eval.specs.Members.{members_from}
+use Rattle.gcl_eval.proofs.PageCost.{within_page}
+use Rattle.gcl_eval.proofs.CostLemmas.{within_cost}
 use Rattle.gcl_eval.proofs.KnownLemmas.{none_is_known}
 use Rattle.phrase_walk.proofs.Asked.{one_asked}
 use Rattle.gcl_eval.proofs.Listing.{next_member, put_next, put_counted, full, none_left}
@@ -53,3 +55,55 @@ returns-clause-ok g c =
       | else-loop-page-test w ↦ full list (members_from list c.args.page.from) c.loop-page.members c.loop-page.from c.loop-page.invariant.kept c.args.page.most (let done = w.loop-page-test.false in omega arith)
       | then-loop-page-test+in_default w ↦ none_left list (members_from list c.args.page.from) c.loop-page.members c.loop-page.from c.loop-page.invariant.kept c.args.page.most (sym w.next_member.ensures.answer ∙ w.in_default.is) few
     ]
+
+pub returns-in_err-push-clause-near_cost : goal.returns-in_err-push-clause-near_cost
+returns-in_err-push-clause-near_cost g c =
+    let text = g.C.CountedLeaves.text c.args.source.now in
+    let most = g.C.CountedLeaves.most c.args.source.now in
+    let list = concordance text (form_of c.args.expr.now) in
+    let old = g.C.CountedLeaves.count c.args.counter.now in
+    let near = near_cost text most (form_of c.args.expr.now) in
+    let new = g.C.CountedLeaves.count c.next_member.new.counter in
+    let asked = one_asked old (g.C.CountedLeaves.count c.loop-page.counter) new (length c.loop-page.members) near c.loop-page.invariant.cost c.next_member.ensures.cost in
+    within_page c.loop-page.members (members_from list c.loop-page.from) (members_from list c.args.page.from) c.loop-page.invariant.kept c.args.page.most c.loop-page.invariant.few old new near asked
+
+pub returns-in_err-push-clause-cost : goal.returns-in_err-push-clause-cost
+returns-in_err-push-clause-cost g c =
+    let text = g.C.CountedLeaves.text c.args.source.now in
+    let most = g.C.CountedLeaves.most c.args.source.now in
+    let list = concordance text (form_of c.args.expr.now) in
+    let old = g.C.CountedLeaves.count c.args.counter.now in
+    let near = near_cost text most (form_of c.args.expr.now) in
+    let new = g.C.CountedLeaves.count c.next_member.new.counter in
+    let asked = one_asked old (g.C.CountedLeaves.count c.loop-page.counter) new (length c.loop-page.members) near c.loop-page.invariant.cost c.next_member.ensures.cost in
+    within_cost text most (form_of c.args.expr.now) old new (length (take c.args.page.most (members_from list c.args.page.from)) + 1) (within_page c.loop-page.members (members_from list c.loop-page.from) (members_from list c.args.page.from) c.loop-page.invariant.kept c.args.page.most c.loop-page.invariant.few old new near asked)
+
+pub returns-clause-near_cost : goal.returns-clause-near_cost
+returns-clause-near_cost g c =
+    let text = g.C.CountedLeaves.text c.args.source.now in
+    let most = g.C.CountedLeaves.most c.args.source.now in
+    let list = concordance text (form_of c.args.expr.now) in
+    let old = g.C.CountedLeaves.count c.args.counter.now in
+    let near = near_cost text most (form_of c.args.expr.now) in
+    let new = g.C.CountedLeaves.count c.loop-page-test.counter in
+    let asked : new ≤ old + (length c.loop-page.members + 1) * near
+    = elim c.loop-page-test.branch [
+      | else-loop-page-test w ↦ rw w.counter-is (omega (arith, c.loop-page.invariant.cost))
+      | then-loop-page-test+in_default w ↦ rw w.counter-is (one_asked old (g.C.CountedLeaves.count c.loop-page.counter) (g.C.CountedLeaves.count w.next_member.new.counter) (length c.loop-page.members) near c.loop-page.invariant.cost w.next_member.ensures.cost)
+    ] in
+    within_page c.loop-page.members (members_from list c.loop-page.from) (members_from list c.args.page.from) c.loop-page.invariant.kept c.args.page.most c.loop-page.invariant.few old new near asked
+
+pub returns-clause-cost : goal.returns-clause-cost
+returns-clause-cost g c =
+    let text = g.C.CountedLeaves.text c.args.source.now in
+    let most = g.C.CountedLeaves.most c.args.source.now in
+    let list = concordance text (form_of c.args.expr.now) in
+    let old = g.C.CountedLeaves.count c.args.counter.now in
+    let near = near_cost text most (form_of c.args.expr.now) in
+    let new = g.C.CountedLeaves.count c.loop-page-test.counter in
+    let asked : new ≤ old + (length c.loop-page.members + 1) * near
+    = elim c.loop-page-test.branch [
+      | else-loop-page-test w ↦ rw w.counter-is (omega (arith, c.loop-page.invariant.cost))
+      | then-loop-page-test+in_default w ↦ rw w.counter-is (one_asked old (g.C.CountedLeaves.count c.loop-page.counter) (g.C.CountedLeaves.count w.next_member.new.counter) (length c.loop-page.members) near c.loop-page.invariant.cost w.next_member.ensures.cost)
+    ] in
+    within_cost text most (form_of c.args.expr.now) old new (length (take c.args.page.most (members_from list c.args.page.from)) + 1) (within_page c.loop-page.members (members_from list c.loop-page.from) (members_from list c.args.page.from) c.loop-page.invariant.kept c.args.page.most c.loop-page.invariant.few old new near asked)
