@@ -1,0 +1,7 @@
+use Rattle.term_fingers.proofs.whole.WholeSlots.list.Goals as goal
+
+pub returns-clause-slot : goal.returns-clause-slot
+returns-clause-slot g c = c.new.ensures.slot
+
+pub returns-clause-place : goal.returns-clause-place
+returns-clause-place g c = c.new.ensures.place
