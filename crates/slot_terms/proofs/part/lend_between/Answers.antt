@@ -1,7 +1,9 @@
-use Rattle.std.proofs.Common.{◌<◌, ap, subst, ◌∙◌, arith}
+use Rattle.std.proofs.Common.{◌≡◌, ℕ, ◌<◌, List, ◌++◌, length, drop, refl, sym, ap, subst, ◌∙◌, arith, append-nil}
 use Rattle.std.specs.List.{concat}
+use Rattle.std.proofs.lemmas.List.{nil_from_length}
 use Rattle.gcl_model.specs.Slots.{SlotRange, slot_range}
-use Rattle.slot_terms.proofs.Between.{IsParted, between_apart, between_goes, between_ends, between_passes}
+use Rattle.slot_terms.specs.Parts.{alive}
+use Rattle.slot_terms.proofs.Between.{IsBetween, IsParted, between_apart, between_goes, between_ends, between_passes}
 use Rattle.slot_terms.proofs.Firsts.{concat_push}
 use Rattle.slot_terms.proofs.part.lend_between.Goals as goal
 
@@ -47,3 +49,14 @@ loop-range-preserved-then-len c =
     between_passes c.args.ranges.now c.args.block (concat c.args.lists.now.items) (concat c.loop-range.lists.items) c.loop-range.rest c.split-live.result.0 c.split-live.result.1 c.split.result.0 c.split.result.1
     c.loop-range.range-index c.range-item.result c.loop-range-test.true c.range-item.is c.requires.apart c.loop-range.invariant parted
     (omega (arith, c.if-len.true, c.len-in-loop-range.ensures.value, c.len-in-loop-range-2.ensures.value))
+
+-- where nothing is left all is put
+between_none : (ranges : List SlotRange) (block out put rest : List ℕ) (i : ℕ) → length rest ≡ 0 → IsBetween ranges block out put rest i → put ≡ out ++ alive ranges block
+between_none ranges block out put rest i none was = sym (append-nil put) ∙ ap (λ l. put ++ alive (drop i ranges) l) (sym (nil_from_length rest none)) ∙ was.all
+
+pub loop-range-init : goal.loop-range-init
+loop-range-init c = record { all = refl; few = c.requires.few }
+
+pub returns-then-len-eq0 : goal.returns-then-len-eq0
+returns-then-len-eq0 c =
+    between_none c.args.ranges.now c.args.block (concat c.args.lists.now.items) (concat c.loop-range.lists.items) c.loop-range.rest c.loop-range.range-index (sym c.len.ensures.value ∙ c.if-len-eq0.true) c.loop-range.invariant

@@ -1,7 +1,8 @@
-use Rattle.std.proofs.Common.{◌++◌, sym, ap, ◌∙◌, arith}
+use Rattle.std.proofs.Common.{◌++◌, refl, sym, ap, ◌∙◌, arith, append-nil}
 use Rattle.slot_terms.specs.Parts.{PartContent, alive, head_postings, past}
 use Rattle.slot_terms.proofs.Heads.{past_more}
 use Rattle.slot_terms.proofs.Loops.{flat_map_item}
+use Rattle.slot_terms.proofs.Taken.{taken_all}
 use Rattle.slot_terms.proofs.terms.take_term.Goals as goal
 
 pub loop-part-preserved : goal.loop-part-preserved
@@ -19,3 +20,19 @@ loop-part-preserved c =
           c.loop-part.invariant.addresses (c.in_ok-take.ensures.addresses ∙ ap (λ (p : PartContent). out ++ alive p.mask (head_postings p.left term)) (sym c.part-item.is));
       past = more.1;
     }
+
+pub loop-part-init : goal.loop-part-init
+loop-part-init c = record { addresses = sym (append-nil c.args.addresses.now.items); past = refl }
+
+pub take-requires : goal.take-requires
+take-requires c = c.requires
+
+pub returns-clause-addresses : goal.returns-clause-addresses
+returns-clause-addresses c =
+    let was = c.loop-part.invariant in
+    (taken_all c.args.first.now.term.now c.args.parts.now c.loop-part.parts c.args.addresses.now.items c.loop-part.addresses.items c.loop-part.part-index c.loop-part-test.false (record { lists = was.addresses; past_it = was.past })).0
+
+pub returns-clause-past : goal.returns-clause-past
+returns-clause-past c =
+    let was = c.loop-part.invariant in
+    (taken_all c.args.first.now.term.now c.args.parts.now c.loop-part.parts c.args.addresses.now.items c.loop-part.addresses.items c.loop-part.part-index c.loop-part-test.false (record { lists = was.addresses; past_it = was.past })).1
