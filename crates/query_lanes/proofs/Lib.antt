@@ -4,4 +4,5 @@ pub mod MergeLemmas
 pub mod LaneLemmas
 pub mod EachLane
 pub mod Crossings
+mod BatchLemmas
 mod Worked

@@ -1,8 +1,39 @@
-use Rattle.std.proofs.Common.{length, ◌∙◌}
+use Rattle.std.proofs.Common.{length, inr, sym, ap, ◌∙◌}
+use Rattle.collection.specs.Engines.{EngineContent}
+use Rattle.query_lanes.proofs.BatchLemmas.{each_of, keeps_same, over_collection, run_of, where_publisher, where_stands}
 use Rattle.query_lanes.proofs.LaneLemmas.{all_trusted}
 use Rattle.query_lanes.proofs.MergeLemmas.{where_text}
 use Rattle.query_lanes.proofs.ReaderLemmas.{are_of}
 use Rattle.query_lanes.proofs.batch.answer_in_lanes.Goals as goal
+
+pub tell_all-requires : goal.tell_all-requires
+tell_all-requires g c = each_of c.args.engine.now.publisher c.args.readers.now c.requires.of
+
+pub returns-in_err-run_all-clause-stands : goal.returns-in_err-run_all-clause-stands
+returns-in_err-run_all-clause-stands g c = keeps_same c.args.engine.now c.run_all.new.engine c.in_err-run_all.ensures.err
+
+pub returns-in_err-run_all-clause-of : goal.returns-in_err-run_all-clause-of
+returns-in_err-run_all-clause-of g c =
+    are_of c.run_all.new.engine.publisher c.run_all.new.readers
+    (run_of c.args.asks.now _ c.args.engine.now.publisher c.run_all.new.engine.publisher c.tell_all.new.readers c.run_all.new.readers c.run_all.new.works c.in_err-run_all.ensures.lanes
+    (ap (λ (e : EngineContent). e.publisher) c.in_err-run_all.ensures.err) c.tell_all.ensures.of)
+
+pub settle_all-requires-clause-of : goal.settle_all-requires-clause-of
+settle_all-requires-clause-of g c =
+    run_of c.args.asks.now _ c.args.engine.now.publisher c.run_all.new.engine.publisher c.tell_all.new.readers c.run_all.new.readers c.run_all.new.works c.in_ok-run_all.ensures.lanes
+    (where_publisher c.args.pending c.args.engine.now c.run_all.new.engine c.in_ok-run_all.ensures.merged) c.tell_all.ensures.of
+
+pub settle_all-requires-clause-same : goal.settle_all-requires-clause-same
+settle_all-requires-clause-same g c = c.in_ok-run_all.ensures.lanes.works_are ∙ sym c.in_ok-run_all.ensures.lanes.readers
+
+pub returns-then-any-clause-stands : goal.returns-then-any-clause-stands
+returns-then-any-clause-stands g c = where_stands c.args.pending c.args.engine.now c.run_all.new.engine c.in_ok-run_all.ensures.merged
+
+pub returns-then-any-clause-err : goal.returns-then-any-clause-err
+returns-then-any-clause-err g c = inr c.in_ok-run_all.ensures.merged
+
+pub returns-then-any-clause-of : goal.returns-then-any-clause-of
+returns-then-any-clause-of g c = are_of c.run_all.new.engine.publisher c.settle_all.new.readers c.settle_all.ensures.of
 
 -- the argument of the whole: what the lanes made counts by what their readers were told before and after
 pub gather-requires : goal.gather-requires
@@ -12,8 +43,29 @@ gather-requires g c =
     (c.settle_all.ensures.settled.works_are ∙ c.in_ok-run_all.ensures.lanes.works_are ∙ c.tell_all.ensures.told.count)
     (where_text c.args.pending c.args.engine.now c.run_all.new.engine c.is_lawful.ensures.ends c.in_ok-run_all.ensures.merged) c.tell_all.ensures.told c.in_ok-run_all.ensures.lanes c.settle_all.ensures.settled
 
+pub returns-in_err-answers-clause-stands : goal.returns-in_err-answers-clause-stands
+returns-in_err-answers-clause-stands g c = where_stands c.args.pending c.args.engine.now c.run_all.new.engine c.in_ok-run_all.ensures.merged
+
 pub returns-in_err-answers-clause-of : goal.returns-in_err-answers-clause-of
 returns-in_err-answers-clause-of g c = are_of c.run_all.new.engine.publisher c.settle_all.new.readers c.settle_all.ensures.of
+
+pub returns-clause-answers : goal.returns-clause-answers
+returns-clause-answers g c = λ collection stands.
+    c.in_ok-answers.ensures
+    ∙ over_collection c.args.asks.now c.args.engine.now.version c.run_all.new.engine.version collection
+    (where_stands c.args.pending c.args.engine.now c.run_all.new.engine c.in_ok-run_all.ensures.merged) stands
+
+pub returns-clause-here : goal.returns-clause-here
+returns-clause-here g c = c.in_ok-answers.ensures
+
+pub returns-clause-merged : goal.returns-clause-merged
+returns-clause-merged g c = c.in_ok-run_all.ensures.merged
+
+pub returns-clause-err : goal.returns-clause-err
+returns-clause-err g c = tt
+
+pub returns-clause-stands : goal.returns-clause-stands
+returns-clause-stands g c = where_stands c.args.pending c.args.engine.now c.run_all.new.engine c.in_ok-run_all.ensures.merged
 
 pub returns-clause-of : goal.returns-clause-of
 returns-clause-of g c = are_of c.run_all.new.engine.publisher c.settle_all.new.readers c.settle_all.ensures.of
