@@ -2,6 +2,7 @@
 pub mod ActionSteps
 pub mod BatchLemmas
 pub mod BatchSteps
+mod Exits
 pub mod ImageLemmas
 pub mod LocalEdits
 pub mod Replies

@@ -1,14 +1,17 @@
-use Rattle.std.proofs.Common.{◌≡◌, ◌+◌, ◌≤◌, ◌||◌, List, length, map, refl, sym, ap, ◌∙◌, subst, rules}
+use Rattle.std.proofs.Common.{◌≤◌, length, map, refl, sym, ap, ◌∙◌, subst, arith, rules}
 use Rattle.std.proofs.lemmas.List.{length-map}
 use Rattle.gcl_model.proofs.Cases.{on_err}
 use Rattle.gcl_model.specs.Collections.{text_of}
 use Rattle.live_version.specs.Contents.{version_text}
 use Rattle.query_lanes.specs.Answers.{answer_in}
+use Rattle.gcl_model.specs.Limits.{most_readers}
+use Rattle.query_lanes.specs.Readers.{AreOf}
 use Rattle.script_answers.specs.Faults.{of_write}
-use Rattle.script_answers.specs.declared.run_fault.RunFault.TheVariants.{NoMemory}
+use Rattle.script_answers.specs.declared.run_fault.RunFault.TheVariants.{Write, Files, NoMemory}
 use Rattle.script_answers.specs.inner.Service.{fault_ending}
 use Rattle.script_answers.proofs.BatchLemmas.{merged_keeps}
 use Rattle.script_answers.proofs.BatchSteps.{halts_batch, serves_batch, waits_batch}
+use Rattle.script_answers.proofs.Exits.{calm, calm_done, err_of, merged_number, not_files, savable_still, short_files, short_write, sink_ended, whole_row, within_done, asked_done, numbered_done}
 use Rattle.script_answers.proofs.Service.{ending_is, lost_write, no_files}
 use Rattle.script_answers.proofs.serving.serve_batch.Goals as goal
 
@@ -32,3 +35,36 @@ returns-clause-serves g c = λ held batch are.
     (ap length c.in_ok-answers.ensures.here ∙ length-map c.as_slice.result.now (answer_in (version_text c.answer_batch.new.engine.version)) ∙ ap length c.as_slice.ensures.value) c.in_ok-progress.ensures.completed
     (λ state keeps. merged_keeps c.args.progress.now.pending c.args.opened.now.engine c.answer_batch.new.engine state c.in_ok-answers.ensures.merged keeps)
     (λ state keeps. c.in_ok-answers.ensures.answers state.collection keeps.stands ∙ ap (map (answer_in (text_of state.collection))) c.as_slice.ensures.value) (search rules) c.in_ok-progress.ensures.written
+
+pub returns-in_err-answers-clause-sink : goal.returns-in_err-answers-clause-sink
+returns-in_err-answers-clause-sink g c = calm _ _ c.from_residual.result NoMemory Write refl c.from_residual.ensures.1 short_write
+
+pub returns-in_err-answers-clause-ours : goal.returns-in_err-answers-clause-ours
+returns-in_err-answers-clause-ours g c = λ of. short_files (err_of c.from_residual.result NoMemory Files c.from_residual.ensures.1 of)
+
+pub returns-in_err-progress-clause-sink : goal.returns-in_err-progress-clause-sink
+returns-in_err-progress-clause-sink g c = sink_ended _ _ _ c.from_residual-in_err-progress.result c.in_err-progress.field-0.0 refl c.from_residual-in_err-progress.ensures.1 c.in_err-progress.ensures.counts c.in_err-progress.ensures.cause
+
+pub returns-in_err-progress-clause-ours : goal.returns-in_err-progress-clause-ours
+returns-in_err-progress-clause-ours g c = λ of. not_files c.in_err-progress.field-0.0 (err_of c.from_residual-in_err-progress.result (of_write c.in_err-progress.field-0.0) Files c.from_residual-in_err-progress.ensures.1 of)
+
+pub returns-clause-serving : goal.returns-clause-serving
+returns-clause-serving g c =
+    let serving = c.requires.serving in
+    let lines = c.in_ok-progress.ensures.completed in
+    let many = ap length c.in_ok-answers.ensures.here ∙ length-map c.as_slice.result.now (answer_in (version_text c.answer_batch.new.engine.version)) ∙ ap length c.as_slice.ensures.value in
+    let lent = c.answer_batch.auto.readers ∙ ap length c.as_mut_slice.ensures.value in
+    let held = c.args.opened.now.readers.ok in
+    let whole = whole_row c.answer_batch.new.readers c.args.opened.now.readers.items c.args.opened.now.readers.len (omega (arith, held)) lent in
+    record {
+      savable = savable_still c.args.opened.now.engine.version c.answer_batch.new.engine.version c.in_ok-answers.ensures.stands serving.savable;
+      numbers = within_done _ _ _ _ _ (merged_number c.args.progress.now.pending c.args.opened.now.engine c.answer_batch.new.engine c.in_ok-answers.ensures.merged) serving.numbers lines;
+      asked = asked_done _ _ _ _ _ many lines serving.asked;
+      lanes = subst (λ l. length l ≤ most_readers) (sym whole) (subst (λ n. n ≤ most_readers) (sym lent) serving.lanes);
+      of = subst (AreOf c.answer_batch.new.engine.publisher) (sym whole) c.in_ok-answers.ensures.of;
+      watches = serving.watches;
+      numbered = numbered_done _ _ _ _ serving.numbered lines;
+    }
+
+pub returns-clause-sink : goal.returns-clause-sink
+returns-clause-sink g c = calm_done _ _ Write c.in_ok-progress.ensures.counts
