@@ -1,4 +1,5 @@
 use Rattle.std.proofs.Common.{◌++◌, ◌^◌, drop, length, length-append, take, sym, ap, ◌∙◌, subst, arith}
+use Rattle.std.proofs.Math.Seq.{take-append_seam}
 use Rattle.std.specs.List.{concat}
 use Rattle.posting_code.specs.Joined.{last_in}
 use Rattle.posting_code.specs.Packed.{packed_of}
@@ -75,3 +76,18 @@ loop-list-preserved c =
           (no_shorter heads c.loop-list.heads.items c.loop-list.invariant.begins) c.loop-list.invariant.marks);
       begins = still_begins heads c.loop-list.heads.items c.put_heads.new.heads.items c.loop-list.invariant.begins c.in_ok-put_heads.ensures.before;
     }
+
+-- what was put before stays there
+pub returns-in_err-put_heads-clause-packed_before : goal.returns-in_err-put_heads-clause-packed_before
+returns-in_err-put_heads-clause-packed_before c =
+    let front = concat (take c.loop-list.list-index c.args.lists.now) in
+    let put = c.in_ok-last.ensures.put front c.args.packed.now.items c.loop-list.invariant.last c.loop-list.invariant.put in
+    ap (take (length c.args.packed.now.items)) put ∙ take-append_seam c.args.packed.now.items (packed_of (front ++ c.list-item.result))
+
+pub returns-in_err-put_heads-clause-heads_before : goal.returns-in_err-put_heads-clause-heads_before
+returns-in_err-put_heads-clause-heads_before c =
+    still_begins c.args.heads.now.items c.loop-list.heads.items c.put_heads.new.heads.items c.loop-list.invariant.begins c.in_err-put_heads.ensures.before
+
+pub returns-clause-packed_before : goal.returns-clause-packed_before
+returns-clause-packed_before c =
+    ap (take (length c.args.packed.now.items)) c.loop-list.invariant.put ∙ take-append_seam c.args.packed.now.items (packed_of (concat (take c.loop-list.list-index c.args.lists.now)))
