@@ -1,4 +1,4 @@
-ghost use Rattle.std.specs.Prelude.{◌≡◌, ℕ, ◌+◌, ◌<◌, ◌≤◌, ◌^◌, true, [], ◌∷◌, ◌++◌, length, vec_len, vec_capacity, None, IfOk, OnOk, OnErr, IsErrOf, ◌⊎◌};
+ghost use Rattle.std.specs.Prelude.{◌≡◌, ℕ, ◌+◌, ◌<◌, ◌≤◌, ◌^◌, true, [], ◌∷◌, ◌++◌, length, vec_len, vec_capacity, None, Some, Ok, IfOk, OnOk, OnErr, IsErrOf, ◌⊎◌};
 ghost use mathlib.Core.List.{IsPrefix};
 ghost use Rattle.shared_edit.specs.Settling.{GoesByItself, HasEntered, IsStaleFor, TakesPlan};
 ghost use Rattle.shared_edit.specs.declared.faults.StaleSlot.{StaleSlot};
@@ -12,12 +12,13 @@ ghost use Rattle.live_version.specs.Changes.{file_with_id};
 ghost use Rattle.live_version.specs.Contents.{files_of};
 ghost use Rattle.manifest_publish.specs.Accounts.{Account, EndsWith};
 ghost use Rattle.collection.specs.Changes.{IsAdd, IsDelete};
-ghost use Rattle.collection.specs.declared.faults.AddFault.TheVariants.{AddressesSpent as NoRoom};
+ghost use Rattle.collection.specs.declared.faults.AddFault.TheVariants.{AddressesSpent as NoRoom, NoMemory};
 ghost use Rattle.collection.specs.Engines.{engine_content, published};
 ghost use Rattle.live_version.specs.Changes.{empty_version};
 ghost use Rattle.shared_edit.specs.Books.{BookContent, IsBook, IsJournalOf, book_content, FilesAdd, FilesGone, FilesNotLive, FilesSpent, added_entry, gone_entry, not_live_entry, spent_entry};
 ghost use Rattle.shared_edit.specs.Drafts.{IsDraft};
 ghost use Rattle.shared_edit.specs.Histories.{count_of, is_added, is_gone, is_refused};
+ghost use Rattle.shared_edit.specs.declared.entry.EditReply.TheVariants.{Added as WasAdded, Spent as WasSpent};
 ghost use Rattle.shared_edit.specs.declared.faults.FiledAddFault.TheVariants.{AddressesSpent as Spent, NoMemory as AddNoMemory};
 ghost use Rattle.shared_edit.specs.declared.faults.FiledDeleteFault.TheVariants.{NotLive, NoMemory as DeleteNoMemory};
 
@@ -29,7 +30,7 @@ use crate::plan::Plan;
 use crate::settle::settle_in;
 use address_space::FileId;
 use collection::{AddFault, Added, DeleteFault, Engine, TextIndex};
-use manifest_publish::{Reader, Receipt};
+use manifest_publish::{Pass, Reader, Receipt};
 use std::alloc::AllocError;
 use std::marker::Model;
 use std::sync::Wait;
@@ -90,6 +91,57 @@ fn place<R: Wait>(
     }
 }
 
+/// What is filed of the answer to an add, if anything is.
+fn reply_to(answer: &Result<Added, AddFault>) -> Option<EditReply>
+    ensures ok { IfOk answer.now (λ added. result ≡ Some (WasAdded added.id.0 added.first added.last)) }
+    ensures spent { (next : ℕ) → (need : ℕ) → IsErrOf answer.now (NoRoom next need) → result ≡ Some (WasSpent next need) }
+    ensures no_memory { IsErrOf answer.now NoMemory → result ≡ None }
+{
+    match answer {
+        Ok(added) => Some(EditReply::Added(added.id.0, added.first, added.last)),
+        Err(AddFault::AddressesSpent { next, need }) => Some(EditReply::Spent(*next, *need)),
+        Err(AddFault::NoMemory) => None,
+    }
+}
+
+/// Files the entry of an add, if the answer to it has one.
+fn file_add(journal: &mut Vec<Entry>, editor: u64, edit: Edit, answer: &Result<Added, AddFault>)
+    requires room { vec_len journal.old < vec_capacity journal.old }
+    ensures ok { IfOk answer.now (λ added. journal.new.items ≡
+        journal.old.items ++ record { editor = editor; edit = edit; reply = WasAdded added.id.0 added.first added.last } ∷ []) }
+    ensures spent { (next : ℕ) → (need : ℕ) → IsErrOf answer.now (NoRoom next need) → journal.new.items ≡
+        journal.old.items ++ record { editor = editor; edit = edit; reply = WasSpent next need } ∷ [] }
+    ensures few { IsErrOf answer.now NoMemory ⊎ length journal.old.items + 1 < 2 ^ 64 }
+    ensures no_memory { IsErrOf answer.now NoMemory → journal.new.items ≡ journal.old.items }
+{
+    if let Some(reply) = reply_to(answer) {
+        file(
+            journal,
+            Entry {
+                editor,
+                edit,
+                reply,
+            },
+        );
+    }
+}
+
+/// The same answer, with the pass before it where there are too few addresses.
+fn with_pass(answer: Result<Added, AddFault>, seen: Pass) -> Result<Added, FiledAddFault>
+    ensures ok { IfOk result (λ added. answer ≡ Ok added) }
+    ensures spent { (need : ℕ) → (pass : Account) → IsErrOf result (Spent need pass) →
+        (pass ≡ seen) × (next : ℕ) × IsErrOf answer (NoRoom next need) }
+    ensures no_memory { IsErrOf result AddNoMemory → IsErrOf answer NoMemory }
+{
+    match answer {
+        Ok(added) => Ok(added),
+        Err(AddFault::AddressesSpent { need, .. }) => {
+            Err(FiledAddFault::AddressesSpent { need, seen })
+        }
+        Err(AddFault::NoMemory) => Err(FiledAddFault::NoMemory),
+    }
+}
+
 /// Adds a file, and files the entry that says so. At `NoMemory` nothing changes.
 fn add_to<R: Wait>(
     rt: &R,
@@ -115,34 +167,8 @@ fn add_to<R: Wait>(
     journal.reserve(1)?;
     let Draft { name, bytes, index } = draft;
     let answer = place(rt, engine, name.as_slice(), bytes.as_slice(), index);
-    let edit = Edit::Add(name, bytes);
-    match answer {
-        Ok(added) => {
-            let reply = EditReply::Added(added.id.0, added.first, added.last);
-            file(
-                journal,
-                Entry {
-                    editor,
-                    edit,
-                    reply,
-                },
-            );
-            Ok(added)
-        }
-        Err(AddFault::AddressesSpent { next, need }) => {
-            let reply = EditReply::Spent(next, need);
-            file(
-                journal,
-                Entry {
-                    editor,
-                    edit,
-                    reply,
-                },
-            );
-            Err(FiledAddFault::AddressesSpent { need, seen })
-        }
-        Err(AddFault::NoMemory) => Err(FiledAddFault::NoMemory),
-    }
+    file_add(journal, editor, Edit::Add(name, bytes), &answer);
+    with_pass(answer, seen)
 }
 
 /// Deletes a file, and files the entry that says so. At `NoMemory` nothing changes.
