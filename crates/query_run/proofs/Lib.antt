@@ -1,4 +1,6 @@
 -- Lemmas, and worked examples.
+pub mod Ended
+pub mod Pieces
 pub mod RunLemmas
 pub mod StreamLemmas
 pub mod Told

@@ -10,7 +10,7 @@ ghost use Rattle.script_answers.specs.Stopped.{GetsPart, IsStopped};
 ghost use Rattle.script_answers.specs.inner.Service.{Counts, Halts, IsServing, Serves, stand};
 ghost use Rattle.query_run.specs.Runs.{HandsOverMore, HasAnswered, IsAnsweredBy, IsLeftBy, TakesAtMost, WhereTold, within};
 ghost use Rattle.query_run.specs.Statuses.{IsAllAnswered, IsCutOff, IsFinished, IsSureOfFiles, ending_of as status_ending, most_taken};
-ghost use Rattle.query_run.specs.inner.Streams.{HasRead, IsSure, LeavesFiles, ServesWithin, ending_of};
+ghost use Rattle.query_run.specs.inner.Streams.{HasRead, IsSure, LeavesFiles, ServesWithin, ending_of, status_of};
 
 use crate::read::read_piece;
 use crate::status::Status;
@@ -184,8 +184,16 @@ pub fn serve<R: Threads + Wait + Sync, F: Files, S: Source, K: Sink, G: Gate + S
         limits: *limits,
     };
     let mut progress = Progress::new(alloc);
-    match serve_all(&setting, files, source, sink, opened, &mut progress) {
-        Ok(()) if progress.refused => Status::DoneWithRefusals,
+    let ended = serve_all(&setting, files, source, sink, opened, &mut progress);
+    status_of(ended, progress.refused)
+}
+
+/// How a run over a source that ended so is told to its caller.
+fn status_of(ended: Result<(), StreamFault>, refused: bool) -> Status
+    ensures { result ≡ status_of ended refused }
+{
+    match ended {
+        Ok(()) if refused => Status::DoneWithRefusals,
         Ok(()) => Status::Done,
         Err(StreamFault::Read) => Status::ReadFault,
         Err(StreamFault::TooLong) => Status::ScriptTooLong,

@@ -1,5 +1,5 @@
--- How much of a source was read, and what ends a run over it.
-use Rattle.std.specs.Prelude.{◌≡◌, ℕ, ◌+◌, ◌≤◌, List, [], ◌++◌, length, take, Option, Result, Ok, Err, OnOk, IfSome, IsErrOf, ⊤}
+-- How much of a source was read, what ends a run over it, and how that is told.
+use Rattle.std.specs.Prelude.{◌≡◌, ℕ, ◌+◌, ◌≤◌, Bool, true, false, List, [], ◌++◌, length, take, Option, Result, Ok, Err, OnOk, IfSome, IsErrOf, ⊤}
 use Rattle.std.specs.Io.KnownBytes.{Consumes}
 use Rattle.std.specs.Io.KnownBytes.{IsAtEnd}
 use Rattle.script_lang.specs.Lines.{Line, lines}
@@ -9,6 +9,8 @@ use Rattle.script_answers.specs.Stopped.{Ending, finished, read_failed, too_long
 use Rattle.script_answers.specs.inner.Service.{Counts, Serves, Stand}
 use Rattle.script_answers.specs.declared.limits.Limits.{Limits}
 use Rattle.query_run.specs.Runs.{HandsOverMore, TakesAtMost, within}
+use Rattle.query_run.specs.declared.status.Status.{Status}
+use Rattle.query_run.specs.declared.status.Status.TheVariants.{Done, DoneWithRefusals, ReadFault, WriteFault, FileFault, NoMemory, ScriptTooLong}
 use Rattle.query_run.specs.declared.stream_fault.StreamFault.{StreamFault}
 use Rattle.query_run.specs.declared.stream_fault.StreamFault.TheVariants.{Read as StreamRead, TooLong as StreamTooLong, Write as StreamWrite, Files as StreamFiles, NoMemory as StreamNoMemory}
 
@@ -38,6 +40,16 @@ fault_ending StreamNoMemory = out_of_memory
 abbrev pub ending_of : {T : Type 0} → Result T StreamFault → Ending
 ending_of (Ok _) = finished
 ending_of (Err fault) = fault_ending fault
+
+-- the status of a run over a source that ended so, whose answers have a refusal or none
+abbrev pub status_of : {T : Type 0} → Result T StreamFault → Bool → Status
+status_of (Ok _) false = Done
+status_of (Ok _) true = DoneWithRefusals
+status_of (Err StreamRead) _ = ReadFault
+status_of (Err StreamTooLong) _ = ScriptTooLong
+status_of (Err StreamWrite) _ = WriteFault
+status_of (Err StreamFiles) _ = FileFault
+status_of (Err StreamNoMemory) _ = NoMemory
 
 -- no file failed, and there was memory
 abbrev pub IsSure : {T : Type 0} → Result T StreamFault → Type 0

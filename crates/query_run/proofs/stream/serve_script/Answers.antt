@@ -39,7 +39,7 @@ returns-in_err-serve_held-clause-halts g c = on_err _ c.from_residual-in_err-ser
     let next = come_next c.args.setting.now.limits.line c.loop-feed.read c.read_piece.new.read c.loop-feed.opened.lines c.loop-feed.feed c.read_piece.new.feed (g.S.Source.left c.args.source.now) (g.S.Source.left c.loop-feed.source) (g.S.Source.left c.read_piece.new.source) script c.ready.result.now is c.loop-feed.invariant.most c.in_ok-read_piece.ensures.counted c.loop-feed.invariant.taken c.in_ok-read_piece.ensures.fed c.ready.ensures (c.loop-feed.invariant.reads script is).fed in
     rw (ending_is c.from_residual-in_err-serve_held.result (of_run c.in_err-serve_held.field-0.0) c.from_residual-in_err-serve_held.ensures.1 ∙ run_ending c.in_err-serve_held.field-0.0)
     (halts_as c.args.setting.now.limits (lines c.args.setting.now.limits.line script) _ _ _ _ _ _ _ (λ kept. kept ∙ sym c.loop-feed.invariant.unkept)
-    (reads_halts c.args.setting.now.limits script (stand (g.F.Files.held c.args.files.now) c.args.opened.now c.args.progress.now) (g.K.Sink.written c.args.sink.now) c.loop-feed.read c.loop-feed.feed.held (lines c.args.setting.now.limits.line c.ready.result.now) next.0 _ _ (stand (g.F.Files.held c.loop-feed.files) c.loop-feed.opened c.loop-feed.progress) _ (g.K.Sink.written c.loop-feed.sink) _ (c.loop-feed.invariant.reads script is) next.1 c.in_err-serve_held.ensures.halts))))
+    (reads_halts c.args.setting.now.limits script (stand (g.F.Files.held c.args.files.now) c.args.opened.now c.args.progress.now) (g.K.Sink.written c.args.sink.now) c.loop-feed.read c.loop-feed.feed.held (lines c.args.setting.now.limits.line c.ready.result.now) next.0 _ _ (stand (g.F.Files.held c.loop-feed.files) c.loop-feed.opened c.loop-feed.progress) (stand (g.F.Files.held c.serve_held.new.files) c.serve_held.new.opened c.serve_held.new.progress) (g.K.Sink.written c.loop-feed.sink) (g.K.Sink.written c.serve_held.new.sink) (c.loop-feed.invariant.reads script is) next.1 c.in_err-serve_held.ensures.halts))))
 
 pub returns-in_err-serve_held-clause-read : goal.returns-in_err-serve_held-clause-read
 returns-in_err-serve_held-clause-read g c = record {
@@ -83,7 +83,7 @@ loop-feed-preserved g c = record {
       let next = come_next c.args.setting.now.limits.line c.loop-feed.read c.read_piece.new.read c.loop-feed.opened.lines c.loop-feed.feed c.read_piece.new.feed (g.S.Source.left c.args.source.now) (g.S.Source.left c.loop-feed.source) (g.S.Source.left c.read_piece.new.source) script c.ready.result.now is c.loop-feed.invariant.most c.in_ok-read_piece.ensures.counted c.loop-feed.invariant.taken c.in_ok-read_piece.ensures.fed c.ready.ensures (c.loop-feed.invariant.reads script is).fed in
       c.in_ok-serve_held.ensures.files.unsaved (none_among names_kept_of_line c.loop-feed.opened.lines (lines c.args.setting.now.limits.line script) (lines c.args.setting.now.limits.line c.ready.result.now) next.0 next.1 nothing) ∙ c.loop-feed.invariant.unsaved script is nothing;
   reads = λ script is.
-      reads_served c.args.setting.now.limits script (stand (g.F.Files.held c.args.files.now) c.args.opened.now c.args.progress.now) (g.K.Sink.written c.args.sink.now) c.read_piece.new.read c.read_piece.new.feed.held c.take_ready.new.self.held (stand (g.F.Files.held c.loop-feed.files) c.loop-feed.opened c.loop-feed.progress) _ (g.K.Sink.written c.loop-feed.sink) _
+      reads_served c.args.setting.now.limits script (stand (g.F.Files.held c.args.files.now) c.args.opened.now c.args.progress.now) (g.K.Sink.written c.args.sink.now) c.read_piece.new.read c.read_piece.new.feed.held c.take_ready.new.self.held (stand (g.F.Files.held c.loop-feed.files) c.loop-feed.opened c.loop-feed.progress) (stand (g.F.Files.held c.serve_held.new.files) c.serve_held.new.opened c.serve_held.new.progress) (g.K.Sink.written c.loop-feed.sink) (g.K.Sink.written c.serve_held.new.sink)
       (record { fed = fed_piece c.args.setting.now.limits.line c.loop-feed.read c.read_piece.new.read c.loop-feed.opened.lines c.loop-feed.feed c.read_piece.new.feed (g.S.Source.left c.args.source.now) (g.S.Source.left c.loop-feed.source) (g.S.Source.left c.read_piece.new.source) script is c.loop-feed.invariant.most c.in_ok-read_piece.ensures.counted c.loop-feed.invariant.taken c.in_ok-read_piece.ensures.fed (c.loop-feed.invariant.reads script is).fed; come = (c.loop-feed.invariant.reads script is).come })
       (subst (λ (most : ℕ). (later : List ℕ) → lines most (c.read_piece.new.feed.held ++ later) ≡ lines most (ended c.read_piece.new.feed.held) ++ lines most (c.take_ready.new.self.held ++ later)) (c.in_ok-read_piece.ensures.fed.most_is ∙ c.loop-feed.invariant.most) c.take_ready.ensures.lines)
       (subst (λ (l : List ℕ). Serves c.args.setting.now.limits (lines c.args.setting.now.limits.line l) (stand (g.F.Files.held c.loop-feed.files) c.loop-feed.opened c.loop-feed.progress) (stand (g.F.Files.held c.serve_held.new.files) c.serve_held.new.opened c.serve_held.new.progress) (g.K.Sink.written c.loop-feed.sink) (g.K.Sink.written c.serve_held.new.sink)) c.ready.ensures c.in_ok-serve_held.ensures.serves);
@@ -98,7 +98,7 @@ returns-in_err-serve_held-2-clause-halts g c = on_err _ c.from_residual-in_err-s
     let last = come_last c.args.setting.now.limits.line c.loop-feed.read c.read_piece.new.read c.loop-feed.opened.lines c.loop-feed.feed c.read_piece.new.feed (g.S.Source.left c.args.source.now) (g.S.Source.left c.loop-feed.source) (g.S.Source.left c.read_piece.new.source) script c.rest.result.now is c.loop-feed.invariant.most c.in_ok-read_piece.ensures.counted c.loop-feed.invariant.taken c.in_ok-read_piece.ensures.fed (c.in_ok-read_piece.ensures.none no).0 c.rest.ensures (c.loop-feed.invariant.reads script is).fed in
     rw (ending_is c.from_residual-in_err-serve_held-2.result (of_run c.in_err-serve_held-2.field-0.0) c.from_residual-in_err-serve_held-2.ensures.1 ∙ run_ending c.in_err-serve_held-2.field-0.0)
     (halts_as c.args.setting.now.limits (lines c.args.setting.now.limits.line script) _ _ _ _ _ _ _ (λ kept. kept ∙ sym c.loop-feed.invariant.unkept)
-    (reads_halts c.args.setting.now.limits script (stand (g.F.Files.held c.args.files.now) c.args.opened.now c.args.progress.now) (g.K.Sink.written c.args.sink.now) c.loop-feed.read c.loop-feed.feed.held (lines c.args.setting.now.limits.line c.rest.result.now) [] _ _ (stand (g.F.Files.held c.loop-feed.files) c.loop-feed.opened c.loop-feed.progress) _ (g.K.Sink.written c.loop-feed.sink) _ (c.loop-feed.invariant.reads script is) last c.in_err-serve_held-2.ensures.halts))))
+    (reads_halts c.args.setting.now.limits script (stand (g.F.Files.held c.args.files.now) c.args.opened.now c.args.progress.now) (g.K.Sink.written c.args.sink.now) c.loop-feed.read c.loop-feed.feed.held (lines c.args.setting.now.limits.line c.rest.result.now) [] _ _ (stand (g.F.Files.held c.loop-feed.files) c.loop-feed.opened c.loop-feed.progress) (stand (g.F.Files.held c.serve_held-2.new.files) c.serve_held-2.new.opened c.serve_held-2.new.progress) (g.K.Sink.written c.loop-feed.sink) (g.K.Sink.written c.serve_held-2.new.sink) (c.loop-feed.invariant.reads script is) last c.in_err-serve_held-2.ensures.halts))))
 
 pub returns-in_err-serve_held-2-clause-read : goal.returns-in_err-serve_held-2-clause-read
 returns-in_err-serve_held-2-clause-read g c = record {
@@ -126,7 +126,7 @@ pub returns-clause-serves : goal.returns-clause-serves
 returns-clause-serves g c = at_script (g.S.Source.left c.args.source.now) _ (λ script is.
     let no : c.in_ok-read_piece.field-0 ≡ false = search rules in
     let last = come_last c.args.setting.now.limits.line c.loop-feed.read c.read_piece.new.read c.loop-feed.opened.lines c.loop-feed.feed c.read_piece.new.feed (g.S.Source.left c.args.source.now) (g.S.Source.left c.loop-feed.source) (g.S.Source.left c.read_piece.new.source) script c.rest.result.now is c.loop-feed.invariant.most c.in_ok-read_piece.ensures.counted c.loop-feed.invariant.taken c.in_ok-read_piece.ensures.fed (c.in_ok-read_piece.ensures.none no).0 c.rest.ensures (c.loop-feed.invariant.reads script is).fed in
-    reads_all c.args.setting.now.limits script (stand (g.F.Files.held c.args.files.now) c.args.opened.now c.args.progress.now) (g.K.Sink.written c.args.sink.now) c.loop-feed.read c.loop-feed.feed.held (lines c.args.setting.now.limits.line c.rest.result.now) (stand (g.F.Files.held c.loop-feed.files) c.loop-feed.opened c.loop-feed.progress) _ (g.K.Sink.written c.loop-feed.sink) _ (c.loop-feed.invariant.reads script is) last c.in_ok-serve_held-2.ensures.serves)
+    reads_all c.args.setting.now.limits script (stand (g.F.Files.held c.args.files.now) c.args.opened.now c.args.progress.now) (g.K.Sink.written c.args.sink.now) c.loop-feed.read c.loop-feed.feed.held (lines c.args.setting.now.limits.line c.rest.result.now) (stand (g.F.Files.held c.loop-feed.files) c.loop-feed.opened c.loop-feed.progress) (stand (g.F.Files.held c.serve_held-2.new.files) c.serve_held-2.new.opened c.serve_held-2.new.progress) (g.K.Sink.written c.loop-feed.sink) (g.K.Sink.written c.serve_held-2.new.sink) (c.loop-feed.invariant.reads script is) last c.in_ok-serve_held-2.ensures.serves)
 
 pub returns-clause-read : goal.returns-clause-read
 returns-clause-read g c =
