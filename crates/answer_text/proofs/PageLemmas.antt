@@ -10,7 +10,6 @@ use Rattle.gcl_model.specs.Extents.{Extent}
 use Rattle.script_lang.specs.Answers.{interval_line, is_refusal, total_line}
 use Rattle.script_lang.specs.Lines.{text_of_lines}
 use Rattle.query_lanes.specs.declared.asks.Found.{Found}
-use Rattle.query_lanes.specs.declared.asks.Found.TheVariants.{List as Members}
 use Rattle.answer_text.specs.Texts.{found_lines, list_lines}
 use Rattle.answer_text.specs.Puts.{founds_text, members_text}
 
@@ -28,10 +27,6 @@ founds_on xs ys = ap text_of_lines (flat_map-append found_lines xs ys) ∙ flat_
 -- the text of a list is that of its members, and then their number
 pub list_text : (list : List Extent) → text_of_lines (list_lines list) ≡ members_text list ++ (total_line (length list) ++ 10 ∷ [])
 list_text list = flat_map-append _ (map interval_line list) (total_line (length list) ∷ []) ∙ ap (λ l. members_text list ++ l) (append-nil (total_line (length list) ++ 10 ∷ []))
-
--- the text of a list that was found
-pub found_text : (found : Found) (list : List Extent) → found ≡ Members list → text_of_lines (found_lines found) ≡ members_text list ++ (total_line (length list) ++ 10 ∷ [])
-found_text found list is = ap (λ f. text_of_lines (found_lines f)) is ∙ list_text list
 
 -- the first ones, and one more
 pub one_after : {A : Type 0} (list so_far left : List A) (next : A) (count : ℕ) → list ≡ so_far ++ next ∷ left → count ≡ length so_far → take (count + 1) list ≡ so_far ++ next ∷ []

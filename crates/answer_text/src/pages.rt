@@ -7,7 +7,7 @@ ghost use Rattle.outside.specs.Causes.{HasWriteCause, CountsWriteFault};
 ghost use Rattle.script_lang.specs.Answers.{interval_line, is_refusal};
 ghost use Rattle.script_lang.specs.Lines.{text_of_lines};
 ghost use Rattle.answer_text.specs.Puts.{founds_text, GetsPart, members_text, Puts};
-ghost use Rattle.answer_text.specs.Texts.{found_lines};
+ghost use Rattle.answer_text.specs.Texts.{found_lines, list_lines};
 
 use crate::write::{PIECE, write_all};
 use gcl_model::{Interval, IntervalList};
@@ -76,6 +76,41 @@ fn put_members<K: Sink>(
     Ok(count)
 }
 
+/// Puts a line for each member of a list, and gives their number.
+fn put_all_members<K: Sink>(
+    alloc: Global,
+    sink: &mut K,
+    out: &mut Vec<u8>,
+    listing: Listing,
+) -> Result<u64, WriteError>
+    ensures puts { OnOk result (Puts (K.written sink.old) (K.written sink.new) out.old.items out.new.items (members_text listing)) }
+    ensures part { OnErr result (GetsPart (K.written sink.old) (K.written sink.new) (out.old.items ++ members_text listing)) }
+    ensures count { IfOk result (λ count. count ≡ length listing) }
+    ensures cause { HasWriteCause (K.faults sink.old) (K.faults sink.new) result }
+    ensures counts { CountsWriteFault (K.faults sink.old) (K.faults sink.new) result }
+{
+    let mut listing = listing;
+    put_members(alloc, sink, out, &mut listing)
+}
+
+/// Puts a line for each member of a list, and then their number.
+fn put_list<K: Sink>(
+    alloc: Global,
+    sink: &mut K,
+    out: &mut Vec<u8>,
+    listing: Listing,
+) -> Result<(), WriteError>
+    ensures puts { OnOk result (Puts (K.written sink.old) (K.written sink.new) out.old.items out.new.items
+        (text_of_lines (list_lines listing))) }
+    ensures part { OnErr result (GetsPart (K.written sink.old) (K.written sink.new) (out.old.items ++ text_of_lines (list_lines listing))) }
+    ensures cause { HasWriteCause (K.faults sink.old) (K.faults sink.new) result }
+    ensures counts { CountsWriteFault (K.faults sink.old) (K.faults sink.new) result }
+{
+    let count = put_all_members(alloc, sink, out, listing)?;
+    put_total(out, count)?;
+    Ok(())
+}
+
 /// Puts what was found of a query, and says whether it is a refusal.
 fn put_found<K: Sink>(
     alloc: Global,
@@ -91,9 +126,7 @@ fn put_found<K: Sink>(
 {
     match found {
         Found::List(listing) => {
-            let mut listing = listing;
-            let count = put_members(alloc, sink, out, &mut listing)?;
-            put_total(out, count)?;
+            put_list(alloc, sink, out, listing)?;
             Ok(false)
         }
         Found::Total(total) => {

@@ -97,6 +97,23 @@ fn put_listing<K: Sink>(
     Ok(())
 }
 
+/// Puts a line for each change.
+fn put_all_changes<K: Sink>(
+    alloc: Global,
+    sink: &mut K,
+    out: &mut Vec<u8>,
+    number: u64,
+    listing: ChangeListing,
+) -> Result<(), WriteError>
+    ensures puts { OnOk result (Puts (K.written sink.old) (K.written sink.new) out.old.items out.new.items (told_text number listing)) }
+    ensures part { OnErr result (GetsPart (K.written sink.old) (K.written sink.new) (out.old.items ++ told_text number listing)) }
+    ensures cause { HasWriteCause (K.faults sink.old) (K.faults sink.new) result }
+    ensures counts { CountsWriteFault (K.faults sink.old) (K.faults sink.new) result }
+{
+    let mut listing = listing;
+    put_listing(alloc, sink, out, number, &mut listing)
+}
+
 /// Where an edit may have changed the text: at the addresses of the file that came or went. Nothing is known of an opened image.
 fn edited(answer: &Answer, before: &Version) -> Option<(u64, u64)>
     ensures { (now : VersionContent) → IsLocal answer.now before.now now →
@@ -131,6 +148,24 @@ fn changes_of(
     }
 }
 
+/// What was changed of the list of a watch since the version of a pass.
+fn changes_since(
+    alloc: Global,
+    watch: &Watch,
+    before: &Pass,
+    range: Option<(u64, u64)>,
+    engine: &Engine,
+) -> Result<ChangeListing, AllocError>
+    requires well_formed { IsWellFormed (form_of watch.now.expr) }
+    requires apart { AgreeApart range (version_text (last_of before.now.history)) (version_text engine.now.version) }
+    ensures { IfOk result (λ listing. told_text watch.now.id listing ≡
+        text_of_lines (watch_lines (version_text (last_of before.now.history)) (version_text engine.now.version) (watched_of watch.now))) }
+{
+    let after = engine.pass()?;
+    let old = before.again()?;
+    changes_of(alloc, old, after, &watch.expr, range)
+}
+
 /// Puts what was changed of the list of a watch since the version of a pass.
 fn put_watch<K: Sink>(
     alloc: Global,
@@ -151,10 +186,8 @@ fn put_watch<K: Sink>(
     ensures cause { HasWriteCause (K.faults sink.old) (K.faults sink.new) result }
     ensures counts { CountsWriteFault (K.faults sink.old) (K.faults sink.new) result }
 {
-    let after = engine.pass()?;
-    let mut listing = changes_of(alloc, before.again()?, after, &watch.expr, range)?;
-    put_listing(alloc, sink, out, watch.id, &mut listing)?;
-    Ok(())
+    let listing = changes_since(alloc, watch, before, range, engine)?;
+    put_all_changes(alloc, sink, out, watch.id, listing)
 }
 
 /// Puts what was changed for each live watch since the version of a pass, in rising number.
