@@ -11,7 +11,7 @@ ghost use Rattle.near_search.specs.Costs.{one_access};
 ghost use Rattle.query_search.specs.Pages.{reads};
 ghost use Rattle.standing_query.specs.Changes.{changes, members};
 ghost use Rattle.change_search.specs.Costs.{change_cost, edit_opening_cost, near_listing_cost, near_opening_cost};
-ghost use Rattle.change_search.specs.Costs.{whole_cost, whole_listing_cost, words_cost};
+ghost use Rattle.change_search.specs.Costs.{expanded, whole_cost, whole_listing_cost, words_cost};
 ghost use Rattle.change_search.specs.inner.Sides.{IsSide, look_ups, to_come};
 
 use crate::opening::{addresses_over, expanded_over};
@@ -69,6 +69,26 @@ fn whole_side(alloc: Global, pass: Pass, expr: Expr) -> Result<Side, AllocError>
         }
         Err(_) => Err(AllocError),
     }
+}
+
+/// All members over the version of a pass, of any expression.
+fn whole_over<S: Ledger>(
+    alloc: Global,
+    pass: Pass,
+    expr: &Expr,
+    steps: &mut Steps<S>,
+) -> Result<Side, AllocError>
+    requires { IsWellFormed (form_of expr.now) }
+    ensures side { IfOk result IsSide }
+    ensures members { IfOk result (λ side. to_come side ≡ wide (version_text (last_of pass.history)) (form_of expr.now)) }
+    ensures cost { IfOk result (λ side. steps.new + look_ups side ≤ steps.old + (words_cost (last_of pass.history) (form_of expr.now) +
+        whole_listing_cost (last_of pass.history) (expanded (last_of pass.history) (form_of expr.now)) (reads side.rest.way)
+        (length (wide (version_text (last_of pass.history)) (form_of expr.now))))) }
+    ensures opening { steps.new ≤ steps.old + words_cost (last_of pass.history) (form_of expr.now) }
+{
+    expansions_are_wide();
+    let expanded = expanded_over(alloc, &pass, expr, steps)?;
+    whole_side(alloc, pass, expanded)
 }
 
 /// The members over the version of a pass that touch the addresses: from the first one that ends at the lower address or later, which one
@@ -151,11 +171,8 @@ impl CountedListing {
         ensures opening { steps.new ≤ steps.old +
             (words_cost (last_of before.history) (form_of expr.now) + words_cost (last_of after.history) (form_of expr.now)) }
     {
-        expansions_are_wide();
-        let old_expr = expanded_over(alloc, &before, expr, steps)?;
-        let new_expr = expanded_over(alloc, &after, expr, steps)?;
-        let before = whole_side(alloc, before, old_expr)?;
-        let after = whole_side(alloc, after, new_expr)?;
+        let before = whole_over(alloc, before, expr, steps)?;
+        let after = whole_over(alloc, after, expr, steps)?;
         Ok(CountedListing { before, after })
     }
 
