@@ -49,11 +49,11 @@ fn expanded<T: WordTable>(
 {
     match expr {
         Expr::Term(token) => expanded_term(alloc, table, token.as_slice(), counter),
-        Expr::Phrase(tokens) => Ok(Expr::Phrase(tokens.copy()?)),
+        Expr::Phrase(tokens) => tokens.copy().map(Expr::Phrase),
         Expr::Width(width) => Ok(Expr::Width(*width)),
-        Expr::Both(operands) => Ok(Expr::Both(expanded_each(alloc, table, operands, counter)?)),
-        Expr::One(operands) => Ok(Expr::One(expanded_each(alloc, table, operands, counter)?)),
-        Expr::Seq(operands) => Ok(Expr::Seq(expanded_each(alloc, table, operands, counter)?)),
+        Expr::Both(operands) => expanded_each(alloc, table, operands, counter).map(Expr::Both),
+        Expr::One(operands) => expanded_each(alloc, table, operands, counter).map(Expr::One),
+        Expr::Seq(operands) => expanded_each(alloc, table, operands, counter).map(Expr::Seq),
         Expr::Containing(a, b) => {
             expanded_pair(alloc, table, Containment::Containing, a, b, counter)
         }
@@ -176,9 +176,7 @@ fn tree_of_words(alloc: Global, words: &[Bytes], levels: usize) -> Result<Expr, 
 fn one_of_two(alloc: Global, first: Expr, second: Expr) -> Result<Expr, AllocError>
     ensures { IfOk result (λ expr. form_of expr ≡ one (more_forms (form_of first) (more_forms (form_of second) no_forms))) }
 {
-    let mut operands = Vec::with_capacity(alloc, 2)?;
-    operands.push(first)?;
-    operands.push(second)?;
+    let operands = Vec::from_array(alloc, [first, second])?;
     Ok(Expr::One(operands))
 }
 
