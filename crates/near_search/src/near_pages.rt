@@ -1,5 +1,6 @@
 //! The members near two addresses.
-ghost use Rattle.std.specs.Prelude.{◌≡◌, ◌+◌, ◌<◌, ◌≤◌, filter, length, take, drop, take_while, if◌then◌else◌, IfOk, OnErr, OnOk};
+ghost use Rattle.std.specs.Prelude.{◌≡◌, ◌+◌, ◌<◌, ◌≤◌, filter, length, take, drop, take_while, if◌then◌else◌};
+ghost use Rattle.std.specs.Prelude.{IfOk, IfSome, IsNone, OnErr, OnOk};
 ghost use Rattle.gcl_locality.specs.Changed.{touches};
 ghost use Rattle.gcl_model.specs.FormOf.{form_of};
 ghost use Rattle.gcl_model.specs.Limits.{address_end};
@@ -12,6 +13,7 @@ ghost use Rattle.reader_pass.specs.Members.{access_most};
 ghost use Rattle.query_search.specs.Pages.{IsAfter, IsWayOver, ended, leap_cost, left_of, reading, reads};
 ghost use Rattle.near_search.specs.Contents.{IsNearWay, start_of, starts_by};
 ghost use Rattle.near_search.specs.Costs.{one_access, window, window_cost};
+ghost use Rattle.near_search.specs.inner.Finders.{content_of};
 
 use crate::around::window_of;
 use crate::window_pages::{Part, WindowPages};
@@ -98,6 +100,32 @@ fn read_near<S: Ledger>(
     WindowPages::of(Part { pass, expr, window }, from)
 }
 
+/// Who finds those that touch the addresses over the whole text, from the first on. None where readers would: they can go over a window.
+fn over_text(
+    alloc: Global,
+    pass: &Pass,
+    expr: &Arc<Expr>,
+    near: Addresses,
+    from: u64,
+) -> Result<Option<Finder>, AllocError>
+    requires well_formed { IsWellFormed (form_of expr.now.value) }
+    requires from { from ≡ start_of (version_text (last_of pass.now.history)) (form_of expr.now.value) near.low }
+    ensures members { IfOk result (λ found. IfSome found (λ finder. take_while (starts_by near.high) (content_of finder).to_come ≡
+        filter (touches near.low near.high) (concordance (version_text (last_of pass.now.history)) (form_of expr.now.value)))) }
+    ensures way { IfOk result (λ found. IfSome found (λ finder.
+        IsNearWay (last_of pass.now.history) near.low near.high (form_of expr.now.value) (content_of finder).way)) }
+    ensures reached { IfOk result (λ found. IsNone found → from ≤ near.high) }
+{
+    if near.high < from {
+        return Ok(Some(Finder::Over));
+    }
+    let pages = Pages::from(alloc, pass.again()?, Arc::try_clone(expr)?, from);
+    if pages.is_read() {
+        return Ok(None);
+    }
+    Ok(Some(Finder::Whole(pages)))
+}
+
 impl NearPages {
     /// All members.
     pub fn whole(alloc: Global, pass: Pass, expr: Arc<Expr>) -> NearPages
@@ -132,16 +160,8 @@ impl NearPages {
             (one_access (last_of pass.history) (form_of expr.value) + window_cost (last_of pass.history) (form_of expr.value)) }
     {
         let from = start_of(&pass, &expr, near.low, steps);
-        if near.high < from {
-            return Ok(NearPages {
-                finder: Finder::Over,
-            });
-        }
-        let pages = Pages::from(alloc, pass.again()?, Arc::try_clone(&expr)?, from);
-        if !pages.is_read() {
-            return Ok(NearPages {
-                finder: Finder::Whole(pages),
-            });
+        if let Some(finder) = over_text(alloc, &pass, &expr, near, from)? {
+            return Ok(NearPages { finder });
         }
         let pages = read_near(pass, expr, near, from, steps);
         Ok(NearPages {
