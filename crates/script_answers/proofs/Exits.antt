@@ -1,5 +1,5 @@
 -- What is counted and kept where a call of a line ends.
-use Rattle.std.proofs.Common.{◌≡◌, ℕ, ◌+◌, ◌≤◌, Bool, true, false, List, [], ◌∷◌, ◌++◌, length, take, drop, length-append, Result, Ok, Err, IsErrOf, sym, ap, ◌∙◌, subst, arith}
+use Rattle.std.proofs.Common.{◌≡◌, ℕ, ◌+◌, ◌≤◌, Bool, true, false, List, [], ◌∷◌, ◌++◌, length, take, drop, length-append, Result, Ok, Err, IsErrOf, OnOk, sym, ap, ◌∙◌, subst, arith}
 use Rattle.std.proofs.lemmas.List.{append-nil, drop_all, take_all}
 use Rattle.std.specs.Result.{IsErrAnd}
 use Rattle.outside.specs.declared.faults.WriteError.{WriteError}
@@ -31,7 +31,7 @@ of_err (Ok v) fault is = absurd is
 of_err (Err e) fault is = ap Err is
 
 -- a count that stands still, where nothing failed
-still : {P : Type 0} (before now : ℕ) → now ≡ before → (P → ⊥) → Counts before now P
+pub still : {P : Type 0} (before now : ℕ) → now ≡ before → (P → ⊥) → Counts before now P
 still before now same none = record { later = omega (arith, same); rose = λ p. absurd (none p); same = λ no. same }
 
 pub calm_done : (before now : ℕ) (wanted : RunFault) → now ≡ before → Counts before now (IsErrOf {T = Unit} (Ok tt) wanted)
@@ -75,6 +75,15 @@ counts_as {T} {U} before mid now r fault wanted same is counts =
       rose = λ of. counts.rose (ap Err (err_of r fault wanted is of));
       same = λ no. counts.same (λ of. no (let at : fault ≡ wanted = cc of in subst (IsErrOf r) at (of_err r fault is)));
     })
+
+-- the count of a call is that of the whole, where it was left before
+pub counts_from : {P : Type 0} (before mid now : ℕ) → mid ≡ before → Counts mid now P → Counts before now P
+counts_from {P} before mid now same = subst (λ (n : ℕ). Counts n now P) same
+
+-- what is so at success, and so is something more
+pub on_ok_both : {T E : Type 0} (P Q : Type 0) (r : Result T E) → OnOk r P → OnOk r Q → OnOk r (P × Q)
+on_ok_both P Q (Ok v) p q = (p, q)
+on_ok_both P Q (Err e) p q = tt
 
 -- a call that succeeded left the count
 pub left : {T : Type 0} (before now : ℕ) (v : T) (wanted : RunFault) → Counts before now (IsErrOf (Ok v) wanted) → now ≡ before

@@ -3,9 +3,10 @@ ghost use Rattle.gcl_model.specs.Limits.{most_script};
 ghost use Rattle.outside.specs.Contents.{Contents};
 ghost use Rattle.script_lang.specs.Lines.{Line, lines};
 ghost use Rattle.script_answers.specs.Answers.{names_kept_of, names_of};
-ghost use Rattle.script_answers.specs.inner.Asks.{AreAsked};
+ghost use Rattle.script_answers.specs.inner.Asks.{AreAsked, AsksLine};
 ghost use Rattle.script_answers.specs.inner.Service.{Goes, Halts, CountsFiles, CountsSink, IsServing, KeepsFiles, Serves, ending_of, stand};
-ghost use Rattle.script_answers.specs.inner.Tasks.{IsActionOf, IsNamedAction, IsNamedTask, IsTaskOf, action_kept, action_names, completes, task_kept, task_names};
+ghost use Rattle.script_answers.specs.inner.Tasks.{IsActionOf, IsNamedAction, IsNamedTask, IsNothing, IsTaskOf};
+ghost use Rattle.script_answers.specs.inner.Tasks.{action_kept, action_names, completes, task_kept, task_names};
 
 use crate::acting::act;
 use crate::merging::merge_pending;
@@ -137,6 +138,98 @@ fn push(asks: &mut Vec<Ask>, ask: Ask) -> Result<(), AllocError>
     Ok(())
 }
 
+/// A query more waits for its batch, which is answered when it is full.
+fn serve_ask<R: Threads + Wait + Sync, K: Sink, G: Gate + Sync>(
+    setting: &Setting<'_, R, G>,
+    sink: &mut K,
+    opened: &mut Opened,
+    progress: &mut Progress,
+    asks: &mut Vec<Ask>,
+    ask: Ask,
+) -> Result<(), RunFault>
+    requires serving { IsServing opened.old progress.old (length asks.old.items) }
+    requires room { opened.old.lines + length asks.old.items < most_script }
+    ensures goes { OnOk result ((held : Option Contents) (waiting rest : List Line) (line : Line) →
+        AreAsked asks.old.items waiting → AsksLine ask line →
+        Goes setting.now.limits (waiting ++ line ∷ rest) rest asks.new.items (stand held opened.old progress.old)
+        (stand held opened.new progress.new) (K.written sink.old) (K.written sink.new)) }
+    ensures halts { OnErr result ((held : Option Contents) (waiting rest : List Line) (line : Line) →
+        AreAsked asks.old.items waiting → AsksLine ask line →
+        Halts setting.now.limits (waiting ++ line ∷ rest) (ending_of result) ⊤ (stand held opened.old progress.old)
+        (stand held opened.new progress.new) (K.written sink.old) (K.written sink.new)) }
+    ensures serving { OnOk result (IsServing opened.new progress.new (length asks.new.items)) }
+    ensures each { OnOk result (opened.new.lines + length asks.new.items ≡ opened.old.lines + length asks.old.items + 1) }
+    ensures ours { ¬ IsErrOf result RunFault.Files }
+    ensures sink { CountsSink (K.faults sink.old) (K.faults sink.new) result }
+{
+    push(asks, ask)?;
+    progress.asked += 1;
+    if (asks.len() as u64) < setting.limits.batch {
+        return Ok(());
+    }
+    serve_batch(setting, sink, opened, progress, asks)
+}
+
+/// An empty line is completed, once the queries before it are answered.
+fn serve_nothing<R: Threads + Wait + Sync, K: Sink, G: Gate + Sync>(
+    setting: &Setting<'_, R, G>,
+    sink: &mut K,
+    opened: &mut Opened,
+    progress: &mut Progress,
+    asks: &mut Vec<Ask>,
+) -> Result<(), RunFault>
+    requires serving { IsServing opened.old progress.old (length asks.old.items) }
+    requires room { opened.old.lines + length asks.old.items < most_script }
+    ensures goes { OnOk result ((held : Option Contents) (waiting rest : List Line) (line : Line) →
+        AreAsked asks.old.items waiting → IsNothing line →
+        Goes setting.now.limits (waiting ++ line ∷ rest) rest asks.new.items (stand held opened.old progress.old)
+        (stand held opened.new progress.new) (K.written sink.old) (K.written sink.new)) }
+    ensures halts { OnErr result ((held : Option Contents) (waiting rest : List Line) (line : Line) → AreAsked asks.old.items waiting →
+        Halts setting.now.limits (waiting ++ line ∷ rest) (ending_of result) ⊤ (stand held opened.old progress.old)
+        (stand held opened.new progress.new) (K.written sink.old) (K.written sink.new)) }
+    ensures serving { OnOk result (IsServing opened.new progress.new (length asks.new.items)) }
+    ensures each { OnOk result (opened.new.lines + length asks.new.items ≡ opened.old.lines + length asks.old.items + 1) }
+    ensures ours { ¬ IsErrOf result RunFault.Files }
+    ensures sink { CountsSink (K.faults sink.old) (K.faults sink.new) result }
+{
+    serve_batch(setting, sink, opened, progress, asks)?;
+    opened.lines += 1;
+    Ok(())
+}
+
+/// Does what a line asks for that asks no query, once the queries before it are answered.
+fn serve_action_behind<R: Threads + Wait + Sync, F: Files, K: Sink, G: Gate + Sync>(
+    setting: &Setting<'_, R, G>,
+    files: &mut F,
+    sink: &mut K,
+    opened: &mut Opened,
+    progress: &mut Progress,
+    asks: &mut Vec<Ask>,
+    action: &Action,
+) -> Result<(), RunFault>
+    requires named { IsNamedAction action.now }
+    requires serving { IsServing opened.old progress.old (length asks.old.items) }
+    requires room { opened.old.lines + length asks.old.items < most_script }
+    ensures goes { OnOk result ((waiting rest : List Line) (line : Line) →
+        AreAsked asks.old.items waiting → IsActionOf action.now line →
+        Goes setting.now.limits (waiting ++ line ∷ rest) rest asks.new.items (stand (F.held files.old) opened.old progress.old)
+        (stand (F.held files.new) opened.new progress.new) (K.written sink.old) (K.written sink.new)) }
+    ensures halts { OnErr result ((waiting rest : List Line) (line : Line) →
+        AreAsked asks.old.items waiting → IsActionOf action.now line →
+        Halts setting.now.limits (waiting ++ line ∷ rest) (ending_of result) (F.unkept files.new ≡ F.unkept files.old)
+        (stand (F.held files.old) opened.old progress.old)
+        (stand (F.held files.new) opened.new progress.new) (K.written sink.old) (K.written sink.new)) }
+    ensures serving { OnOk result (IsServing opened.new progress.new (length asks.new.items)) }
+    ensures each { OnOk result (opened.new.lines + length asks.new.items ≡ opened.old.lines + length asks.old.items + 1) }
+    ensures files { KeepsFiles (action_names action.now) (action_kept action.now) (files.new ≡ files.old) (F.held files.new ≡ F.held files.old)
+        (F.unkept files.new ≡ F.unkept files.old) result }
+    ensures sink { CountsSink (K.faults sink.old) (K.faults sink.new) result }
+    ensures faults { CountsFiles (F.faults files.old) (F.faults files.new) result }
+{
+    serve_batch(setting, sink, opened, progress, asks)?;
+    serve_action(setting, files, sink, opened, progress, action)
+}
+
 /// Does what a line asks for, once the queries before it are answered. A query waits for its batch, which is answered when it is full.
 fn serve_task<R: Threads + Wait + Sync, F: Files, K: Sink, G: Gate + Sync>(
     setting: &Setting<'_, R, G>,
@@ -164,24 +257,10 @@ fn serve_task<R: Threads + Wait + Sync, F: Files, K: Sink, G: Gate + Sync>(
     ensures faults { CountsFiles (F.faults files.old) (F.faults files.new) result }
 {
     match task {
-        Task::Ask(ask) => {
-            push(asks, ask)?;
-            progress.asked += 1;
-            if (asks.len() as u64) < setting.limits.batch {
-                return Ok(());
-            }
-            serve_batch(setting, sink, opened, progress, asks)?;
-            Ok(())
-        }
-        Task::Nothing => {
-            serve_batch(setting, sink, opened, progress, asks)?;
-            opened.lines += 1;
-            Ok(())
-        }
+        Task::Ask(ask) => serve_ask(setting, sink, opened, progress, asks, ask),
+        Task::Nothing => serve_nothing(setting, sink, opened, progress, asks),
         Task::Act(action) => {
-            serve_batch(setting, sink, opened, progress, asks)?;
-            serve_action(setting, files, sink, opened, progress, &action)?;
-            Ok(())
+            serve_action_behind(setting, files, sink, opened, progress, asks, &action)
         }
     }
 }

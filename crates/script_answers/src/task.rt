@@ -65,6 +65,15 @@ fn ask_of(alloc: Global, number: u64, asked: Asked, query: &Bytes) -> Result<Ask
     })
 }
 
+/// The same query, as what a line asks for.
+fn asking(alloc: Global, number: u64, asked: Asked, query: Bytes) -> Result<Task, AllocError>
+    ensures task { IfOk result (λ task. IsTaskFor task (command_asking asked query)) }
+    ensures named { IfOk result IsNamedTask }
+{
+    let ask = ask_of(alloc, number, asked, &query)?;
+    Ok(Task::Ask(ask))
+}
+
 /// What a line with this command asks for.
 fn task_of(alloc: Global, command: Command, number: u64) -> Result<Task, AllocError>
     requires named { IsNamed command }
@@ -73,11 +82,9 @@ fn task_of(alloc: Global, command: Command, number: u64) -> Result<Task, AllocEr
 {
     match command {
         Command::Blank => Ok(Task::Nothing),
-        Command::Find(query) => Ok(Task::Ask(ask_of(alloc, number, Asked::All, &query)?)),
-        Command::Count(query) => Ok(Task::Ask(ask_of(alloc, number, Asked::Number, &query)?)),
-        Command::Top(most, query) => {
-            Ok(Task::Ask(ask_of(alloc, number, Asked::First(most), &query)?))
-        }
+        Command::Find(query) => asking(alloc, number, Asked::All, query),
+        Command::Count(query) => asking(alloc, number, Asked::Number, query),
+        Command::Top(most, query) => asking(alloc, number, Asked::First(most), query),
         Command::Add(name) => Ok(Task::Act(Action::Add(name))),
         Command::Del(id) => Ok(Task::Act(Action::Delete(id))),
         Command::Files => Ok(Task::Act(Action::ListFiles)),
