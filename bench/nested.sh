@@ -1,18 +1,21 @@
 #!/usr/bin/env bash
 # Queries in which a containment asks an operand that holds another one: bench/nested.sh [FOLDER]. Over texts of one word, 500 to 4,000 times,
 # ("a" + ("a" /< [1])) /< [1] and the like to depth 8, by both "not" operators: milliseconds, how they grow from half the words (target 2.3),
-# and those of depth 8 over 4,000 words (target 20). Over the files of a folder, by default none, such as the King James Bible with the
-# elements book, chapter and verse: milliseconds of queries that somebody may write, beside a count of the verses.
+# and those of depth 8 over 4,000 words (target 20); and seconds of a phrase of 1,000 equal words over 5 MB of them (target 1). Over the files
+# of a folder, by default none, such as the King James Bible with the elements book, chapter and verse: milliseconds of queries that somebody
+# may write, beside a count of the verses, and of verses without any of 254 words (target 200).
 . "$(dirname "$0")/common.sh"
 need_gclq
 python3 - "$program" "$work" "${1:-}" <<'P'
-import os, subprocess, sys
+import collections, os, re, subprocess, sys
 from asking import ask
 program, work, folder = sys.argv[1:]
 
 def best(run, line):
     """The answer, and the least milliseconds of some askings."""
     end, took = ask(run, line)
+    if not end.startswith("="):
+        sys.exit(f"{end}: {line}")
     for _ in range(20 if took < 0.2 else 2):
         took = min(took, ask(run, line)[1])
     return end, took * 1e3
@@ -20,7 +23,7 @@ def best(run, line):
 def nested(operator, depth):
     query = f'"a" {operator} [1]'
     for _ in range(depth - 1):
-        query = f'("a" + ({query})) {operator} [1]'
+        query = f'"a" + ({query}) {operator} [1]'
     return query
 
 sizes = [500, 1000, 2000, 4000]
@@ -43,6 +46,15 @@ for operator in ["/<", "/>"]:
         print(f"{operator} depth {depth}: {times[0]:.2f} ms over {sizes[0]} words, and at twice as many each time {grown} times as long (target 2.3); {times[-1]:.2f} ms over {sizes[-1]}")
 print(f"depth 8 over {sizes[-1]} words: {max(took[operator, 8, sizes[-1]] for operator in ['/<', '/>']):.2f} ms (target 20)")
 
+with open(os.path.join(work, "equal"), "w") as out:
+    out.write("a " * 2_500_000)
+run = subprocess.Popen([program], cwd=work, stdin=subprocess.PIPE, stdout=subprocess.PIPE)
+ask(run, "add equal")
+phrase = 'count "' + " ".join(["a"] * 1000) + '"'
+print(f"a phrase of 1,000 equal words over 5 MB of them: {best(run, phrase)[1] / 1e3:.2f} s (target 1)")
+run.stdin.close()
+run.wait()
+
 if folder:
     verse = '("<verse>".."</verse>")'
     chosen = os.path.join(folder, "LIST.txt")
@@ -50,6 +62,8 @@ if folder:
     run = subprocess.Popen([program], cwd=folder, stdin=subprocess.PIPE, stdout=subprocess.PIPE)
     for name in names:
         ask(run, f"add {name}")
+    with open(os.path.join(folder, names[0])) as text:
+        often = [word for word, _ in collections.Counter(re.findall(r"[a-z]+", text.read().lower())).most_common(354)]
     queries = [
         f'count {verse}',
         f'count {verse} > ("the" + ("and" /< {verse}))',
@@ -62,10 +76,11 @@ if folder:
         f'count "the" < ("and" < {verse})',
         f'count {verse} > (("moses" ^ ("the" < {verse})) < [20])',
         f'count "manna" ^ ("the" < {verse})',
+        f"count {verse}" + "".join(f' /> "{word}"' for word in often[100:]),
     ]
     for query in queries:
         end, milliseconds = best(run, query)
-        print(f"{milliseconds:10.2f} ms  {end:>10}  {query}")
+        print(f"{milliseconds:10.2f} ms  {end:>10}  {query if len(query) < 200 else query[:100] + '..'}")
     run.stdin.close()
     run.wait()
 P

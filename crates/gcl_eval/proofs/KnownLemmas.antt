@@ -19,7 +19,7 @@ use Rattle.gcl_model.specs.declared.containment.Containment.{Containment}
 use Rattle.gcl_model.specs.declared.containment.Containment.TheVariants.{Containing, ContainedIn, NotContaining, NotContainedIn}
 use Rattle.gcl_model.specs.declared.direction.Direction.{Direction}
 use Rattle.gcl_model.specs.declared.direction.Direction.TheVariants.{Forward}
-use Rattle.gcl_eval.specs.KnownAnswers.{goes_on, lies_beyond, stays, told, IsAnswer, IsKnown, AreKnown, KnowsSecond, KnowsOperands}
+use Rattle.gcl_eval.specs.KnownAnswers.{goes_on, lies_beyond, stays, told, IsAnswer, IsKnown, AreKnown, KnowsSecond, KnowsRun, KnowsOperands}
 use Rattle.gcl_eval.specs.declared.direction.Access.{Access}
 use Rattle.gcl_eval.specs.declared.direction.Access.TheVariants.{FirstStart, FirstEnd, LastEnd, LastStart}
 use Rattle.gcl_eval.specs.declared.known.Known.{Known}
@@ -137,7 +137,7 @@ second_unknown direction text (not_contained_in a b) = tt
 pub none_is_known : (n : ℕ) (text : Text) (form : Form) → KnowsOperands text form (replicate n None)
 none_is_known n text (one fs) = nothing_known (operands text fs) n
 none_is_known n text (term t) = subst (λ o. KnowsSecond Forward text (term t) o) (sym (none_known n 0)) (second_unknown Forward text (term t))
-none_is_known n text (phrase ts) = subst (λ o. KnowsSecond Forward text (phrase ts) o) (sym (none_known n 0)) (second_unknown Forward text (phrase ts))
+none_is_known n text (phrase ts) = subst (λ o. KnowsRun text ts o) (sym (none_known n 0)) tt
 none_is_known n text (width w) = subst (λ o. KnowsSecond Forward text (width w) o) (sym (none_known n 0)) (second_unknown Forward text (width w))
 none_is_known n text (both fs) = subst (λ o. KnowsSecond Forward text (both fs) o) (sym (none_known n 0)) (second_unknown Forward text (both fs))
 none_is_known n text (seq fs) = subst (λ o. KnowsSecond Forward text (seq fs) o) (sym (none_known n 0)) (second_unknown Forward text (seq fs))

@@ -10,6 +10,7 @@ pub mod ElementLemmas
 pub mod FarAccess
 pub mod Found
 pub mod KnownLemmas
+pub mod RunLemmas
 pub mod Listing
 pub mod OperandLemmas
 pub mod TermAccess

@@ -1,10 +1,11 @@
 -- Answers that are known, and where they hold.
-use Rattle.std.specs.Prelude.{◌≡◌, ◌-◌, ◌<◌, ℕ, nat_le, nat_lt, Bool, true, false, ◌&&◌, List, [], get_or, Option, None, Some, IfSome, if◌then◌else◌}
+use Rattle.std.specs.Prelude.{◌≡◌, ◌-◌, ◌<◌, ℕ, nat_le, nat_lt, Bool, true, false, ◌&&◌, ◌==◌, List, [], get_or, Option, None, Some, IfSome, if◌then◌else◌}
 use Rattle.gcl_model.specs.Limits.{address_end}
 use Rattle.gcl_model.specs.Extents.{Extent}
 use Rattle.gcl_model.specs.Texts.{Text}
-use Rattle.gcl_model.specs.Forms.{Form, one, containing, contained_in, not_containing, not_contained_in}
+use Rattle.gcl_model.specs.Forms.{Form, phrase, one, containing, contained_in, not_containing, not_contained_in}
 use Rattle.gcl_model.specs.Meaning.{concordance, operands}
+use Rattle.phrase_walk.specs.Starts.{is_one_word}
 use Rattle.gcl_eval.specs.Containments.{asks}
 use Rattle.gcl_eval.specs.Directions.{access_of}
 use Rattle.gcl_model.specs.declared.containment.Containment.TheVariants.{Containing, ContainedIn, NotContaining, NotContainedIn}
@@ -43,6 +44,16 @@ abbrev pub was_leap : Option Known → ℕ → Bool
 was_leap None k = false
 was_leap (Some known) k = nat_lt known.at (k - 1)
 
+-- there is a member, and it starts right before k: (5, 6) does before 6
+abbrev pub starts_before : Option Extent → ℕ → Bool
+starts_before None k = false
+starts_before (Some a) k = nat_lt a.start k && (k - a.start == 1)
+
+-- the member that is known, where it starts right before k: (5, 6) at 6
+abbrev pub right_before : Option Known → ℕ → Option Extent
+right_before None k = None
+right_before (Some known) k = if starts_before known.answer k then known.answer else None
+
 -- the access of the list gave this answer where it was asked
 pub record IsAnswer (access : Access) (list : List Extent) (known : Known) : Type 0 where
   pub found : known.answer ≡ access_of access list known.at
@@ -64,7 +75,17 @@ KnowsSecond direction text (not_containing a b) known = IsKnown (asks direction 
 KnowsSecond direction text (not_contained_in a b) known = IsKnown (asks direction NotContainedIn) (concordance text b) known
 KnowsSecond direction text _ known = Unit {0}
 
--- what is known from member to member: of each operand of "one of", or of the second one of a containment
+-- what is known of a phrase that is one word again and again is an answer of its first start; of no other is anything known
+pub record IsRunAnswer (text : Text) (tokens : List (List ℕ)) (known : Known) : Type 0 where
+  pub one_word : is_one_word tokens ≡ true
+  pub answer : IsAnswer FirstStart (concordance text (phrase tokens)) known
+
+-- the same where something is known
+abbrev pub KnowsRun : Text → List (List ℕ) → Option Known → Type 0
+KnowsRun text tokens known = IfSome known (IsRunAnswer text tokens)
+
+-- what is known from member to member: of each operand of "one of", of the second one of a containment, or of a phrase
 abbrev pub KnowsOperands : Text → Form → List (Option Known) → Type 0
 KnowsOperands text (one forms) known = AreKnown (operands text forms) known
+KnowsOperands text (phrase tokens) known = KnowsRun text tokens (get_or known 0 None)
 KnowsOperands text form known = KnowsSecond Forward text form (get_or known 0 None)

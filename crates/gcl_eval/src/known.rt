@@ -11,7 +11,7 @@ ghost use Rattle.gcl_model.specs.Meaning.{concordance};
 ghost use Rattle.gcl_model.specs.Cost.{cost};
 ghost use Rattle.gcl_model.specs.WellFormed.{IsWellFormed};
 ghost use Rattle.gcl_eval.specs.Directions.{access_of};
-ghost use Rattle.gcl_eval.specs.KnownAnswers.{goes_on, lies_beyond, stays, told, was_leap, IsKnown};
+ghost use Rattle.gcl_eval.specs.KnownAnswers.{goes_on, lies_beyond, right_before, starts_before, stays, told, was_leap, IsKnown};
 
 use crate::access::access;
 use crate::direction::Access;
@@ -73,7 +73,7 @@ fn told(access: Access, known: Option<Known>, k: u64) -> Option<Option<Interval>
 }
 
 #[inline(always)]
-fn asked_at(at: u64, answer: &Option<Interval>) -> Known
+pub(crate) fn asked_at(at: u64, answer: &Option<Interval>) -> Known
     ensures at { result.at ≡ at }
     ensures answer { result.answer ≡ answer.now }
 {
@@ -91,6 +91,28 @@ pub(crate) fn was_leap(known: &Option<Known>, k: u64) -> bool
 {
     match known {
         Some(last) => last.at < k.saturating_sub(1),
+        None => false,
+    }
+}
+
+/// The member that is known, where it starts right before `k`.
+#[inline(always)]
+pub(crate) fn right_before(known: &Option<Known>, k: u64) -> Option<Interval>
+    ensures { result ≡ right_before known.now k }
+{
+    match known {
+        Some(known) if starts_before(known.answer, k) => known.answer,
+        _ => None,
+    }
+}
+
+/// Whether there is a member, and it starts right before `k`.
+#[inline(always)]
+fn starts_before(answer: Option<Interval>, k: u64) -> bool
+    ensures { result ≡ starts_before answer k }
+{
+    match answer {
+        Some(member) => member.start < k && k - member.start == 1,
         None => false,
     }
 }

@@ -1,11 +1,12 @@
 //! From member to member of an expression.
 //!
 //! Of "one of", the last answer of each operand is kept, and of a containment that of the second one: it is asked again
-//! only where its member was passed. Of 64 words one is looked up at each member, and the other 63 are known.
+//! only where its member was passed. Of 64 words one is looked up at each member, and the other 63 are known. So is all
+//! but the last word of the next row of "ha ha ha".
 
-ghost use Rattle.std.specs.Prelude.{◌≡◌, ◌+◌, ◌<◌, ◌≤◌, IfSome, set, get_or, None};
+ghost use Rattle.std.specs.Prelude.{◌≡◌, ◌+◌, ◌<◌, ◌≤◌, length, IfSome, set, get_or, None};
 ghost use Rattle.gcl_model.specs.Limits.{address_end, far};
-ghost use Rattle.gcl_model.specs.Forms.{one};
+ghost use Rattle.gcl_model.specs.Forms.{one, phrase};
 ghost use Rattle.gcl_model.specs.FormOf.{form_of};
 ghost use Rattle.gcl_model.specs.Meaning.{concordance};
 ghost use Rattle.gcl_model.specs.Access.{first_start};
@@ -14,13 +15,14 @@ ghost use Rattle.gcl_model.specs.WellFormed.{IsWellFormed};
 ghost use Rattle.gcl_eval.specs.Containments.{IsContainment};
 ghost use Rattle.gcl_eval.specs.Costs.{near_cost};
 ghost use Rattle.gcl_eval.specs.Operands.{operand_forms, operand_lists, operand_costs, AreOperands};
-ghost use Rattle.gcl_eval.specs.KnownAnswers.{AreKnown, KnowsOperands};
+ghost use Rattle.gcl_eval.specs.KnownAnswers.{AreKnown, KnowsOperands, KnowsRun};
 
 use crate::access::access;
 use crate::containments::containment_access;
 use crate::direction::{Access, better};
-use crate::known::{Known, known_access};
-use gcl_model::{CountedLeaves, Direction, Expr, Interval};
+use crate::known::{Known, asked_at, known_access, right_before};
+use gcl_model::{CountedLeaves, Direction, Expr, Interval, TokenList};
+use phrase_walk::{counted_first_start, counted_next_row, has_one_word};
 
 /// How many operands have a place for their last answer. A count takes no memory, so these places stand in an array.
 pub(crate) const MOST_KNOWN: usize = 64;
@@ -45,6 +47,7 @@ pub(crate) fn next_member<C: CountedLeaves>(
 {
     match expr {
         Expr::One(operands) => first_of_one(operands, source, k, known, counter),
+        Expr::Phrase(tokens) => first_of_phrase(tokens, source, k, known, counter),
         Expr::Containing(_, _)
         | Expr::ContainedIn(_, _)
         | Expr::NotContaining(_, _)
@@ -103,6 +106,55 @@ fn first_of_containment<C: CountedLeaves>(
     let answer = containment_access(expr, Access::FirstStart, source, k, &mut last, counter);
     keep(known, 0, last);
     answer
+}
+
+/// A phrase: of one that is one word again and again, the last row has the first place, and only the address right behind it is looked at.
+fn first_of_phrase<C: CountedLeaves>(
+    tokens: &TokenList,
+    source: &C,
+    k: u64,
+    known: &mut [Option<Known>; MOST_KNOWN],
+    counter: &mut C::Counter,
+) -> Option<Interval>
+    requires several { 2 ≤ length tokens.now }
+    requires below { k < far }
+    requires known { KnowsRun (C.text source.now) tokens.now (get_or known.old 0 None) }
+    ensures answer { result ≡ first_start (concordance (C.text source.now) (phrase tokens.now)) k }
+    ensures within { IfSome result (λ a. a.end < address_end) }
+    ensures known { KnowsRun (C.text source.now) tokens.now (get_or known.new 0 None) }
+    ensures counted { C.count counter.old ≤ C.count counter.new }
+    ensures cost { C.count counter.new ≤ C.count counter.old + cost (C.text source.now) (C.most source.now) (phrase tokens.now) }
+{
+    // the span tells that the words rise
+    let _span = source.span();
+    let last = known_of(known, 0);
+    let answer = row_from(tokens, source, k, &last, counter);
+    if last.is_some() || has_one_word(tokens) {
+        keep(known, 0, Some(asked_at(k, &answer)));
+    }
+    answer
+}
+
+/// The first row from `k` on, by the row right before it where that is known.
+#[inline]
+fn row_from<C: CountedLeaves>(
+    tokens: &TokenList,
+    source: &C,
+    k: u64,
+    last: &Option<Known>,
+    counter: &mut C::Counter,
+) -> Option<Interval>
+    requires several { 2 ≤ length tokens.now }
+    requires below { k < far }
+    requires last { KnowsRun (C.text source.now) tokens.now last.now }
+    ensures answer { result ≡ first_start (concordance (C.text source.now) (phrase tokens.now)) k }
+    ensures counted { C.count counter.old ≤ C.count counter.new }
+    ensures cost { C.count counter.new ≤ C.count counter.old + cost (C.text source.now) (C.most source.now) (phrase tokens.now) }
+{
+    match right_before(last, k) {
+        Some(row) => counted_next_row(tokens, source, row, counter),
+        None => counted_first_start(tokens, source, k, counter),
+    }
 }
 
 /// What is known of the operand with this number.

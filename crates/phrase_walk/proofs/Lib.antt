@@ -7,4 +7,5 @@ pub mod Members
 pub mod Ring
 pub mod Asked
 pub mod Steps
+pub mod OneWord
 mod Worked

@@ -1,14 +1,15 @@
 -- The members of a phrase's list are its rows, and its accesses find the nearest row.
-use Rattle.std.proofs.Common.{◌≡◌, ℕ, ◌+◌, ◌-◌, ◌<◌, ◌≤◌, leb, eqb, List, [], ◌∷◌, length, Option, Some, None, ap, ◌∙◌, arith}
+use Rattle.std.proofs.Common.{◌≡◌, ℕ, ◌+◌, ◌-◌, ◌<◌, ◌≤◌, leb, eqb, List, [], ◌∷◌, length, Option, Some, None, sym, ap, ◌∙◌, arith}
 use Rattle.std.proofs.lemmas.Bool.{and_parts, and_from, leb-true, le-leb, eqb-true, eq-eqb}
 use Rattle.gcl_model.specs.Extents.{Extent, extent, all_extents}
 use Rattle.gcl_model.specs.Access.{first_start, first_end, last_end, last_start}
 use Rattle.gcl_model.specs.Texts.{Text, IsText}
 use Rattle.gcl_model.specs.Forms.{phrase}
 use Rattle.gcl_model.specs.Meaning.{concordance, denotes, holds_in_row}
-use Rattle.gcl_model.proofs.Covers.{Has, find_agree_on, find_last_agree_on}
+use Rattle.gcl_model.proofs.Covers.{Has, find_agree_on, find_last_agree_on, find_gives}
 use Rattle.gcl_model.proofs.Minimal.{filter_has, has_filter, has_extent, same_truth}
 use Rattle.gcl_model.proofs.Meanings.{concordance_rises}
+use Rattle.phrase_walk.specs.Starts.{IsRow}
 use Rattle.phrase_walk.proofs.Places.{held_within}
 use Rattle.phrase_walk.proofs.Rows.{InRow, row_parts}
 use Rattle.phrase_walk.proofs.Finds.{none_first, none_last, one_first, one_last}
@@ -35,11 +36,7 @@ row_has text sound tokens r e some row is =
     (has_extent text.first text.next r e within.0 (omega arith) (omega arith))
     (and_from (eqb (e + 1) (r + length tokens)) (holds_in_row text.words tokens r) (eq-eqb (e + 1) (r + length tokens) is) row)
 
-record IsRow (text : Text) (tokens : List (List ℕ)) (a : Extent) : Type 0 where
-  pub wide : a.end + 1 ≡ a.start + length tokens
-  pub row : InRow text tokens a.start
-
-member_row : (text : Text) (tokens : List (List ℕ)) (a : Extent) → Has (concordance text (phrase tokens)) a → IsRow text tokens a
+pub member_row : (text : Text) (tokens : List (List ℕ)) (a : Extent) → Has (concordance text (phrase tokens)) a → IsRow text tokens a
 member_row text tokens a m =
     let parts = and_parts (eqb (a.end + 1) (a.start + length tokens)) (holds_in_row text.words tokens a.start)
     (has_filter (denotes text (phrase tokens)) (all_extents text.first text.next) a m).1 in
@@ -100,3 +97,7 @@ pub last_end_found : (text : Text) (slice tokens : List (List ℕ)) (k s : ℕ) 
     o ≡ last_start (concordance text (phrase slice)) s → o ≡ last_end (concordance text (phrase tokens)) k
 last_end_found text slice tokens k s o same some is found =
     found ∙ ap (λ ts. last_start (concordance text (phrase ts)) s) same ∙ last_end_by_start text tokens k s some is
+
+-- what an access finds is a row
+pub found_row : (text : Text) (tokens : List (List ℕ)) (k : ℕ) (a : Extent) → Some a ≡ first_start (concordance text (phrase tokens)) k → IsRow text tokens a
+found_row text tokens k a is = member_row text tokens a (find_gives (λ a. leb k a.start) (concordance text (phrase tokens)) a (sym is)).0

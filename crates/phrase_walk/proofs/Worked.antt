@@ -1,8 +1,9 @@
 -- Bounds of walks, computed.
-use Rattle.std.proofs.Common.{◌≡◌, List, [], ◌∷◌, Some, None, codes, refl}
+use Rattle.std.proofs.Common.{◌≡◌, true, false, List, [], ◌∷◌, Some, None, codes, refl}
 use Rattle.gcl_model.specs.Extents.{extent}
 use Rattle.gcl_model.specs.Texts.{Text, Word}
 use Rattle.gcl_model.specs.Collections.{words_from}
+use Rattle.phrase_walk.specs.Starts.{is_one_word}
 use Rattle.phrase_walk.specs.Rounds.{rounds_cost, fewest_between, passed_cost}
 
 -- to be or not to be
@@ -31,3 +32,9 @@ passed_cost-found = refl
 -- behind it there is none
 passed_cost-none : passed_cost whole 1 (codes "to" ∷ codes "be" ∷ []) 5 None ≡ 2
 passed_cost-none = refl
+
+one_word-again : is_one_word (codes "ha" ∷ codes "ha" ∷ codes "ha" ∷ []) ≡ true
+one_word-again = refl
+
+one_word-other : is_one_word (codes "ha" ∷ codes "ha" ∷ codes "he" ∷ []) ≡ false
+one_word-other = refl

@@ -1,5 +1,7 @@
 -- Where rows of tokens start.
-use Rattle.std.specs.Prelude.{◌≡◌, ℕ, ◌+◌, ◌-◌, ◌<◌, ◌≤◌, true, List, [], length, get_or}
+use Rattle.std.specs.Prelude.{◌≡◌, ℕ, ◌+◌, ◌-◌, ◌<◌, ◌≤◌, Bool, true, List, [], length, get_or, bytes_eq}
+use Rattle.std.specs.List.{list_all}
+use Rattle.gcl_model.specs.Extents.{Extent}
 use Rattle.gcl_model.specs.Texts.{Text, holds}
 use Rattle.gcl_model.specs.Meaning.{holds_in_row}
 
@@ -30,3 +32,12 @@ pub record LeadsTo (text : Text) (tokens : List (List ℕ)) (turn s q : ℕ) : T
 pub record IsFollowed (text : Text) (tokens : List (List ℕ)) (turn q : ℕ) : Type 0 where
   pub more : turn + 1 < length tokens
   pub behind : IsInPlace text tokens (q - turn) (turn + 1)
+
+-- all tokens are one word: those of "ha ha ha" are, and those of "ha ha he" are not
+abbrev pub is_one_word : List (List ℕ) → Bool
+is_one_word tokens = list_all (bytes_eq (token_at tokens 0)) tokens
+
+-- the tokens stand in order at the addresses from the start to the end: those of "to be" do at (4, 5) in `0 to, 1 be, 2 or, 3 not, 4 to, 5 be`
+pub record IsRow (text : Text) (tokens : List (List ℕ)) (a : Extent) : Type 0 where
+  pub wide : a.end + 1 ≡ a.start + length tokens
+  pub row : holds_in_row text.words tokens a.start ≡ true

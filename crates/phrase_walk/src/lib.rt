@@ -8,7 +8,9 @@
 
 mod accesses;
 mod counted;
+mod runs;
 mod walks;
 
 pub use accesses::{phrase_first_end, phrase_first_start, phrase_last_end, phrase_last_start};
 pub use counted::{counted_first_end, counted_first_start, counted_last_end, counted_last_start};
+pub use runs::{counted_next_row, has_one_word};
