@@ -99,7 +99,7 @@ fn compare(rt: &impl Abort, alloc: Global, bytes: &[u8], query: &[u8]) -> Result
     Ok(())
 }
 
-const FILES: [&[u8]; 8] = [
+const FILES: [&[u8]; 9] = [
     b"",
     b" .. ",
     b"to be or not to be",
@@ -108,9 +108,10 @@ const FILES: [&[u8]; 8] = [
     b"<a <b> to</b to <b/>be",
     b"<s>to</s><s>be to</s><t>be</t>",
     b"</b><b><b>to</b></b> be",
+    b"ha ha ha he ha ha <b>ha ha ha",
 ];
 
-const QUERIES: [&[u8]; 18] = [
+const QUERIES: [&[u8]; 20] = [
     b"\"to\"",
     b"\"be\"",
     b"\"nowhere\"",
@@ -119,6 +120,8 @@ const QUERIES: [&[u8]; 18] = [
     b"\"be\" .. \"to\"",
     b"\"to\" ^ \"be\"",
     b"\"to be\"",
+    b"\"ha ha\"",
+    b"\"ha ha ha\"",
     b"\"caf\xc3\xa9 \xff\"",
     b"[3]",
     b"(\"<p>\" .. \"</p>\") > \"four\"",
