@@ -3,11 +3,11 @@
 # ("a" + ("a" /< [1])) /< [1] and the like to depth 8, by both "not" operators: milliseconds, how they grow from half the words (target 2.3),
 # and those of depth 8 over 4,000 words (target 20); and seconds of a phrase of 1,000 equal words over 5 MB of them (target 1). Over the files
 # of a folder, by default none, such as the King James Bible with the elements book, chapter and verse: milliseconds of queries that somebody
-# may write, beside a count of the verses, and of verses without any of 254 words (target 200).
+# may write, beside a count of the verses, of verses without any of 254 words (target 200), and of 2,000 queries that chance made.
 . "$(dirname "$0")/common.sh"
 need_gclq
 python3 - "$program" "$work" "${1:-}" <<'P'
-import collections, os, re, subprocess, sys
+import collections, os, random, re, subprocess, sys
 from asking import ask
 program, work, folder = sys.argv[1:]
 
@@ -76,11 +76,35 @@ if folder:
         f'count "the" < ("and" < {verse})',
         f'count {verse} > (("moses" ^ ("the" < {verse})) < [20])',
         f'count "manna" ^ ("the" < {verse})',
+        f'count {verse} > ("king" + "holy ghost" + "of of")',
+        f'count {verse} > ("the" + "of of")',
+        f'count ("the" + "of of") ^ "in"',
+        f'count ("the" + ("and" /< {verse})) + "of"',
+        f'count ("the" /> ("of of" > {verse})) + "of"',
         f"count {verse}" + "".join(f' /> "{word}"' for word in often[100:]),
     ]
     for query in queries:
         end, milliseconds = best(run, query)
         print(f"{milliseconds:10.2f} ms  {end:>10}  {query if len(query) < 200 else query[:100] + '..'}")
+
+    words = [word for name in names for word in re.findall(r"[a-z]+", open(os.path.join(folder, name)).read().lower())]
+    common = [word for word, _ in collections.Counter(words).most_common(500)]
+    random.seed(41)
+
+    def token():
+        return random.choice([random.choice(common[:20]), random.choice(common), random.choice(words)])
+
+    def made(depth):
+        if depth == 0 or random.random() < 0.15:
+            return random.choice([f'"{token()}"', f'"{token()}"', f'"{token()} {token()}"', verse, f"[{random.choice([1, 2, 5, 20])}]"])
+        operator = random.choice(["+", "+", "^", "..", ">", "<", "/>", "/<"])
+        return "(" + f" {operator} ".join(made(depth - 1) for _ in range(random.choice([2, 2, 3]) if operator in ["+", "^", ".."] else 2)) + ")"
+
+    queries = [f"count {made(random.choice([2, 3, 3, 4]))}" for _ in range(2000)]
+    slowest = sorted(((best(run, query)[1], query) for query in queries), reverse=True)
+    print(f"2,000 queries that chance made: half of them in {slowest[1000][0]:.2f} ms, all but 20 in {slowest[20][0]:.0f}, the slowest:")
+    for milliseconds, query in slowest[:3]:
+        print(f"{milliseconds:10.2f} ms  {query}")
     run.stdin.close()
     run.wait()
 P

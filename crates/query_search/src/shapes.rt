@@ -15,11 +15,15 @@ const WIDE: u64 = 16;
 /// such question may be a whole search: over a text of `a` alone, that of `("a" + ("a" /< [1])) /< [1]` goes through all words for each
 /// word. Containments in each other alone do so only where they are many, and else leaping is quicker than reading.
 ///
-/// For each member "one of" asks all its operands anew. Readers keep the answers, and ask those operands alone that were passed. That pays
-/// where there are many, as in the expansion of a prefix that many words have. It does not where each member has a rare term: leaping then
-/// asks the operands only close to the places of that term, and readers would go through all that they have between these places.
+/// For each member "one of" asks all its operands anew, and "not containing" and "not contained in" the second one, unless it is the whole
+/// query, of which the last answers are kept. An operand that is far away is looked for each time: of `("to" + "be or be") ^ "not"` a
+/// phrase that never comes, through all words for each `to`. Readers keep the answers, and ask those operands alone that were passed.
+///
+/// That pays too where "one of" has many operands, as the expansion of a prefix that many words have. It does not where each member has a
+/// rare term: leaping then asks the operands only close to the places of that term, and readers would go through all that they have
+/// between these places.
 pub fn may_search_again(version: &Version, expr: &Expr) -> bool {
-    if may_multiply(expr) {
+    if may_multiply(expr) || asks_anew(expr) {
         return true;
     }
     let shape = shape_of(expr);
@@ -31,6 +35,17 @@ pub fn may_search_again(version: &Version, expr: &Expr) -> bool {
 pub fn may_multiply(expr: &Expr) -> bool {
     let shape = shape_of(expr);
     shape.asks_a_chain || shape.nesting >= DEEP
+}
+
+/// Whether some operator below the topmost one asks an operand anew that may be far away.
+fn asks_anew(expr: &Expr) -> bool {
+    match expr {
+        Expr::One(operands) => shape_of_all(operands).asks_anew,
+        Expr::NotContaining(a, b) | Expr::NotContainedIn(a, b) => {
+            together(shape_of(a), shape_of(b)).asks_anew
+        }
+        _ => shape_of(expr).asks_anew,
+    }
 }
 
 /// Whether some "one of" in it has many operands, as the expansion of a prefix that many words have.
@@ -45,6 +60,10 @@ struct Shape {
     // Whether some chain holds a containment, and whether some containment has an operand in which one does.
     has_a_chain: bool,
     asks_a_chain: bool,
+    // Whether an access of it may pass many places before it finds a member, as that of a phrase or a containment, and whether some
+    // operator in it asks such an operand for each member of another one.
+    is_far: bool,
+    asks_anew: bool,
     // Of how many operands it is "one of": those of "one of" among them count in its place, and anything else is one.
     choices: u64,
     // Whether some "one of" in it has many operands.
@@ -59,6 +78,8 @@ fn together(a: Shape, b: Shape) -> Shape {
         nesting: a.nesting.max(b.nesting),
         has_a_chain: a.has_a_chain || b.has_a_chain,
         asks_a_chain: a.asks_a_chain || b.asks_a_chain,
+        is_far: a.is_far || b.is_far,
+        asks_anew: a.asks_anew || b.asks_anew,
         choices: a.choices.saturating_add(b.choices),
         is_wide: a.is_wide || b.is_wide,
         leaves: a.leaves.saturating_add(b.leaves),
@@ -71,6 +92,8 @@ fn plain(leaves: u64) -> Shape {
         nesting: 0,
         has_a_chain: false,
         asks_a_chain: false,
+        is_far: false,
+        asks_anew: false,
         choices: leaves,
         is_wide: false,
         leaves,
@@ -80,11 +103,16 @@ fn plain(leaves: u64) -> Shape {
 #[cycle(shape)]
 fn shape_of(expr: &Expr) -> Shape {
     match expr {
-        Expr::Term(_) | Expr::Phrase(_) | Expr::Width(_) => plain(1),
+        Expr::Term(_) | Expr::Width(_) => plain(1),
+        Expr::Phrase(_) => Shape {
+            is_far: true,
+            ..plain(1)
+        },
         Expr::One(operands) => {
             let all = shape_of_all(operands);
             Shape {
                 has_a_chain: all.nesting > 0,
+                asks_anew: all.asks_anew || all.is_far,
                 is_wide: all.is_wide || all.choices > WIDE,
                 ..all
             }
@@ -97,18 +125,28 @@ fn shape_of(expr: &Expr) -> Shape {
                 ..all
             }
         }
-        Expr::Containing(a, b)
-        | Expr::ContainedIn(a, b)
-        | Expr::NotContaining(a, b)
-        | Expr::NotContainedIn(a, b) => {
-            let all = together(shape_of(a), shape_of(b));
+        Expr::Containing(a, b) | Expr::ContainedIn(a, b) => {
+            containment(shape_of(a), shape_of(b))
+        }
+        Expr::NotContaining(a, b) | Expr::NotContainedIn(a, b) => {
+            let (first, second) = (shape_of(a), shape_of(b));
             Shape {
-                nesting: all.nesting.saturating_add(1),
-                asks_a_chain: all.has_a_chain,
-                choices: 1,
-                ..all
+                asks_anew: first.asks_anew || second.asks_anew || second.is_far,
+                ..containment(first, second)
             }
         }
+    }
+}
+
+/// That of a containment with these operands.
+fn containment(first: Shape, second: Shape) -> Shape {
+    let all = together(first, second);
+    Shape {
+        nesting: all.nesting.saturating_add(1),
+        asks_a_chain: all.has_a_chain,
+        is_far: true,
+        choices: 1,
+        ..all
     }
 }
 

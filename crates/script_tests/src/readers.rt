@@ -8,7 +8,7 @@ use address_space::is_name;
 use collection::{Engine, Opened};
 use gcl_model::{Bytes, Expr, IntervalList, TokenList};
 use plain_text::{of_tokens, slow_list};
-use query_search::Search;
+use query_search::{Pages, Search};
 use std::alloc::{AllocError, Global};
 use std::sync::{Arc, Wait};
 use std::test::Fail;
@@ -213,5 +213,46 @@ fn a_nested_query_over_4000_words_ends(rt: HostRuntime) -> Result<(), Fail> {
         nested_counts(&rt, rt.alloc(), 4_000)?.as_slice(),
         [0, 0].as_slice()
     );
+    Ok(())
+}
+
+/// Queries, and whether readers find their members.
+const WAYS: [(&[u8], bool); 12] = [
+    (b"\"a\" + \"b c\"", false),
+    (b"(\"a\" + \"b c\") ^ \"d\"", true),
+    (b"(\"a\" + \"b\") ^ \"d\"", false),
+    (b"(\"a\" ^ \"b c\") .. \"d\"", false),
+    (b"\"a\" > (\"b\" + \"c d\")", true),
+    (b"\"a\" > (\"b\" ^ \"c d\")", false),
+    (b"(\"a\" + (\"b\" < \"c\")) + \"d\"", true),
+    (b"\"a\" /> \"b c\"", false),
+    (b"(\"a\" /> \"b c\") ^ \"d\"", true),
+    (b"(\"a\" /< \"b\") ^ \"d\"", false),
+    (b"(\"a\" < \"b c\") ^ \"d\"", false),
+    (b"\"a\" < (\"b\" ^ (\"c\" > \"d\"))", true),
+];
+
+/// The number of the first of these that goes another way.
+fn goes_another_way(alloc: Global, engine: &Engine) -> Result<Option<usize>, AllocError> {
+    for (number, (text, is_read)) in WAYS.iter().enumerate() {
+        let Ok(expr) = query(alloc, text)? else {
+            return Ok(Some(number));
+        };
+        let pages = Pages::from(alloc, engine.pass()?, expr, 0);
+        if pages.is_read() != *is_read {
+            return Ok(Some(number));
+        }
+    }
+    Ok(None)
+}
+
+#[test]
+fn readers_answer_where_leaping_would_look_far_again_and_again(
+    rt: HostRuntime,
+) -> Result<(), Fail> {
+    let engine = engine_of(&rt, rt.alloc(), b"a b c d")?;
+    let number = goes_another_way(rt.alloc(), &engine);
+    engine.end(&rt);
+    assert_eq!(rt; number?, None);
     Ok(())
 }
