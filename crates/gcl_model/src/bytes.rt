@@ -1,16 +1,12 @@
 ghost use Rattle.std.specs.Prelude.{◌≡◌, ◌<◌, [], ◌∷◌, ◌++◌, length, slice_index_or, OnOk, OnErr, IfOk};
 
-use smallvec::SmallVec;
 use std::alloc::{AllocError, Global};
 use std::marker::Model;
-
-/// How many bytes stand in the value itself: most words of a text take no heap block.
-const INLINE: usize = 15;
 
 /// A list of bytes: a token, a name or a line.
 #[derive(Drop)]
 pub struct Bytes {
-    items: SmallVec<u8, INLINE>,
+    items: Vec<u8>,
 }
 
 impl Model for Bytes {
@@ -27,7 +23,7 @@ impl Bytes {
         ensures { result ≡ [] }
     {
         Bytes {
-            items: SmallVec::new(alloc),
+            items: Vec::new(alloc),
         }
     }
 
@@ -35,9 +31,7 @@ impl Bytes {
     pub fn of(items: Vec<u8>) -> Self
         ensures { result ≡ items.items }
     {
-        Bytes {
-            items: SmallVec::from_vec(items),
-        }
+        Bytes { items }
     }
 
     /// A copy of these bytes.
@@ -45,7 +39,7 @@ impl Bytes {
         ensures { IfOk result (λ copy. copy ≡ bytes.now) }
     {
         Ok(Bytes {
-            items: SmallVec::from_slice(alloc, bytes)?,
+            items: Vec::from_slice(alloc, bytes)?,
         })
     }
 
@@ -85,7 +79,7 @@ impl Bytes {
         ensures { IfOk result (λ list. list ≡ self.now) }
     {
         Ok(Bytes {
-            items: SmallVec::from_slice(*self.items.allocator(), self.items.as_slice())?,
+            items: Vec::from_slice(*self.items.allocator(), self.items.as_slice())?,
         })
     }
 }
