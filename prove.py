@@ -1,51 +1,73 @@
 #!/usr/bin/env python3
-"""prove.py PROGRAM: proves the crates below a program that are not proved yet, or have changed, and says on standard error how far it is.
+"""prove.py PROGRAM: proves the crates below a program and the program, as far as they are not proved yet or have changed, and builds it as
+crates/PROGRAM/out/PROGRAM. It says on standard error how far it is.
 
-Each begins as soon as those that it uses are proved, and first the one from which the longest way leads up to the program. Where fewer are
-ready than there are processors, one gets several. `rt lib` keeps every other one out of the crates below its own, so each runs in a copy of
-the sources, to which the libraries that are there are linked. What is proved is moved to crates/*/out at once: it may be stopped.
+A crate begins as soon as those that it uses are proved, and first the one from which the longest way leads up to the program. The crates
+above it load its statements alone, which `rattle build --statements` makes, and `rt lib` does not: libraries with proofs take several times
+as long to load. What is proved is kept in crates/*/out/statements at once, so it may be stopped.
+
+Ends with 0 where the program is there, with 1 where a crate is not proved, after what the prover says of it, and with 130 after Ctrl-C.
 """
-import fcntl, os, shutil, subprocess, sys, tempfile, time
+import fcntl, os, shutil, subprocess, sys, time
 
 HERE = os.path.dirname(os.path.realpath(__file__))
-# What a check may need of memory, and each further processor that it gets, in kilobytes.
+TARGET = "x86_64-unknown-linux-gnu"
+# What a check may need of memory, in kilobytes.
 NEED = 3_000_000
 
 
 def read_uses():
-    """What each crate uses of this repository's, by crates.txt."""
+    """What each crate uses, by crates.txt: crates of this repository, and libraries of the kit."""
     uses = {}
     with open(f"{HERE}/crates.txt", encoding="utf-8") as lines:
         for line in lines:
             head, _, libraries = line.partition("#")[0].partition(":")
             if head.strip():
                 uses[head.split()[0]] = libraries.split()
-    return {crate: [it for it in libraries if it in uses] for crate, libraries in uses.items()}
+    return uses
 
 
 def with_below(crate, uses, found=()):
-    """The crates found so far, then this one and those below it, each after those that it uses."""
-    if crate in found:
+    """The crates found so far, then this one and those of this repository below it, each after those that it uses."""
+    if crate in found or crate not in uses:
         return [*found]
-    for library in uses[crate]:
-        found = with_below(library, uses, found)
+    for below in uses[crate]:
+        found = with_below(below, uses, found)
     return [*found, crate]
+
+
+def folder(crate):
+    return f"{HERE}/crates/{crate}"
+
+
+def library(crate):
+    """Where its statements are kept."""
+    return f"{folder(crate)}/out/statements/{crate}.rlib"
+
+
+def is_program(crate):
+    return os.path.isfile(f"{folder(crate)}/src/main.rt")
+
+
+def made_at(crate):
+    """When what is made of it was made, and 0 where it is not there."""
+    made = f"{folder(crate)}/out/{crate}" if is_program(crate) else f"{library(crate)}/format"
+    return os.path.getmtime(made) if os.path.isfile(made) else 0
 
 
 def sources(crate):
     """The files that its proof reads."""
     for part in ("src", "specs", "proofs"):
-        for folder, _, names in os.walk(f"{HERE}/crates/{crate}/{part}"):
-            yield from (f"{folder}/{name}" for name in names)
+        for at, _, names in os.walk(f"{folder(crate)}/{part}"):
+            yield from (f"{at}/{name}" for name in names)
 
 
 def lacking(crates, uses):
-    """Those without a library that is newer than their sources, and those above them."""
+    """Those of which nothing is made that is newer than their sources and than the libraries that they use, and those above them."""
     found = set()
     for crate in crates:
-        stamp = f"{HERE}/crates/{crate}/out/rlib/stamp"
-        is_new = os.path.isfile(stamp) and all(os.path.getmtime(it) < os.path.getmtime(stamp) for it in sources(crate))
-        if not is_new or not found.isdisjoint(uses[crate]):
+        read = [*map(os.path.getmtime, sources(crate)), *(made_at(it) for it in uses[crate] if it in uses)]
+        if made_at(crate) <= max(read) or not found.isdisjoint(uses[crate]):
             found.add(crate)
     return found
 
@@ -65,82 +87,92 @@ def processors():
     return max(1, min(len(os.sched_getaffinity(0)), free // NEED))
 
 
-class Room:
-    """A copy of the sources, in which one crate is proved at a time."""
+class Prover:
+    """The kit's prover, over the crates of this repository."""
 
-    def __init__(self, folder, crates):
-        self.folder, self.crate, self.jobs = folder, None, 0
-        os.makedirs(f"{folder}/crates")
-        shutil.copy(f"{HERE}/HANDLES", folder)
-        with open(f"{HERE}/crates.txt", encoding="utf-8") as lines, open(f"{folder}/crates.txt", "w", encoding="utf-8") as ours:
-            ours.writelines(it for it in lines if it.partition(":")[0].partition(" ")[0] in crates)
-        for crate in crates:
-            shutil.copytree(f"{HERE}/crates/{crate}", f"{folder}/crates/{crate}", ignore=shutil.ignore_patterns("out", "must-fail"))
+    def __init__(self, kit, uses):
+        self.kit, self.uses = kit, uses
 
-    def begin(self, crate, libraries, jobs):
-        self.crate, self.jobs = crate, jobs
-        for it in libraries:
-            if not os.path.isdir(f"{self.folder}/crates/{it}/out"):
-                os.mkdir(f"{self.folder}/crates/{it}/out")
-                subprocess.run(["cp", "-al", f"{HERE}/crates/{it}/out/rlib", f"{self.folder}/crates/{it}/out"], check=True)
-        if os.path.isdir(f"{HERE}/crates/{crate}/out"):
-            os.rename(f"{HERE}/crates/{crate}/out", f"{self.folder}/crates/{crate}/out")
-        self.run = subprocess.Popen(["rt", "lib", "--jobs", str(jobs)], cwd=f"{self.folder}/crates/{crate}",
-                                    stdin=subprocess.DEVNULL, stdout=subprocess.DEVNULL, stderr=subprocess.DEVNULL)
+    def command(self, crate, jobs):
+        """How a crate is proved, and its library or program made."""
+        root = "src/main.rt" if is_program(crate) else "src/lib.rt"
+        words = [f"{self.kit}/bin/rattle", "build", "--crate-name", crate, root, "--links", f"{crate}="]
+        for it in ("std", *self.uses[crate]):
+            words += ["--extern", f"{it}={library(it) if it in self.uses else f'{self.kit}/rlibs/{it}.rlib'}"]
+        for it in with_below(crate, self.uses)[:-1]:
+            words += ["-L", f"dependency={os.path.dirname(library(it))}"]
+        words += ["-L", f"dependency={self.kit}/rlibs", "--antt-project", f"{self.kit}/rattle/logic/antt-project.json"]
+        words += ["--logic-built", f"{self.kit}/logic_built", "--jobs", str(jobs)]
+        if is_program(crate):
+            return [*words, "--toolchain", f"{self.kit}/toolchain", "-o", f"out/{crate}.o"]
+        return [*words, "--statements", "-o", library(crate)]
 
-    def end(self):
-        """Moves what was made to where it is kept, and returns the crate, or None where it is not proved."""
-        made, crate = f"{self.folder}/crates/{self.crate}/out", self.crate
-        if os.path.isdir(made):
-            os.rename(made, f"{HERE}/crates/{crate}/out")
-        self.crate, self.jobs = None, 0
-        return crate if self.run.wait() == 0 else None
+    def begin(self, crate, jobs):
+        os.makedirs(os.path.dirname(library(crate)), exist_ok=True)
+        with open(f"{folder(crate)}/out/proof.log", "w", encoding="utf-8") as log:
+            how = {"cwd": folder(crate), "stdin": subprocess.DEVNULL, "stdout": log, "stderr": subprocess.STDOUT}
+            return subprocess.Popen(self.command(crate, jobs), **how)
 
+    def prove(self, left, ways, most):
+        """Proves these crates, and yields each as it ends, with the prover's status."""
+        running = {}
+        try:
+            while left or running:
+                ready = sorted((it for it in left if (left | running.keys()).isdisjoint(self.uses[it])), key=lambda it: -ways[it])
+                while ready and len(running) < most:
+                    # several jobs together take more of the processors, so they are for the end, when few crates are ready at a time
+                    jobs = most if len(left) <= 2 * most else max(1, (most - len(running)) // len(ready))
+                    running[ready[0]] = self.begin(ready[0], jobs)
+                    left.remove(ready.pop(0))
+                for crate in [it for it, run in running.items() if run.poll() is not None]:
+                    yield crate, running.pop(crate).returncode
+                time.sleep(0.1)
+        finally:
+            for run in running.values():
+                run.terminate()
+                run.wait()
 
-def prove(left, uses, ways, rooms, most):
-    """Proves these crates, and yields each as it is proved, or None where one is not."""
-    while left or any(room.crate for room in rooms):
-        ready = sorted((it for it in left if left.isdisjoint(uses[it])), key=lambda it: -ways[it])
-        ready = [it for it in ready if not any(room.crate in uses[it] for room in rooms)]
-        for room in rooms:
-            idle = most - sum(it.jobs for it in rooms)
-            if room.crate is None and ready and idle > 0:
-                room.begin(ready[0], with_below(ready[0], uses)[:-1], -(-idle // len(ready)))
-                left.remove(ready.pop(0))
-        for room in rooms:
-            if room.crate and room.run.poll() is not None:
-                yield room.end()
-        time.sleep(0.1)
+    def link(self, program):
+        """Makes the program of its object file."""
+        made = f"{folder(program)}/out/{program}"
+        words = ["--target", TARGET, "--toolchain", f"{self.kit}/toolchain", "-o", made, f"{made}.o"]
+        words += [f"{self.kit}/c/{it}" for it in ("libos_c.a", "liblibc_c.a")]
+        ran = subprocess.run([f"{self.kit}/bin/rattle-link", *words], capture_output=True, text=True, check=False)
+        if ran.returncode:
+            sys.stderr.write(ran.stdout + ran.stderr)
+        return ran.returncode == 0
 
 
 def main():
     [program] = sys.argv[1:]
+
+    def say(what):
+        print(f"{program}: {what}", file=sys.stderr, flush=True)
+
     uses, most = read_uses(), processors()
     crates = with_below(program, uses)
-    os.makedirs(f"{HERE}/crates/{program}/out", exist_ok=True)
-    # another run here is waited for
-    lock = os.open(f"{HERE}/crates/{program}", os.O_RDONLY)
-    fcntl.flock(lock, fcntl.LOCK_EX)
-    left = lacking(crates[:-1], uses)
-    if not left:
-        return 0
-    done = len(crates) - 1 - len(left)
-    print(f"{program}: proving {len(left)} of {len(crates)} crates with {most} processors; the first takes a minute", file=sys.stderr, flush=True)
-    with tempfile.TemporaryDirectory(dir=f"{HERE}/crates/{program}/out") as folder:
-        rooms = [Room(f"{folder}/{number}", crates) for number in range(most)]
-        try:
-            for crate in prove(left, uses, ways_up(crates, uses), rooms, most):
-                if crate is None:
-                    return 1
-                done += 1
-                print(f"{program}: {done} of {len(crates)}: {crate} is proved", file=sys.stderr, flush=True)
-        finally:
-            for room in rooms:
-                if room.crate:
-                    room.run.terminate()
-                    room.run.wait()
-                    room.end()
-    return 0
+    lock = os.open(HERE, os.O_RDONLY)
+    try:
+        fcntl.flock(lock, fcntl.LOCK_EX | fcntl.LOCK_NB)
+    except BlockingIOError:
+        say("waiting for another run in this checkout")
+        fcntl.flock(lock, fcntl.LOCK_EX)
+    left = lacking(crates, uses)
+    done = len(crates) - len(left)
+    say(f"proving {len(left)} of {len(crates)} crates with {most} processors; the first takes a minute")
+    prover = Prover(os.path.dirname(os.path.dirname(os.path.realpath(shutil.which("rt")))), uses)
+    for crate, status in prover.prove(left, ways_up(crates, uses), most):
+        if status < 0:
+            say(f"the proof of {crate} was killed, most likely for memory: begin again, and what is proved is kept")
+            return 1
+        if status > 0:
+            with open(f"{folder(crate)}/out/proof.log", encoding="utf-8") as log:
+                sys.stderr.write(log.read())
+            say(f"{crate} is not proved: what the prover said stands above")
+            return 1
+        done += 1
+        say(f"{done} of {len(crates)}: {crate} is proved")
+    return 0 if prover.link(program) else 1
 
 
 if __name__ == "__main__":

@@ -16,7 +16,7 @@ need_gclq() {
 # Builds the program that measures lists, shards and slots, and sets `counter` to its path.
 need_measure() {
   counter=${MEASURE:-$here/crates/measure/out/measure}
-  [ -n "${MEASURE:-}" ] || (cd "$here/crates/measure" && rt run -- tokens data/a) > "$work/log" 2>&1 || { cat "$work/log" >&2; exit 1; }
+  [ -n "${MEASURE:-}" ] || (cd "$here/crates/measure" && "$here/launch" measure tokens data/a) > "$work/log" 2>&1 || { cat "$work/log" >&2; exit 1; }
 }
 
 # Prints the seconds of the quickest of three runs of a command over an input, and the most kilobytes that a command took so far: measure INPUT COMMAND..

@@ -101,7 +101,7 @@ if folder:
         return "(" + f" {operator} ".join(made(depth - 1) for _ in range(random.choice([2, 2, 3]) if operator in ["+", "^", ".."] else 2)) + ")"
 
     queries = [f"count {made(random.choice([2, 3, 3, 4]))}" for _ in range(2000)]
-    slowest = sorted(((best(run, query)[1], query) for query in queries), reverse=True)
+    slowest = sorted(((ask(run, query)[1] * 1e3, query) for query in queries), reverse=True)
     print(f"2,000 queries that chance made: half of them in {slowest[1000][0]:.2f} ms, all but 20 in {slowest[20][0]:.0f}, the slowest:")
     for milliseconds, query in slowest[:3]:
         print(f"{milliseconds:10.2f} ms  {query}")
