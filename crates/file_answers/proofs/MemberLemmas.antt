@@ -1,7 +1,7 @@
 -- From answer to answer of a file, and from passage to passage.
-use Rattle.std.proofs.Common.{◌≡◌, ℕ, zero, suc, ◌+◌, ◌-◌, ◌*◌, ◌<◌, ◌≤◌, Bool, true, false, leb, List, [], ◌∷◌, ◌++◌, length, take, get_or, refl, sym, ap, ◌∙◌, subst, arith, cond, Option, Some, None, IfSome, inl, inr}
+use Rattle.std.proofs.Common.{◌≡◌, ℕ, zero, suc, ◌+◌, ◌<◌, ◌≤◌, Bool, true, false, leb, List, [], ◌∷◌, length, take, is_some, nat_lt, refl, sym, ap, ◌∙◌, subst, arith, cond, Option, Some, None, IfSome, inl, inr}
 use Rattle.std.specs.List.{AllByRecursion}
-use Rattle.std.proofs.lemmas.Bool.{leb-true, leb-false, cases_Bool}
+use Rattle.std.proofs.lemmas.Bool.{leb-true, leb-false, le-leb, lt-ltb, cases_Bool}
 use Rattle.std.proofs.lemmas.List.{get_or_past}
 use Rattle.gcl_model.specs.Access.{first_start}
 use Rattle.gcl_model.specs.Extents.{Extent}
@@ -12,7 +12,10 @@ use Rattle.gcl_model.specs.Texts.{Text, IsText}
 use Rattle.gcl_model.proofs.Covers.{find_gives, of_each}
 use Rattle.gcl_model.proofs.Meanings.{IsOf, each_of_text, concordance_rises}
 use Rattle.gcl_eval.specs.Members.{members_from}
-use Rattle.gcl_eval.proofs.Listing.{next_member, no_member}
+use Rattle.gcl_eval.proofs.Listing.{all_members, next_member, no_member}
+use Rattle.gcl_readers.specs.Fronts.{start_or_end}
+use Rattle.gcl_readers.specs.Standing.{left_to, start_at}
+use Rattle.gcl_readers.specs.declared.front.Place.{Place as ReaderPlace}
 use Rattle.token_places.specs.Laws.{IsNoEarlier}
 use Rattle.token_places.specs.Places.{Place, file_places, stretch}
 use Rattle.token_places.proofs.OrderLemmas.{file_places_rise}
@@ -146,6 +149,35 @@ pub count-next : (text : Text) (form : Form) (k n m next : ℕ) (a : Extent) →
 count-next text form k n m next a found more onward =
     ap length (taken-next text form k n m a (sym found) more) ∙ ap (λ (j : ℕ). suc (length (take m (members_from (concordance text form) j)))) (sym onward)
 
--- one access more
-pub one_asked : (old now after n most : ℕ) → now ≤ old + n * most → after ≤ now + most → after ≤ old + (n + 1) * most
-one_asked old now after n most le step = omega arith
+-- where members in front of an address were passed, the first one from there on is the same
+first_left : (list : List Extent) (x k : ℕ) → x ≤ k → first_start (members_from list x) k ≡ first_start list k
+first_left [] x k le = refl
+first_left (a ∷ list) x k le = by_test (leb x a.start) refl (first_left list x k le)
+  where
+    by_test : (t : Bool) → leb x a.start ≡ t → first_start (members_from list x) k ≡ first_start list k
+        → first_start (cond t (a ∷ members_from list x) (members_from list x)) k ≡ first_start (a ∷ list) k
+    by_test true e rest = ap (λ (o : Option Extent). cond (leb k a.start) (Some a) o) rest
+    by_test false e rest = elim (cases_Bool (leb k a.start)) [
+      | inl t ↦ absurd (omega (arith, leb-true k a.start t, leb-false x a.start e))
+      | inr f ↦ rest ∙ sym (ap (λ s. cond s (Some a) (first_start list k)) f)
+    ]
+
+-- so readers answer from there as the whole list does
+pub answer-of_all : (text : Text) (form : Form) (readers : List ReaderPlace) (k : ℕ) (o : Option Extent) → start_at readers ≤ k → o ≡ first_start (left_to text form readers) k → o ≡ first_start (concordance text form) k
+answer-of_all text form readers k o behind is = is ∙ first_left (concordance text form) (start_at readers) k behind
+
+pub start-of_some : (n : ℕ) (o : Option Extent) → n ≤ start_or_end o → IfSome o (λ a. n ≤ a.start)
+start-of_some n None le = tt
+start-of_some n (Some a) le = le
+
+-- and those that stand before all members have all of them
+pub all-left : (text : Text) (form : Form) (readers : List ReaderPlace) → start_at readers ≡ 0 → members_from (left_to text form readers) 0 ≡ concordance text form
+all-left text form readers new =
+    all_members (left_to text form readers) ∙ ap (members_from (concordance text form)) new ∙ all_members (concordance text form)
+
+-- there is a first member where the list has one
+pub some-first : (list : List Extent) (most : ℕ) (o : Option Extent) → o ≡ first_start list 0 → 0 < most → is_some o ≡ nat_lt 0 (length (take most list))
+some-first list zero o is more = absurd (omega (arith, more))
+some-first [] (suc m) o is more = ap is_some is
+some-first (a ∷ list) (suc m) o is more =
+    ap is_some (is ∙ ap (λ t. cond t (Some a) (first_start list 0)) (le-leb 0 a.start (omega arith))) ∙ sym (lt-ltb 0 (suc (length (take m list))) (omega arith))

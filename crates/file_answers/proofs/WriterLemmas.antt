@@ -1,12 +1,12 @@
 -- A passage that is written a piece at a time.
-use Rattle.std.proofs.Common.{◌≡◌, ℕ, Bool, true, false, List, [], ◌∷◌, ◌++◌, refl, sym, ap, ◌∙◌, subst, append_assoc, cond, Option}
+use Rattle.std.proofs.Common.{◌≡◌, ℕ, Bool, true, false, List, [], ◌++◌, refl, sym, ap, ◌∙◌, subst, append_assoc, cond, Option}
 use Rattle.passages.specs.Lines.{lines_at, lines_met}
 use Rattle.passages.specs.Texts.{text_of_met}
 use Rattle.passages.specs.declared.passage.Passage.{Passage}
 use Rattle.passages.specs.declared.shown.Shown.{Shown}
 use Rattle.passages.specs.declared.cursors.LineCursor.{LineCursor}
-use Rattle.file_answers.specs.Written.{GetsPart, Moves}
-use Rattle.file_answers.proofs.WrittenLemmas.{moves-as, moves-on}
+use Rattle.file_answers.specs.Written.{Moves}
+use Rattle.file_answers.proofs.WrittenLemmas.{moves-as}
 
 -- what is still to come of these passages from a cursor on
 abbrev pub to_come : Shown → List ℕ → List Passage → LineCursor → List ℕ

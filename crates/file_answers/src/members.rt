@@ -1,19 +1,20 @@
 ghost use Rattle.std.specs.Prelude.{◌≡◌, ◌+◌, ◌*◌, ◌<◌, ◌≤◌, ◌++◌, [], length, take, IfOk, IfSome, OnOk};
 ghost use Rattle.outside.specs.Causes.{CountsWriteFault};
 ghost use Rattle.gcl_model.specs.Access.{first_start};
-ghost use Rattle.gcl_model.specs.Cost.{cost};
 ghost use Rattle.gcl_model.specs.FormOf.{form_of};
 ghost use Rattle.gcl_model.specs.Limits.{far};
 ghost use Rattle.gcl_model.specs.Meaning.{concordance};
 ghost use Rattle.gcl_model.specs.WellFormed.{IsWellFormed};
+ghost use Rattle.gcl_readers.specs.MergeCost.{cost_left, merge_cost};
+ghost use Rattle.gcl_readers.specs.Standing.{Stands, start_at};
 ghost use Rattle.file_answers.specs.Searched.{passages_of};
 ghost use Rattle.file_answers.specs.Written.{GetsPart, Moves};
 
 use crate::member_places::MemberPlaces;
 use crate::mode::Mode;
 use crate::writer::PassageWriter;
-use gcl_eval::first_start;
 use gcl_model::{Expr, Interval, Leaves, Ledger, Steps};
+use gcl_readers::Readers;
 use outside::{Sink, WriteError};
 
 /// What is asked of a file: an expression, how many of its answers count at most, and what is written of them.
@@ -24,8 +25,9 @@ pub struct Asking<'a> {
     pub mode: Mode,
 }
 
-/// The first member that starts at or after an address.
+/// The first member that starts at or after an address, by readers that passed none from there on.
 pub fn next_member<L: Leaves, S: Ledger>(
+    readers: &mut Readers,
     expr: &Expr,
     leaves: &L,
     from: u64,
@@ -33,15 +35,19 @@ pub fn next_member<L: Leaves, S: Ledger>(
 ) -> Option<Interval>
     requires well_formed { IsWellFormed (form_of expr.now) }
     requires below { from < far }
+    requires stands { Stands (L.text leaves.now) (form_of expr.now) readers.old }
+    requires behind { start_at readers.old ≤ from }
     ensures answer { result ≡ first_start (concordance (L.text leaves.now) (form_of expr.now)) from }
     ensures below { IfSome result (λ a. a.start + 1 < far) }
     ensures ordered { IfSome result (λ a. a.start ≤ a.end) }
-    ensures counted { steps.old ≤ steps.new }
-    ensures cost { steps.new ≤ steps.old + cost (L.text leaves.now) (L.most leaves.now) (form_of expr.now) }
+    ensures stands { Stands (L.text leaves.now) (form_of expr.now) readers.new }
+    ensures behind { IfSome result (λ a. start_at readers.new ≤ a.start) }
+    ensures cost { steps.new + cost_left (L.text leaves.now) (L.most leaves.now) (form_of expr.now) readers.new
+        ≤ steps.old + cost_left (L.text leaves.now) (L.most leaves.now) (form_of expr.now) readers.old }
 {
     // the span tells that addresses end
     let _span = leaves.span();
-    first_start(expr, leaves, from, steps)
+    readers.next(expr, leaves, from, steps)
 }
 
 /// Puts the text of the first answers, and says how many there are. Memory is that of the file and a piece, however many they are.
@@ -63,16 +69,16 @@ pub fn put_answers<L: Leaves, S: Ledger, W: PassageWriter, K: Sink>(
     ensures part { GetsPart (K.written sink.old) (K.written sink.new)
         (out.old.items ++ W.text writer.old (passages_of bytes.now (take asking.now.most (concordance (L.text leaves.now) (form_of asking.now.expr.now))))) }
     ensures count { IfOk result (λ n. n ≡ length (take asking.now.most (concordance (L.text leaves.now) (form_of asking.now.expr.now)))) }
-    ensures cost { steps.new ≤ steps.old + (length (take asking.now.most (concordance (L.text leaves.now) (form_of asking.now.expr.now))) + 1)
-        * cost (L.text leaves.now) (L.most leaves.now) (form_of asking.now.expr.now) }
+    ensures cost { steps.new ≤ steps.old + merge_cost (L.text leaves.now) (L.most leaves.now) (form_of asking.now.expr.now) }
     ensures counts { CountsWriteFault (K.faults sink.old) (K.faults sink.new) result }
 {
+    let mut readers = Readers::new(*out.allocator(), asking.expr)?;
     let mut places = MemberPlaces::new(bytes);
     let most = asking.most;
     let mut put = 0;
     let mut from = 0;
     while put < most {
-        let Some(member) = next_member(asking.expr, leaves, from, steps) else {
+        let Some(member) = next_member(&mut readers, asking.expr, leaves, from, steps) else {
             return Ok(put);
         };
         writer.put(sink, out, places.passage_of(member))?;

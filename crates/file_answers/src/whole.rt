@@ -1,10 +1,10 @@
 ghost use Rattle.std.specs.Prelude.{◌≡◌, ◌+◌, ◌*◌, ◌≤◌, ◌++◌, [], length, nat_lt, take, IfOk, OnOk};
 ghost use Rattle.std.specs.Io.KnownBytes.{Appends};
 ghost use Rattle.outside.specs.Causes.{CountsWriteFault};
-ghost use Rattle.gcl_model.specs.Cost.{cost};
 ghost use Rattle.gcl_model.specs.FormOf.{form_of};
 ghost use Rattle.gcl_model.specs.Meaning.{concordance};
 ghost use Rattle.gcl_model.specs.WellFormed.{IsWellFormed};
+ghost use Rattle.gcl_readers.specs.MergeCost.{merge_cost};
 ghost use Rattle.passages.specs.Texts.{count_text, name_text};
 ghost use Rattle.file_answers.specs.Outputs.{output_of, where_some};
 ghost use Rattle.file_answers.specs.Searched.{passages_of};
@@ -16,10 +16,11 @@ use crate::members::{Asking, next_member, put_answers};
 use crate::mode::Mode;
 use crate::part_writer::PartWriter;
 use crate::writer::PassageWriter;
-use gcl_eval::count;
 use gcl_model::{Bytes, Leaves, Ledger, Steps};
+use gcl_readers::{Readers, read_count};
 use outside::{Sink, WriteError};
 use passages::{Shown, put_count, put_name};
+use std::alloc::{AllocError, Global};
 
 /// A file's name, and what of it stands in front of each line.
 #[derive(Drop)]
@@ -61,13 +62,29 @@ fn write_passages<L: Leaves, S: Ledger, W: PassageWriter + Drop, K: Sink>(
         (W.text writer (passages_of bytes.now (take asking.now.most (concordance (L.text leaves.now) (form_of asking.now.expr.now))))) }
     ensures some { IfOk result (λ some. some ≡ nat_lt 0 (length (take asking.now.most (concordance (L.text leaves.now) (form_of asking.now.expr.now))))) }
     ensures empty { OnOk result (out.new.items ≡ []) }
-    ensures cost { steps.new ≤ steps.old + (length (concordance (L.text leaves.now) (form_of asking.now.expr.now)) + 1)
-        * cost (L.text leaves.now) (L.most leaves.now) (form_of asking.now.expr.now) }
+    ensures cost { steps.new ≤ steps.old + merge_cost (L.text leaves.now) (L.most leaves.now) (form_of asking.now.expr.now) }
     ensures counts { CountsWriteFault (K.faults sink.old) (K.faults sink.new) result }
 {
     let count = put_answers(sink, out, leaves, steps, asking, bytes, &mut writer)?;
     finish(sink, out)?;
     Ok(count > 0)
+}
+
+/// How many answers count. `Err` is out of memory.
+fn answer_count<L: Leaves, S: Ledger>(
+    alloc: Global,
+    leaves: &L,
+    steps: &mut Steps<S>,
+    asking: &Asking<'_>,
+) -> Result<u64, AllocError>
+    requires well_formed { IsWellFormed (form_of asking.now.expr.now) }
+    ensures value { IfOk result (λ count.
+        count ≡ length (take asking.now.most (concordance (L.text leaves.now) (form_of asking.now.expr.now)))) }
+    ensures cost { steps.new ≤ steps.old + merge_cost (L.text leaves.now) (L.most leaves.now) (form_of asking.now.expr.now) }
+{
+    let mut readers = Readers::new(alloc, asking.expr)?;
+    let count = read_count(&mut readers, asking.expr, leaves, 0, steps);
+    Ok(count.min(asking.most))
 }
 
 /// Writes how many answers there are, and says whether there is one.
@@ -87,24 +104,32 @@ fn write_count<L: Leaves, S: Ledger, K: Sink>(
         (count_text shown.now (length (take asking.now.most (concordance (L.text leaves.now) (form_of asking.now.expr.now))))) }
     ensures some { IfOk result (λ some. some ≡ nat_lt 0 (length (take asking.now.most (concordance (L.text leaves.now) (form_of asking.now.expr.now))))) }
     ensures empty { OnOk result (out.new.items ≡ []) }
-    ensures cost { steps.new ≤ steps.old + (length (concordance (L.text leaves.now) (form_of asking.now.expr.now)) + 1)
-        * cost (L.text leaves.now) (L.most leaves.now) (form_of asking.now.expr.now) }
+    ensures cost { steps.new ≤ steps.old + merge_cost (L.text leaves.now) (L.most leaves.now) (form_of asking.now.expr.now) }
     ensures counts { CountsWriteFault (K.faults sink.old) (K.faults sink.new) result }
 {
-    let count = count(asking.expr, leaves, steps).min(asking.most);
+    let count = answer_count(*out.allocator(), leaves, steps, asking)?;
     put_count(out, shown, count)?;
     finish(sink, out)?;
     Ok(count > 0)
 }
 
-/// Whether there is an answer.
-fn has_answer<L: Leaves, S: Ledger>(leaves: &L, steps: &mut Steps<S>, asking: &Asking<'_>) -> bool
+/// Whether there is an answer. `Err` is out of memory.
+fn has_answer<L: Leaves, S: Ledger>(
+    alloc: Global,
+    leaves: &L,
+    steps: &mut Steps<S>,
+    asking: &Asking<'_>,
+) -> Result<bool, AllocError>
     requires well_formed { IsWellFormed (form_of asking.now.expr.now) }
-    ensures some { result ≡ nat_lt 0 (length (take asking.now.most (concordance (L.text leaves.now) (form_of asking.now.expr.now)))) }
-    ensures cost { steps.new ≤ steps.old + (length (concordance (L.text leaves.now) (form_of asking.now.expr.now)) + 1)
-        * cost (L.text leaves.now) (L.most leaves.now) (form_of asking.now.expr.now) }
+    ensures some { IfOk result (λ some. some ≡ nat_lt 0 (length (take asking.now.most (concordance (L.text leaves.now) (form_of asking.now.expr.now))))) }
+    ensures cost { steps.new ≤ steps.old + merge_cost (L.text leaves.now) (L.most leaves.now) (form_of asking.now.expr.now) }
 {
-    asking.most > 0 && next_member(asking.expr, leaves, 0, steps).is_some()
+    if asking.most == 0 {
+        return Ok(false);
+    }
+    let mut readers = Readers::new(alloc, asking.expr)?;
+    let answer = next_member(&mut readers, asking.expr, leaves, 0, steps);
+    Ok(answer.is_some())
 }
 
 /// Writes the file's name, where there is an answer.
@@ -124,11 +149,10 @@ fn write_name<L: Leaves, S: Ledger, K: Sink>(
         (where_some (take asking.now.most (concordance (L.text leaves.now) (form_of asking.now.expr.now))) (name_text name.now)) }
     ensures some { IfOk result (λ some. some ≡ nat_lt 0 (length (take asking.now.most (concordance (L.text leaves.now) (form_of asking.now.expr.now))))) }
     ensures empty { OnOk result (out.new.items ≡ []) }
-    ensures cost { steps.new ≤ steps.old + (length (concordance (L.text leaves.now) (form_of asking.now.expr.now)) + 1)
-        * cost (L.text leaves.now) (L.most leaves.now) (form_of asking.now.expr.now) }
+    ensures cost { steps.new ≤ steps.old + merge_cost (L.text leaves.now) (L.most leaves.now) (form_of asking.now.expr.now) }
     ensures counts { CountsWriteFault (K.faults sink.old) (K.faults sink.new) result }
 {
-    if !has_answer(leaves, steps, asking) {
+    if !has_answer(*out.allocator(), leaves, steps, asking)? {
         return Ok(false);
     }
     put_name(out, name)?;
@@ -154,8 +178,7 @@ pub fn write_file<L: Leaves, S: Ledger, K: Sink>(
         (output_of asking.now.mode label.now.shown label.now.name bytes.now (take asking.now.most (concordance (L.text leaves.now) (form_of asking.now.expr.now)))) }
     ensures some { IfOk result (λ some. some ≡ nat_lt 0 (length (take asking.now.most (concordance (L.text leaves.now) (form_of asking.now.expr.now))))) }
     ensures empty { OnOk result (out.new.items ≡ []) }
-    ensures cost { steps.new ≤ steps.old + (length (concordance (L.text leaves.now) (form_of asking.now.expr.now)) + 1)
-        * cost (L.text leaves.now) (L.most leaves.now) (form_of asking.now.expr.now) }
+    ensures cost { steps.new ≤ steps.old + merge_cost (L.text leaves.now) (L.most leaves.now) (form_of asking.now.expr.now) }
     ensures counts { CountsWriteFault (K.faults sink.old) (K.faults sink.new) result }
 {
     match asking.mode {
@@ -169,6 +192,6 @@ pub fn write_file<L: Leaves, S: Ledger, K: Sink>(
         }
         Mode::Count => write_count(sink, out, leaves, steps, asking, &label.shown),
         Mode::Names => write_name(sink, out, leaves, steps, asking, label.name.as_slice()),
-        Mode::Quiet => Ok(has_answer(leaves, steps, asking)),
+        Mode::Quiet => Ok(has_answer(*out.allocator(), leaves, steps, asking)?),
     }
 }

@@ -1,19 +1,18 @@
 -- One definition after another, and the lines of a file of them.
-use Rattle.std.proofs.Common.{◌≡◌, ◌∙◌, ◌∷◌, ◌++◌, ◌&&◌, ◌<◌, ◌+◌, ℕ, Bool, true, false, not, List, [], length, drop, get_or, Option, Some, None, Result, Ok, Err, refl, sym, ap, subst, cond}
-use Rattle.std.specs.Prelude.{filter, map, if◌then◌else◌}
+use Rattle.std.proofs.Common.{◌≡◌, ◌∙◌, ◌∷◌, ◌&&◌, ◌<◌, ◌+◌, ℕ, true, false, not, List, length, drop, get_or, Some, None, Result, Ok, Err, refl, ap}
+use Rattle.std.specs.Prelude.{filter, map}
 use Rattle.std.specs.List.{list_all, slice_range}
 use Rattle.std.proofs.lemmas.List.{at_drop_more}
-use Rattle.gcl_parser.specs.Refusal.{refused}
 use Rattle.script_lang.specs.Lines.{Line, line_of_cut, lines}
 use Rattle.script_lang.specs.declared.line_cut.LineCut.{LineCut}
 use Rattle.query_names.specs.Names.{Defined}
-use Rattle.query_names.specs.PutIn.{most_query, put_in}
-use Rattle.query_names.specs.Defining.{Defines, HasDefineCause, IsQueryText}
+use Rattle.query_names.specs.PutIn.{most_query}
+use Rattle.query_names.specs.Defining.{Defines, HasDefineCause}
 use Rattle.query_names.specs.declared.fault.DefineFault.{DefineFault}
 use Rattle.query_names.specs.declared.fault.DefineFault.TheVariants.{Name as FaultName, Query as FaultQuery, NoMemory as FaultNoMemory}
-use Rattle.grep_run.specs.Definitions.{IsStopOf, are_short, defined_by, defined_by_all, defined_with, define_next, definition_lines, parts_of, says_something, stop_of}
+use Rattle.grep_run.specs.Definitions.{IsStopOf, are_short, defined_by, defined_by_all, define_next, definition_lines, parts_of, says_something, stop_of}
 use Rattle.grep_run.specs.declared.defining.DefineRefusal.{DefineRefusal}
-use Rattle.grep_run.specs.declared.defining.DefineRefusal.TheVariants.{NoName, Name, Query}
+use Rattle.grep_run.specs.declared.defining.DefineRefusal.TheVariants.{NoName}
 use Rattle.grep_run.specs.declared.defining.DefineStop.{DefineStop}
 use Rattle.grep_run.specs.declared.defining.DefineStop.TheVariants.{Refused, NoMemory}
 

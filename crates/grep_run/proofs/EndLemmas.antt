@@ -1,11 +1,11 @@
 -- How a search ends.
-use Rattle.std.proofs.Common.{◌≡◌, ℕ, List, Option, None, Some, Result, Ok, Err, refl, sym, ap, ◌∙◌, subst, ◌⊎◌, inl, inr}
+use Rattle.std.proofs.Common.{◌≡◌, ℕ, List, Option, Some, Ok, sym, ap, subst}
 use Rattle.outside.specs.Contents.{Contents}
 use Rattle.gcl_model.specs.Forms.{Form}
 use Rattle.gcl_parser.specs.QueryForm.{query_form}
 use Rattle.query_names.specs.Names.{Defined}
 use Rattle.query_names.specs.PutIn.{put_in}
-use Rattle.grep_run.specs.Searches.{Ends, FilesEnd, IsBegun, IsSearched, TextEnds, form_asked, form_of_text, request_with}
+use Rattle.grep_run.specs.Searches.{Ends, FilesEnd, IsBegun, IsSearched, TextEnds, form_of_text, request_with}
 use Rattle.grep_run.specs.declared.asked.Asked.{Asked}
 use Rattle.grep_run.specs.declared.status.Status.{Status}
 use Rattle.grep_run.specs.declared.status.Status.TheVariants.{Found, NotFound, LeftOut, BadName, BadQuery, WriteFault, NoMemory}

@@ -1,7 +1,5 @@
 -- One file, searched by the words that the query names.
-use Rattle.std.proofs.Common.{◌≡◌, ℕ, ◌+◌, ◌*◌, ◌≤◌, Bool, List, length, take, ap, ◌∙◌, sym, subst, Result, Ok, Err, OnErr, Option}
-use Rattle.gcl_model.specs.Cost.{cost}
-use Rattle.gcl_model.specs.Extents.{Extent}
+use Rattle.std.proofs.Common.{◌≡◌, ℕ, List, take, ap, ◌∙◌, Result, Ok, Err, OnErr}
 use Rattle.gcl_model.specs.Forms.{Form}
 use Rattle.gcl_model.specs.Meaning.{concordance}
 use Rattle.gcl_model.specs.Texts.{Text}
@@ -12,7 +10,9 @@ use Rattle.file_answers.specs.Outputs.{output_of}
 use Rattle.grep_run.specs.Requests.{Request, file_output, shown_name, shown_of}
 use Rattle.text_search.specs.Names.{query_text}
 use Rattle.wide_terms.specs.Expansion.{expansion}
-use Rattle.text_search.proofs.NameLemmas.{names_decide_the_list, names_decide_the_cost}
+use Rattle.gcl_readers.specs.MergeCost.{merge_cost}
+use Rattle.text_search.proofs.MergeLemmas.{names_decide_the_merge_cost}
+use Rattle.text_search.proofs.NameLemmas.{names_decide_the_list}
 
 -- what an expression became over a file, and the file's words that it names
 pub record IsOver (bytes : List ℕ) (form over : Form) (text : Text) : Type 0 where
@@ -26,10 +26,9 @@ list-is bytes form over text is = ap (λ t. concordance t over) is.text_is ∙ n
 
 -- and so is the bound on look-ups
 pub looked-is : (bytes : List ℕ) (form over : Form) (text : Text) → IsOver bytes form over text →
-    (length (concordance text over) + 1) * cost text 1 over ≡ (length (wide (file_text bytes) form) + 1) * cost (file_text bytes) 1 (expansion (file_text bytes) form)
+    merge_cost text 1 over ≡ merge_cost (file_text bytes) 1 (expansion (file_text bytes) form)
 looked-is bytes form over text is =
-    ap (λ (list : List Extent). (length list + 1) * cost text 1 over) (list-is bytes form over text is)
-    ∙ ap (λ (n : ℕ). (length (wide (file_text bytes) form) + 1) * n) (ap (λ t. cost t 1 over) is.text_is ∙ names_decide_the_cost (file_text bytes) 1 over ∙ ap (cost (file_text bytes) 1) is.form_is)
+    ap (λ t. merge_cost t 1 over) is.text_is ∙ names_decide_the_merge_cost (file_text bytes) 1 over ∙ ap (merge_cost (file_text bytes) 1) is.form_is
 
 pub on_err : {T E : Type 0} (r : Result T E) (P : Type 0) → P → OnErr r P
 on_err (Ok t) P p = tt

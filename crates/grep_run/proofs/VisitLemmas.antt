@@ -1,7 +1,7 @@
 -- One visit after another.
-use Rattle.std.proofs.Common.{◌≡◌, ℕ, zero, suc, ◌+◌, ◌-◌, ◌*◌, ◌^◌, ◌<◌, ◌≤◌, Bool, true, false, List, [], ◌∷◌, ◌++◌, length, take, map, get_or, refl, sym, ap, ◌∙◌, subst, arith, min, length-append, append_assoc, append-nil, zero-add, Option, inl, inr, cond}
-use Rattle.std.specs.Prelude.{◌||◌, flat_map, count_by, sum_by, ◌⊎◌}
-use Rattle.std.specs.List.{AllByRecursion, list_any}
+use Rattle.std.proofs.Common.{◌≡◌, ℕ, ◌+◌, ◌-◌, ◌^◌, ◌<◌, ◌≤◌, Bool, true, false, List, [], ◌∷◌, ◌++◌, length, take, get_or, refl, sym, ap, ◌∙◌, subst, arith, min, length-append, append-nil, zero-add, Option, inl, inr, cond}
+use Rattle.std.specs.Prelude.{◌||◌, count_by, sum_by, ◌⊎◌}
+use Rattle.std.specs.List.{list_any}
 use Rattle.std.specs.Io.KnownBytes.{Appends}
 use Rattle.std.specs.Prelude.{MatchBool}
 use Rattle.std.proofs.KnownBytes.{Appends-nil, Appends-trans}
@@ -12,10 +12,9 @@ use Rattle.std.proofs.lemmas.List.Sums.{sum_by-append}
 use Rattle.gcl_model.proofs.Lists.{all_append}
 use Rattle.file_answers.specs.declared.mode.Mode.TheVariants.{Quiet}
 use Rattle.outside.specs.Contents.{Contents}
-use Rattle.file_answers.specs.Written.{GetsPart}
-use Rattle.file_answers.proofs.WrittenLemmas.{moves-written, moves-as, part-on, part-as}
+use Rattle.file_answers.proofs.WrittenLemmas.{moves-written, part-on, part-as}
 use Rattle.grep_run.specs.Requests.{Request}
-use Rattle.grep_run.specs.Visits.{Fate, Visit, IsFate, AreVisits, IsVisited, IsBegun, AreSearched, AreBegun, finds, leaves_out, text_of_visits, failures, all_look_ups, fate_text, visit_text, is_found, is_left_out, outcome_of, is_failed, look_ups}
+use Rattle.grep_run.specs.Visits.{Fate, Visit, IsFate, AreVisits, IsVisited, IsBegun, AreSearched, AreBegun, finds, leaves_out, text_of_visits, failures, all_look_ups, visit_text, is_found, is_left_out, is_failed, look_ups}
 use Rattle.grep_run.specs.declared.outcome.Outcome.{Outcome}
 use Rattle.grep_run.specs.declared.outcome.Summary.{Summary}
 

@@ -1,11 +1,12 @@
 -- The definitions computed on small files.
-use Rattle.std.specs.Prelude.{◌≡◌, ℕ, List, [], ◌∷◌, ◌++◌, true, false, codes, Some, refl}
+use Rattle.std.specs.Prelude.{◌≡◌, ℕ, List, [], ◌∷◌, ◌++◌, true, codes, Some, refl}
 use Rattle.std.specs.Fmt.{digits}
 use Rattle.gcl_model.specs.Forms.{Form, seq, term, no_forms, more_forms}
 use Rattle.file_answers.specs.declared.mode.Mode.{Mode}
 use Rattle.file_answers.specs.declared.mode.Mode.TheVariants.{Lines, Answers, Count, Names}
 use Rattle.grep_run.specs.Requests.{Request, file_output}
 use Rattle.grep_run.specs.Searches.{form_asked}
+use Rattle.grep_run.specs.Visits.{look_ups, searched}
 
 abbrev request : Mode → ℕ → Form → Request
 request mode most form = record { mode = mode; named = true; numbered = true; most = most; form = form }
@@ -50,3 +51,6 @@ a_file_without_answers_is_not_named = refl
 tags_end_their_passages : file_output (request Answers 9 (term (codes "<br>"))) (codes "t") (codes "four <br/> five") ≡ codes "t:1:<br/>" ++ 10 ∷ []
 unfolding digits
 tags_end_their_passages = refl
+
+all_parts_are_merged : look_ups (request Lines 9 to_be) (searched a) ≡ 18
+all_parts_are_merged = refl

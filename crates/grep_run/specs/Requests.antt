@@ -1,5 +1,5 @@
 -- What is asked of files, and what is written of each.
-use Rattle.std.specs.Prelude.{ℕ, Bool, List, codes, bytes_eq, length, nat_lt, take, Option, None, Some, if◌then◌else◌}
+use Rattle.std.specs.Prelude.{ℕ, Bool, List, codes, bytes_eq, length, nat_lt, take, None, Some, if◌then◌else◌}
 use Rattle.gcl_model.specs.Extents.{Extent}
 use Rattle.gcl_model.specs.Forms.{Form}
 use Rattle.gcl_model.specs.FormOf.{form_of}

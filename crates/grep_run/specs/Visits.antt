@@ -1,11 +1,10 @@
 -- The files that were gone to, in order, and what became of each.
-use Rattle.std.specs.Prelude.{◌≡◌, ℕ, ◌+◌, ◌-◌, ◌*◌, ◌^◌, ◌≤◌, min, Bool, true, false, List, [], length, take, map, flat_map, sum_by, count_by, Option, Some, IfSome, MatchBool, ⊤, ◌⊎◌, if◌then◌else◌}
+use Rattle.std.specs.Prelude.{◌≡◌, ℕ, ◌+◌, ◌-◌, ◌^◌, ◌≤◌, min, Bool, true, false, List, [], length, take, map, flat_map, sum_by, count_by, Option, Some, IfSome, MatchBool, ⊤, ◌⊎◌, if◌then◌else◌}
 use Rattle.std.specs.List.{AllByRecursion, list_any}
 use Rattle.std.specs.Io.KnownBytes.{Appends}
 use Rattle.outside.specs.Contents.{BeginsContent, Contents}
-use Rattle.gcl_model.specs.Cost.{cost}
 use Rattle.gcl_model.specs.Limits.{most_file}
-use Rattle.gcl_model.specs.Wide.{wide}
+use Rattle.gcl_readers.specs.MergeCost.{merge_cost}
 use Rattle.text_search.specs.FileTexts.{file_text}
 use Rattle.wide_terms.specs.Expansion.{expansion}
 use Rattle.file_answers.specs.Written.{GetsPart}
@@ -64,9 +63,10 @@ is_failed (searched bytes) = false
 is_failed too_long = false
 is_failed failed = true
 
--- how many look-ups the search of a file takes at most: those of listing its answers, with each prefix term one of the words that begin so
+-- how many look-ups the search of a file takes at most: those of a merge of the lists of all parts of the query, with each prefix term one of
+-- the words that begin so; of "to".."be" over `to be or not to be` 18
 abbrev pub look_ups : Request → Fate → ℕ
-look_ups r (searched bytes) = (length (wide (file_text bytes) r.form) + 1) * cost (file_text bytes) 1 (expansion (file_text bytes) r.form)
+look_ups r (searched bytes) = merge_cost (file_text bytes) 1 (expansion (file_text bytes) r.form)
 look_ups r too_long = 0
 look_ups r failed = 0
 

@@ -1,5 +1,4 @@
-ghost use Rattle.std.specs.Prelude.{◌≡◌, ◌≤◌, ◌+◌, ◌*◌, length, IfSome};
-ghost use Rattle.gcl_model.specs.Cost.{cost};
+ghost use Rattle.std.specs.Prelude.{◌≡◌, ◌≤◌, length, IfSome};
 ghost use Rattle.gcl_model.specs.FormOf.{form_of};
 ghost use Rattle.gcl_model.specs.Limits.{most_file};
 ghost use Rattle.gcl_model.specs.WellFormed.{IsWellFormed};
@@ -67,7 +66,7 @@ struct TextOf<'a> {
 }
 
 impl Question for TextOf<'_> {
-    ghost use Rattle.std.specs.Prelude.{◌≡◌, ◌≤◌, ◌+◌, ◌*◌, length, IfSome};
+    ghost use Rattle.std.specs.Prelude.{◌≡◌, ◌≤◌, length, IfSome};
     ghost use Rattle.gcl_model.specs.FormOf.{form_of};
     ghost use Rattle.gcl_model.specs.Limits.{most_file};
     ghost use Rattle.gcl_model.specs.WellFormed.{IsWellFormed};

@@ -1,3 +1,4 @@
+pub mod MergeLemmas
 pub mod NameLemmas
 pub mod TableLemmas
 pub mod NameTables

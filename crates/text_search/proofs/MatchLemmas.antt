@@ -1,5 +1,5 @@
 -- The words of a file that begin with a prefix.
-use Rattle.std.proofs.Common.{nat_cmp, Ordering, ◌≡◌, ◌↔◌, ◌⊎◌, ℕ, ◌+◌, ◌<◌, Bool, true, false, cond, List, [], ◌∷◌, ◌++◌, map, length, take, drop, get_or, bytes_eq, inl, inr, refl, sym, ap, ◌∙◌}
+use Rattle.std.proofs.Common.{nat_cmp, ◌≡◌, ◌↔◌, ℕ, ◌+◌, ◌<◌, Bool, true, false, cond, List, [], ◌∷◌, ◌++◌, map, length, take, drop, get_or, inl, inr, refl, sym, ap, ◌∙◌}
 use Rattle.std.proofs.lemmas.Bool.{cases_Bool}
 use Rattle.std.proofs.lemmas.List.{append-nil, append_assoc, take_more, drop_more}
 use Rattle.std.proofs.lemmas.Slice.Eq.{bytes_eq-Decides}
@@ -11,7 +11,7 @@ use Rattle.gcl_model.specs.Texts.{Word}
 use Rattle.gcl_model.specs.Tokens.{tokens_of}
 use Rattle.gcl_model.specs.Wide.{begins_with}
 use Rattle.wide_terms.specs.Vocabulary.{with_token, in_byte_order, matching_words}
-use Rattle.wide_terms.proofs.Tokens.{Has, has_left, has_right, has_parts}
+use Rattle.wide_terms.proofs.Tokens.{has_left, has_right, has_parts}
 use Rattle.wide_terms.proofs.Vocabularies.{order_rises, order_has, has_order, order_is, order_rising, matching_rise, matching-append}
 use Rattle.text_search.specs.FileTexts.{file_text}
 use Rattle.text_search.specs.Matching.{with_match, with_matches}

@@ -124,7 +124,7 @@ names_decide_the_list text form = same_list (names_of form) text form (all_named
 pub names_decide_the_wide_list : NamesDecideTheWideList
 names_decide_the_wide_list bytes form = names_decide_the_list (file_text bytes) (expansion (file_text bytes) form) ∙ expansion_is_wide (file_text bytes) form
 
-fewest_named : (names : List (List ℕ)) (words : List Word) (tokens : List (List ℕ)) → AreNamed names tokens → fewest_places (filter (λ w. is_named names w.token) words) tokens ≡ fewest_places words tokens
+pub fewest_named : (names : List (List ℕ)) (words : List Word) (tokens : List (List ℕ)) → AreNamed names tokens → fewest_places (filter (λ w. is_named names w.token) words) tokens ≡ fewest_places words tokens
 fewest_named names words [] h = refl
 fewest_named names words (token ∷ []) h = ap length (places_named names words token h.0)
 fewest_named names words (token ∷ next ∷ tokens) h =

@@ -6,6 +6,7 @@ use Rattle.gcl_model.specs.Meaning.{concordance}
 use Rattle.gcl_model.specs.Cost.{cost}
 use Rattle.gcl_model.specs.Wide.{wide}
 use Rattle.wide_terms.specs.Expansion.{expansion}
+use Rattle.gcl_readers.specs.MergeCost.{merge_cost}
 use Rattle.text_search.specs.FileTexts.{file_text}
 use Rattle.text_search.specs.Names.{names_of, named_text, query_text}
 
@@ -16,6 +17,10 @@ NamesDecideTheList = (text : Text) (form : Form) → concordance (named_text (na
 -- an access may make as many look-ups as over the whole text
 abbrev pub NamesDecideTheCost : Type 0
 NamesDecideTheCost = (text : Text) (most : ℕ) (form : Form) → cost (named_text (names_of form) text) most form ≡ cost text most form
+
+-- and a merge of the lists of all nodes
+abbrev pub NamesDecideTheMergeCost : Type 0
+NamesDecideTheMergeCost = (text : Text) (most : ℕ) (form : Form) → merge_cost (named_text (names_of form) text) most form ≡ merge_cost text most form
 
 -- with prefix terms: what a file has of the words of the expansion decides the wide list over the whole file
 abbrev pub NamesDecideTheWideList : Type 0

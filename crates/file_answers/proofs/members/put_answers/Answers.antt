@@ -1,14 +1,12 @@
-use Rattle.std.proofs.Common.{◌≡◌, ◌+◌, ◌-◌, ◌*◌, ◌<◌, ◌≤◌, ◌++◌, ◌∷◌, [], suc, length, take, List, ℕ, refl, sym, ap, ◌∙◌, subst, arith, append-nil}
-use Rattle.gcl_model.specs.Cost.{cost}
+use Rattle.std.proofs.Common.{◌≡◌, ◌+◌, ◌-◌, ◌<◌, ◌++◌, ◌∷◌, suc, length, take, List, ℕ, refl, sym, ap, ◌∙◌, arith, append-nil}
 use Rattle.gcl_model.specs.Extents.{Extent}
 use Rattle.gcl_model.specs.FormOf.{form_of}
 use Rattle.gcl_model.specs.Meaning.{concordance}
 use Rattle.gcl_eval.specs.Members.{members_from}
 use Rattle.gcl_eval.proofs.Listing.{all_members, from_le}
-use Rattle.passages.specs.declared.passage.Passage.{Passage}
 use Rattle.file_answers.specs.Searched.{passage_of, passages_of}
-use Rattle.file_answers.proofs.WrittenLemmas.{moves-as, moves-nothing, moves-on, part-on}
-use Rattle.file_answers.proofs.MemberLemmas.{count-next, one_asked, passage-ahead, passage-behind, passage-ordered, passage-within, passages-behind, passages-next, taken-none}
+use Rattle.file_answers.proofs.WrittenLemmas.{moves-as, moves-nothing, moves-on, part-of, part-on}
+use Rattle.file_answers.proofs.MemberLemmas.{count-next, passage-ahead, passage-behind, passage-ordered, passage-within, passages-behind, passages-next, taken-none}
 use Rattle.file_answers.proofs.members.put_answers.Goals as goal
 
 pub loop-put-init : goal.loop-put-init
@@ -28,9 +26,14 @@ loop-put-init g c =
       below = omega arith;
       count = omega (arith, ap length all);
       moves = moves-as w w whole whole whole _ refl (ap (λ l. c.args.out.now.items ++ text (passages_of c.args.bytes.now l)) (sym all)) (moves-nothing w whole);
-      steps = omega arith;
+      stands = c.in_ok-readers.ensures.stands (g.L.Leaves.text c.args.leaves.now);
+      behind = omega (arith, c.in_ok-readers.ensures.left);
+      steps = omega (arith, c.in_ok-readers.ensures.cost (g.L.Leaves.text c.args.leaves.now) (g.L.Leaves.most c.args.leaves.now));
       calm = refl;
     }
+
+pub returns-in_err-readers-clause-part : goal.returns-in_err-readers-clause-part
+returns-in_err-readers-clause-part g c = part-of _ _ _ _ (moves-nothing (g.K.Sink.written c.args.sink.now) _)
 
 pub returns-in_default-clause-moves : goal.returns-in_default-clause-moves
 returns-in_default-clause-moves g c =
@@ -112,6 +115,8 @@ loop-put-preserved g c =
       moves = moves-on (g.K.Sink.written c.args.sink.now) (g.K.Sink.written c.loop-put.sink) (g.K.Sink.written c.put.new.sink) _ (c.loop-put.out.items ++ text (c.passage_of.result ∷ later)) _
           (moves-as (g.K.Sink.written c.args.sink.now) (g.K.Sink.written c.loop-put.sink) _ _ _ _ refl (ap (λ ps. c.loop-put.out.items ++ text ps) left) c.loop-put.invariant.moves)
           (c.in_ok-put.ensures.moves later (passages-behind c.args.bytes.now list (most - (put + 1)) next c.in-Some.member c.passage_of.result is onward));
-      steps = one_asked c.args.steps.now c.loop-put.steps c.next_member.new.steps put (cost words (g.L.Leaves.most c.args.leaves.now) form) c.loop-put.invariant.steps c.in-Some.ensures.cost;
+      stands = c.next_member.ensures.stands;
+      behind = omega (arith, c.in-Some.ensures.behind, onward);
+      steps = omega (arith, c.loop-put.invariant.steps, c.next_member.ensures.cost);
       calm = c.in_ok-put.ensures.counts ∙ c.loop-put.invariant.calm;
     }

@@ -1,9 +1,10 @@
-use Rattle.std.proofs.Common.{◌≡◌, ◌+◌, ◌-◌, ◌*◌, ◌<◌, ◌≤◌, ◌++◌, [], length, take}
-use Rattle.gcl_model.specs.Cost.{cost}
+use Rattle.std.proofs.Common.{◌≡◌, ◌+◌, ◌-◌, ◌<◌, ◌≤◌, ◌++◌, [], length, take}
 use Rattle.gcl_model.specs.FormOf.{form_of}
 use Rattle.gcl_model.specs.Limits.{far}
 use Rattle.gcl_model.specs.Meaning.{concordance}
 use Rattle.gcl_eval.specs.Members.{members_from}
+use Rattle.gcl_readers.specs.MergeCost.{cost_left, merge_cost}
+use Rattle.gcl_readers.specs.Standing.{Stands, start_at}
 use Rattle.file_answers.specs.Searched.{passages_of, place_of}
 use Rattle.file_answers.specs.Written.{Moves}
 use Rattle.file_answers.proofs.members.put_answers.Given as goal
@@ -23,7 +24,9 @@ invariant-loop-put g l =
       moves : Moves (g.K.Sink.written l.initial.sink) (g.K.Sink.written l.sink)
           (l.initial.out.items ++ g.W.PassageWriter.text l.initial.writer (passages_of l.bytes (take l.asking.most list)))
           (l.out.items ++ g.W.PassageWriter.text l.writer (passages_of l.bytes (take (l.asking.most - l.put) (members_from list l.from))));
-      steps : l.steps ≤ l.initial.steps + l.put * cost text (g.L.Leaves.most l.leaves) (form_of l.asking.expr.now);
+      stands : Stands text (form_of l.asking.expr.now) l.readers;
+      behind : start_at l.readers ≤ l.from;
+      steps : l.steps + cost_left text (g.L.Leaves.most l.leaves) (form_of l.asking.expr.now) l.readers ≤ l.initial.steps + merge_cost text (g.L.Leaves.most l.leaves) (form_of l.asking.expr.now);
       calm : g.K.Sink.faults l.sink ≡ g.K.Sink.faults l.initial.sink;
     }
 

@@ -1,4 +1,4 @@
-use Rattle.std.proofs.Common.{◌≡◌, ◌∙◌, ap, sym, List, rules}
+use Rattle.std.proofs.Common.{◌≡◌, ◌∙◌, ap, sym, rules}
 use Rattle.grep_run.specs.Requests.{request_of}
 use Rattle.grep_run.specs.inner.Works.{AreSound}
 use Rattle.grep_run.proofs.AheadLemmas.{all_by_each, sound_after}

@@ -1,4 +1,4 @@
-use Rattle.std.proofs.Common.{◌≡◌, ◌+◌, ℕ, List, Option, refl, sym, ◌∙◌, subst, inr, rules}
+use Rattle.std.proofs.Common.{◌+◌, ℕ, List, Option, refl, sym, ◌∙◌, subst, inr, rules}
 use denote.Enum.Bare.{same_true}
 use Rattle.file_answers.specs.contracts.mode.Mode.{the_type}
 use Rattle.outside.specs.Contents.{Contents}

@@ -1,9 +1,5 @@
-use Rattle.std.proofs.Common.{◌≡◌, ℕ, length}
-use Rattle.std.specs.Prelude.{◌+◌, ◌-◌, ◌^◌, ◌≤◌, min, List}
-use Rattle.std.specs.List.{list_any}
-use Rattle.std.specs.Io.KnownBytes.{Appends}
+use Rattle.std.proofs.Common.{◌≡◌}
 use Rattle.grep_run.specs.Requests.{request_of}
-use Rattle.grep_run.specs.Visits.{Visit, AreVisits}
 use Rattle.grep_run.proofs.VisitLemmas.{SoFar}
 use Rattle.grep_run.proofs.files.search_files.Given as goal
 

@@ -1,5 +1,4 @@
-use Rattle.std.proofs.Common.{◌≡◌, ◌∙◌, ap, subst, sym, Ok, Err}
-use Rattle.grep_run.specs.Definitions.{define_next, defined_by_all}
+use Rattle.grep_run.specs.Definitions.{defined_by_all}
 use Rattle.grep_run.proofs.DefineLemmas.{stops_first}
 use Rattle.grep_run.proofs.running.define_both.Goals as goal
 

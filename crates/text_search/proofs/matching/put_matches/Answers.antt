@@ -1,5 +1,4 @@
-use Rattle.std.proofs.Common.{◌≡◌, map, ap, sym, ◌∙◌}
-use Rattle.gcl_model.specs.Tokens.{tokens_of}
+use Rattle.std.proofs.Common.{map, ap, sym, ◌∙◌}
 use Rattle.token_places.specs.Places.{Placed}
 use Rattle.token_places.proofs.PlaceLemmas.{tokens_have_places}
 use Rattle.text_search.specs.Matching.{with_matches}

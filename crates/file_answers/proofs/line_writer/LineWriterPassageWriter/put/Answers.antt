@@ -1,8 +1,7 @@
-use Rattle.std.proofs.Common.{◌≡◌, List, ◌∷◌, ◌++◌, ◌∙◌, subst, ap, ℕ, rules}
+use Rattle.std.proofs.Common.{◌≡◌, List, ◌∷◌, ◌++◌, ◌∙◌, subst, ap, ℕ}
 use Rattle.passages.specs.Texts.{text_of_met}
 use Rattle.file_answers.proofs.MemberLemmas.{met-none}
 use Rattle.passages.specs.Lines.{lines_at, lines_met}
-use Rattle.passages.specs.declared.passage.Passage.{Passage}
 use Rattle.file_answers.proofs.WrittenLemmas.{moves-on, part-on}
 use Rattle.file_answers.proofs.WriterLemmas.{lines-put, to_come}
 use Rattle.file_answers.proofs.line_writer.LineWriterPassageWriter.put.Goals as goal

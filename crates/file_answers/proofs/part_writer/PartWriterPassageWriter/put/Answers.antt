@@ -1,4 +1,4 @@
-use Rattle.std.proofs.Common.{◌≡◌, List, [], ◌++◌, ◌∙◌, refl, sym, ap, subst, ℕ, Bool, false, cond}
+use Rattle.std.proofs.Common.{[], ◌++◌, ◌∙◌, refl, ap, Bool, cond}
 use Rattle.passages.specs.Texts.{answers_text, parts_at}
 use Rattle.file_answers.proofs.WrittenLemmas.{moves-as, moves-on, part-as, part-on}
 use Rattle.file_answers.proofs.WriterLemmas.{parts-put}

@@ -1,4 +1,4 @@
-use Rattle.std.proofs.Common.{◌≡◌, ℕ, List, [], ◌++◌, length, ◌+◌, ◌-◌, false, cond}
+use Rattle.std.proofs.Common.{◌≡◌, ℕ, List, [], ◌++◌, ◌+◌, ◌-◌, false, cond}
 use Rattle.passages.specs.Order.{IsPartStart}
 use Rattle.passages.specs.Texts.{parts_at}
 use Rattle.file_answers.specs.Written.{Moves}
