@@ -1,4 +1,4 @@
-ghost use Rattle.std.specs.Prelude.{◌≡◌, ◌+◌, ◌*◌, ◌<◌, ◌≤◌, ◌++◌, [], length, take, IfOk, IfSome, OnOk};
+ghost use Rattle.std.specs.Prelude.{◌≡◌, ◌+◌, ◌<◌, ◌≤◌, ◌++◌, [], length, take, IfOk, IfSome, OnOk};
 ghost use Rattle.outside.specs.Causes.{CountsWriteFault};
 ghost use Rattle.gcl_model.specs.Access.{first_start};
 ghost use Rattle.gcl_model.specs.FormOf.{form_of};
