@@ -1,5 +1,5 @@
 -- What is known of a phrase that is one word again and again.
-use Rattle.std.proofs.Common.{◌≡◌, ℕ, ◌<◌, Bool, true, false, List, [], ◌∷◌, Option, Some, None, IfSome, is_some, get_or, set, inl, inr, sym, ap, ◌∙◌, subst}
+use Rattle.std.proofs.Common.{◌≡◌, ℕ, ◌<◌, true, List, [], ◌∷◌, Option, Some, None, IfSome, is_some, get_or, set, inl, inr, sym, ap, ◌∙◌, subst}
 use Rattle.std.proofs.lemmas.Bool.{cases_Bool}
 use Rattle.gcl_model.specs.Limits.{address_end}
 use Rattle.gcl_model.specs.Extents.{Extent}
@@ -9,9 +9,8 @@ use Rattle.gcl_model.specs.Forms.{phrase}
 use Rattle.gcl_model.specs.Meaning.{concordance}
 use Rattle.phrase_walk.specs.Starts.{IsRow, is_one_word}
 use Rattle.phrase_walk.proofs.Members.{found_row}
-use Rattle.gcl_eval.specs.KnownAnswers.{IsAnswer, KnowsRun, right_before, starts_before}
+use Rattle.gcl_eval.specs.KnownAnswers.{KnowsRun, right_before, starts_before}
 use Rattle.gcl_eval.specs.declared.known.Known.{Known}
-use Rattle.gcl_eval.specs.declared.direction.Access.TheVariants.{FirstStart}
 
 -- the row that is known to start right before an address is a row
 pub run_row : (text : Text) (tokens : List (List ℕ)) (last : Option Known) (k : ℕ) (row : Extent) → KnowsRun text tokens last → right_before last k ≡ Some row → IsRow text tokens row

@@ -5,3 +5,4 @@ pub mod Costs
 pub mod Members
 pub mod KnownAnswers
 pub mod TwoWidths
+pub mod Elements

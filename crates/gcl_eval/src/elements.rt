@@ -1,14 +1,15 @@
 //! Elements: intervals from one token to another, such as the tags of a line, which the leaves may have at hand.
 
-ghost use Rattle.std.specs.Prelude.{◌≡◌, ◌+◌, ◌*◌, ◌<◌, ◌≤◌, Some, IfSome, IsNone};
+ghost use Rattle.std.specs.Prelude.{◌≡◌, ◌+◌, ◌*◌, ◌<◌, ◌≤◌, None, Some, IfSome, IsNone};
 ghost use Rattle.gcl_model.specs.Forms.{term, no_forms, more_forms};
-ghost use Rattle.gcl_model.specs.Texts.{IsText};
+ghost use Rattle.gcl_model.specs.Texts.{IsText, next_place};
 ghost use Rattle.gcl_model.specs.Elements.{IsElementUpTo};
-ghost use Rattle.gcl_model.specs.Access.{first_end};
+ghost use Rattle.gcl_model.specs.Access.{first_end, first_start};
 ghost use Rattle.gcl_model.specs.Meaning.{concordance};
 ghost use Rattle.gcl_model.specs.Limits.{address_end};
 ghost use Rattle.gcl_model.specs.FormOf.{form_of};
 ghost use Rattle.gcl_eval.specs.Costs.{cost_in, rounds};
+ghost use Rattle.gcl_eval.specs.Elements.{IsElement, IsOnTheWay, LeadsTo};
 ghost use Rattle.gcl_eval.specs.Directions.{access_of};
 ghost use Rattle.gcl_eval.specs.Operands.{operand_forms, element_form};
 
@@ -111,4 +112,84 @@ fn three_look_ups<C: CountedLeaves>(
     } else {
         None
     }
+}
+
+/// The first element that starts at or after `k`, where it is at hand: its three look-ups are counted then, and none where it is not. None
+/// is also of any other expression.
+pub fn element_at_hand<C: CountedLeaves>(
+    expr: &Expr,
+    source: &C,
+    k: u64,
+    counter: &mut C::Counter,
+) -> Option<Interval>
+    ensures answer { IfSome result (λ a. Some a ≡ first_start (concordance (C.text source.now) (form_of expr.now)) k) }
+    ensures counted { C.count counter.old ≤ C.count counter.new }
+    ensures steps { C.count counter.new ≤ C.count counter.old + 3 * C.most source.now }
+    ensures element { IfSome result (λ _. IsElement (form_of expr.now)) }
+    ensures none { IsNone result → C.count counter.new ≡ C.count counter.old }
+{
+    let _tokens = element_tokens(expr)?;
+    element_access(expr, Access::FirstStart, source, k, counter)
+}
+
+/// An element on the way to the first one that ends at or after `k`, by three look-ups: no element before it ends there. `Some(None)` is
+/// that none ends at `k` or later. None is that these look-ups lead to no element which starts at `from` or later, and is of any other
+/// expression.
+///
+/// With `first` at 1, 2 and 7 and `second` at 4 and 9 it is (7, 9) for 5, from 3 on.
+pub fn element_onward<C: CountedLeaves>(
+    expr: &Expr,
+    source: &C,
+    from: u64,
+    k: u64,
+    counter: &mut C::Counter,
+) -> Option<Option<Interval>>
+    ensures end { IfSome result (λ found. found ≡ None → first_end (concordance (C.text source.now) (form_of expr.now)) k ≡ None) }
+    ensures onward { IfSome result (λ found. IfSome found (IsOnTheWay (concordance (C.text source.now) (form_of expr.now)) from k)) }
+    ensures element { IfSome result (λ _. IsElement (form_of expr.now)) }
+    ensures counted { C.count counter.old ≤ C.count counter.new }
+    ensures steps { C.count counter.new ≤ C.count counter.old + 3 * C.most source.now }
+    ensures few { IsNone result → C.count counter.new ≤ C.count counter.old + 2 * C.most source.now }
+{
+    let (first, second) = element_tokens(expr)?;
+    if let Some(element) = element_access(expr, Access::FirstEnd, source, k, counter) {
+        return Some(Some(element));
+    }
+    onward_by_look_ups(
+        first.as_slice(),
+        second.as_slice(),
+        source,
+        from,
+        k,
+        counter,
+    )
+}
+
+/// The interval from the last `first` before the next `second` that stands at or after `k`, up to the next `second` after that, where it
+/// starts at `from` or later. `Some(None)` is that no `second` stands at `k` or later.
+fn onward_by_look_ups<C: CountedLeaves>(
+    first: &[u8],
+    second: &[u8],
+    source: &C,
+    from: u64,
+    k: u64,
+    counter: &mut C::Counter,
+) -> Option<Option<Interval>>
+    ensures end { IfSome result (λ found. found ≡ None → None ≡ next_place (C.text source.now).words second.now k) }
+    ensures onward { IfSome result (λ found. IfSome found (LeadsTo (C.text source.now).words first.now second.now from k)) }
+    ensures sound { IsText (C.text source.now) }
+    ensures counted { C.count counter.old ≤ C.count counter.new }
+    ensures steps { C.count counter.new ≤ C.count counter.old + 3 * C.most source.now }
+    ensures few { IsNone result → C.count counter.new ≤ C.count counter.old + 2 * C.most source.now }
+{
+    let Some(found) = source.next(second, k, counter) else {
+        return Some(None);
+    };
+    let behind = found.checked_sub(1)?;
+    let start = source.prev(first, behind, counter)?;
+    if start < from {
+        return None;
+    }
+    let end = source.next(second, start + 1, counter)?;
+    Some(Some(Interval::new(start, end)))
 }

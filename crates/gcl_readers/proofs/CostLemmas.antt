@@ -213,8 +213,14 @@ two_costs a b c d whole after old mid new e f le more = omega arith
 more_costs : (a b c d whole after old mid new n m extra : ℕ) → whole ≡ a + b → after ≡ c + d → n ≡ m + extra → mid + c ≤ old + a + extra → new + d ≤ mid + b + m → new + after ≤ old + whole + n
 more_costs a b c d whole after old mid new n m extra e f g le more = omega arith
 
-three_costs : (a b c d h whole after old mid rest new n m extra : ℕ) → whole ≡ a + b → after ≡ h + d → n ≡ m + extra → mid + c ≤ old + a → rest + d ≤ mid + b + m → new + h ≤ rest + c + extra → new + after ≤ old + whole + n
-three_costs a b c d h whole after old mid rest new n m extra e f g le more last = omega arith
+spare_costs : (a b c d whole after old mid new n m extra : ℕ) → whole ≡ a + b → after ≡ c + d → n ≡ m + extra → mid + c ≤ old + a → new + d ≤ mid + b → new + after + extra ≤ old + whole + n
+spare_costs a b c d whole after old mid new n m extra e f g le more = omega arith
+
+tail_costs : (a b c d whole after old mid new n m extra : ℕ) → whole ≡ a + b → after ≡ c + d → n ≡ m + extra → mid + c ≤ old + a → new + d + extra ≤ mid + b + m → new + after + extra ≤ old + whole + n
+tail_costs a b c d whole after old mid new n m extra e f g le more = omega arith
+
+head_costs : (a b c d h whole after old mid rest new n m extra : ℕ) → whole ≡ a + b → after ≡ h + d → n ≡ m + extra → mid + c ≤ old + a → rest + d + extra ≤ mid + b + m → new + h ≤ rest + c + extra → new + after + extra ≤ old + whole + n
+head_costs a b c d h whole after old mid rest new n m extra e f g le more last = omega arith
 
 module _ (text : Text) (most : ℕ) (exprs others : List Expr) (x : Expr) (e : exprs ≡ x ∷ others) (places mine later : List Place) (size : ℕ) (front : mine ≡ take size places) (back : later ≡ drop size places) (s : Stands text (form_of x) mine)
     (mine_after later_after : List Place) (t : Stands text (form_of x) mine_after) (old mid new : ℕ) where
@@ -235,13 +241,32 @@ module _ (text : Text) (most : ℕ) (exprs others : List Expr) (x : Expr) (e : e
       (forms_count (operand_forms exprs) * extra) (forms_count (operand_forms others) * extra) extra
       (costs_split text most exprs others x e places mine later size s front back) (costs_joined text most exprs others x e mine_after later_after t) (count_more exprs others x extra e) le more
 
+  -- the last operand takes nothing besides
+  pub chain_cost_spare : (extra : ℕ) → mid + cost_left text most (form_of x) mine_after ≤ old + cost_left text most (form_of x) mine →
+      new + costs_left text most (operand_forms others) later_after ≤ mid + costs_left text most (operand_forms others) later →
+      new + costs_left text most (operand_forms exprs) (mine_after ++ later_after) + extra ≤ old + costs_left text most (operand_forms exprs) places + forms_count (operand_forms exprs) * extra
+  chain_cost_spare extra le more =
+      spare_costs (cost_left text most (form_of x) mine) (costs_left text most (operand_forms others) later) (cost_left text most (form_of x) mine_after) (costs_left text most (operand_forms others) later_after)
+      (costs_left text most (operand_forms exprs) places) (costs_left text most (operand_forms exprs) (mine_after ++ later_after)) old mid new
+      (forms_count (operand_forms exprs) * extra) (forms_count (operand_forms others) * extra) extra
+      (costs_split text most exprs others x e places mine later size s front back) (costs_joined text most exprs others x e mine_after later_after t) (count_more exprs others x extra e) le more
+
+  pub chain_cost_tail : (extra : ℕ) → mid + cost_left text most (form_of x) mine_after ≤ old + cost_left text most (form_of x) mine →
+      new + costs_left text most (operand_forms others) later_after + extra ≤ mid + costs_left text most (operand_forms others) later + forms_count (operand_forms others) * extra →
+      new + costs_left text most (operand_forms exprs) (mine_after ++ later_after) + extra ≤ old + costs_left text most (operand_forms exprs) places + forms_count (operand_forms exprs) * extra
+  chain_cost_tail extra le more =
+      tail_costs (cost_left text most (form_of x) mine) (costs_left text most (operand_forms others) later) (cost_left text most (form_of x) mine_after) (costs_left text most (operand_forms others) later_after)
+      (costs_left text most (operand_forms exprs) places) (costs_left text most (operand_forms exprs) (mine_after ++ later_after)) old mid new
+      (forms_count (operand_forms exprs) * extra) (forms_count (operand_forms others) * extra) extra
+      (costs_split text most exprs others x e places mine later size s front back) (costs_joined text most exprs others x e mine_after later_after t) (count_more exprs others x extra e) le more
+
   -- the operand once more after the others
   pub chain_cost_back : (extra : ℕ) (between : List Place) (rest : ℕ) → mid + cost_left text most (form_of x) between ≤ old + cost_left text most (form_of x) mine →
-      rest + costs_left text most (operand_forms others) later_after ≤ mid + costs_left text most (operand_forms others) later + forms_count (operand_forms others) * extra →
+      rest + costs_left text most (operand_forms others) later_after + extra ≤ mid + costs_left text most (operand_forms others) later + forms_count (operand_forms others) * extra →
       new + cost_left text most (form_of x) mine_after ≤ rest + cost_left text most (form_of x) between + extra →
-      new + costs_left text most (operand_forms exprs) (mine_after ++ later_after) ≤ old + costs_left text most (operand_forms exprs) places + forms_count (operand_forms exprs) * extra
+      new + costs_left text most (operand_forms exprs) (mine_after ++ later_after) + extra ≤ old + costs_left text most (operand_forms exprs) places + forms_count (operand_forms exprs) * extra
   chain_cost_back extra between rest le more last =
-      three_costs (cost_left text most (form_of x) mine) (costs_left text most (operand_forms others) later) (cost_left text most (form_of x) between) (costs_left text most (operand_forms others) later_after) (cost_left text most (form_of x) mine_after)
+      head_costs (cost_left text most (form_of x) mine) (costs_left text most (operand_forms others) later) (cost_left text most (form_of x) between) (costs_left text most (operand_forms others) later_after) (cost_left text most (form_of x) mine_after)
       (costs_left text most (operand_forms exprs) places) (costs_left text most (operand_forms exprs) (mine_after ++ later_after)) old mid rest new
       (forms_count (operand_forms exprs) * extra) (forms_count (operand_forms others) * extra) extra
       (costs_split text most exprs others x e places mine later size s front back) (costs_joined text most exprs others x e mine_after later_after t) (count_more exprs others x extra e) le more last
@@ -251,6 +276,9 @@ le-add a b c = omega arith
 
 pub more_left : (old new a b extra : ℕ) → new + a ≤ old + b → new + a ≤ old + b + extra
 more_left old new a b extra le = omega arith
+
+pub without : (a b extra : ℕ) → a + extra ≤ b → a ≤ b
+without a b extra le = omega arith
 
 -- finding a member takes what its node does once, or more
 once_or_more : (n m : ℕ) → m ≤ (n + 1) * m

@@ -12,5 +12,6 @@ mod FormRules
 mod NewStands
 mod ListingLemmas
 mod CostLemmas
+mod OnwardLemmas
 mod NewCost
 mod Worked

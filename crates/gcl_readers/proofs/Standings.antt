@@ -196,3 +196,14 @@ start_front (Some a) = refl
 pub member_front : (o : Option Extent) → member_of (front_at o) ≡ o
 member_front None = refl
 member_front (Some a) = refl
+
+-- where the first member that is left is known, what is left starts there
+pub moved_on : (front : Front) (o : Option Extent) → member_of front ≡ o → start_left front ≤ start_or_end o
+moved_on Before None is = omega arith
+moved_on Before (Some a) is = absurd cc
+moved_on (On b) None is = absurd cc
+moved_on (On b) (Some a) is = let same : b ≡ a = cc in let starts = ap (λ (x : Extent). x.start) same in omega (arith, starts)
+moved_on (Between b next) None is = absurd cc
+moved_on (Between b next) (Some a) is = let same : b ≡ a = cc in let starts = ap (λ (x : Extent). x.start) same in omega (arith, starts)
+moved_on End None is = omega arith
+moved_on End (Some a) is = absurd cc

@@ -5,19 +5,22 @@ ghost use Rattle.gcl_model.specs.Limits.{address_end, far};
 ghost use Rattle.gcl_model.specs.Access.{first_start};
 ghost use Rattle.gcl_model.specs.Texts.{IsText};
 ghost use Rattle.gcl_model.specs.Forms.{both, seq, forms_count};
+ghost use Rattle.gcl_model.specs.FormOf.{form_of};
 ghost use Rattle.gcl_model.specs.Meaning.{concordance};
-ghost use Rattle.gcl_model.specs.WellFormed.{AreWellFormed};
+ghost use Rattle.gcl_model.specs.WellFormed.{AreWellFormed, IsWellFormed};
 ghost use Rattle.gcl_combine.specs.Farthest.{end_so_far, start_so_far};
 ghost use Rattle.gcl_combine.specs.Better.{best_forward};
 ghost use Rattle.gcl_eval.specs.Operands.{operand_forms, operand_lists, AreOperands};
 ghost use Rattle.gcl_readers.specs.Fronts.{front_at};
 ghost use Rattle.gcl_readers.specs.Agreement.{AllAnswerFrom, AllAnswerInOrder, all_left, HaveMoved, HaveMovedBack};
-ghost use Rattle.gcl_readers.specs.Standing.{AllStand, Tell, TellsFrom, starts_at};
-ghost use Rattle.gcl_readers.specs.MergeCost.{costs_left};
+ghost use Rattle.gcl_readers.specs.Reading.{GoesOn};
+ghost use Rattle.gcl_readers.specs.Standing.{AllStand, Stands, Tell, TellsFrom, front_of, starts_at};
+ghost use Rattle.gcl_readers.specs.MergeCost.{cost_left, costs_left};
 
-use crate::front::{Place, size_of};
+use crate::front::{Front, Place, front_at, put_front, size_of};
 use crate::reading::{back, start};
 use gcl_combine::{both_forward_end, both_forward_start, one_forward};
+use gcl_eval::element_onward;
 use gcl_model::{CountedLeaves, Expr, Interval};
 use gcl_order::{after, seq_join};
 
@@ -142,7 +145,7 @@ fn both_starts<C: CountedLeaves>(
     both_starts(others, later, source, k, so_far, counter)
 }
 
-/// "Followed by": on from operand to operand, and back from the last one to the first.
+/// "Followed by": on from operand to operand, and back from the last one to the first, which itself is not asked twice.
 #[cycle(reading)]
 pub(crate) fn seq_find<C: CountedLeaves>(
     operands: &[Expr],
@@ -163,7 +166,8 @@ pub(crate) fn seq_find<C: CountedLeaves>(
     ensures len { length places.new ≡ length places.old }
     ensures tells { IfSome result (λ a. AllAnswerInOrder (operand_lists (C.text source.now) operands.now) (starts_at (operand_forms operands.now) places.new) (a.start + 1)) }
     ensures counted { C.count counter.old ≤ C.count counter.new }
-    ensures cost { C.count counter.new + costs_left (C.text source.now) (C.most source.now) (operand_forms operands.now) places.new ≤ C.count counter.old + costs_left (C.text source.now) (C.most source.now) (operand_forms operands.now) places.old + forms_count (operand_forms operands.now) * (2 * C.most source.now) }
+    ensures cost { C.count counter.new + costs_left (C.text source.now) (C.most source.now) (operand_forms operands.now) places.new + 2 * C.most source.now
+        ≤ C.count counter.old + costs_left (C.text source.now) (C.most source.now) (operand_forms operands.now) places.old + forms_count (operand_forms operands.now) * (2 * C.most source.now) }
 {
     let (operand, others) = operands.split_first()?;
     let size = size_of(places);
@@ -175,4 +179,40 @@ pub(crate) fn seq_find<C: CountedLeaves>(
     let tail = seq_find(others, later, source, after(first), counter)?;
     let head = back(operand, mine, source, tail.start - 1, counter)?;
     Some(seq_join(head, tail))
+}
+
+/// From a member of "followed by" that ends before `k` on towards the first one that ends there or later: to an element on the way, and else to
+/// the next member.
+#[cycle(reading)]
+pub(crate) fn seq_onward<C: CountedLeaves>(
+    expr: &Expr,
+    operands: &[Expr],
+    places: &mut [Place],
+    source: &C,
+    member: Interval,
+    k: u64,
+    counter: &mut C::Counter,
+) -> Option<Interval>
+    requires form { form_of expr.now ≡ seq (operand_forms operands.now) }
+    requires well_formed { IsWellFormed (form_of expr.now) }
+    requires below { k < far }
+    requires sound { IsText (C.text source.now) }
+    requires stands { Stands (C.text source.now) (form_of expr.now) places.old }
+    requires on { front_of places.old ≡ Front.On member }
+    requires short { member.end < k }
+    ensures onward { GoesOn (concordance (C.text source.now) (form_of expr.now)) k member result }
+    ensures front { front_of places.new ≡ front_at result }
+    ensures stands { Stands (C.text source.now) (form_of expr.now) places.new }
+    ensures counted { C.count counter.old ≤ C.count counter.new }
+    ensures cost { C.count counter.new + cost_left (C.text source.now) (C.most source.now) (form_of expr.now) places.new
+        ≤ C.count counter.old + cost_left (C.text source.now) (C.most source.now) (form_of expr.now) places.old }
+{
+    if let Some(found) = element_onward(expr, source, member.start + 1, k, counter) {
+        put_front(places, front_at(&found));
+        return found;
+    }
+    let (_, below) = places.split_at_mut(1);
+    let found = seq_find(operands, below, source, member.start + 1, counter);
+    put_front(places, front_at(&found));
+    found
 }

@@ -9,15 +9,17 @@ ghost use Rattle.gcl_model.specs.FormOf.{form_of};
 ghost use Rattle.gcl_model.specs.Meaning.{concordance};
 ghost use Rattle.gcl_model.specs.WellFormed.{IsWellFormed};
 ghost use Rattle.gcl_readers.specs.Fronts.{IsUnknown, front_at, member_of, start_or_end};
+ghost use Rattle.gcl_readers.specs.Reading.{GoesOn};
 ghost use Rattle.gcl_readers.specs.Standing.{Stands, StandBelow, Tell, TellsFrom, IsKept, IsNode, left_to, start_at, front_of};
 ghost use Rattle.gcl_readers.specs.MergeCost.{find_cost, cost_below, cost_left};
 
-use crate::chains::{both_find, one_find, seq_find};
+use crate::chains::{both_find, one_find, seq_find, seq_onward};
 use crate::containments::containment_find;
 use crate::front::{
     Front, Place, front_at, front_between, front_of, member_of, put_front, start_left, told,
 };
 use fixed_width::{width_first_end, width_first_start, width_last_end};
+use gcl_eval::element_at_hand;
 use gcl_model::{Bytes, CountedLeaves, Expr, Interval};
 use phrase_walk::counted_first_start;
 
@@ -74,7 +76,8 @@ fn look<C: CountedLeaves>(
     ensures front { front_of places.new ≡ front_at result }
     ensures stands { Stands (C.text source.now) (form_of expr.now) places.new }
     ensures counted { C.count counter.old ≤ C.count counter.new }
-    ensures cost { C.count counter.new + cost_left (C.text source.now) (C.most source.now) (form_of expr.now) places.new ≤ C.count counter.old + cost_left (C.text source.now) (C.most source.now) (form_of expr.now) places.old }
+    ensures cost { C.count counter.new + cost_left (C.text source.now) (C.most source.now) (form_of expr.now) places.new
+        ≤ C.count counter.old + cost_left (C.text source.now) (C.most source.now) (form_of expr.now) places.old }
 {
     let (_, below) = places.split_at_mut(1);
     let found = find(expr, below, source, k, counter);
@@ -105,6 +108,9 @@ fn find<C: CountedLeaves>(
     ensures counted { C.count counter.old ≤ C.count counter.new }
     ensures cost { C.count counter.new + cost_below (C.text source.now) (C.most source.now) (form_of expr.now) places.new ≤ C.count counter.old + cost_below (C.text source.now) (C.most source.now) (form_of expr.now) places.old + find_cost (C.text source.now) (C.most source.now) (form_of expr.now) k result }
 {
+    if let Some(element) = element_at_hand(expr, source, k, counter) {
+        return Some(element);
+    }
     match expr {
         Expr::Term(token) => term_find(token, source, k, counter),
         Expr::Phrase(tokens) => counted_first_start(tokens, source, k, counter),
@@ -178,13 +184,47 @@ fn node_end<C: CountedLeaves>(
     ensures within { IfSome result (λ a. a.end < address_end) }
     ensures stands { Stands (C.text source.now) (form_of expr.now) places.new }
     ensures counted { C.count counter.old ≤ C.count counter.new }
-    ensures cost { C.count counter.new + cost_left (C.text source.now) (C.most source.now) (form_of expr.now) places.new ≤ C.count counter.old + cost_left (C.text source.now) (C.most source.now) (form_of expr.now) places.old }
+    ensures cost { C.count counter.new + cost_left (C.text source.now) (C.most source.now) (form_of expr.now) places.new
+        ≤ C.count counter.old + cost_left (C.text source.now) (C.most source.now) (form_of expr.now) places.old }
 {
     let mut member = start(expr, places, source, 0, counter)?;
     while member.end < k {
-        member = start(expr, places, source, member.start + 1, counter)?;
+        member = onward(expr, places, source, member, k, counter)?;
     }
     Some(member)
+}
+
+/// From the first member that is left, which ends before `k`, on towards the first one that ends there or later: to the next member, or past
+/// elements, none of which ends there.
+#[cycle(reading)]
+fn onward<C: CountedLeaves>(
+    expr: &Expr,
+    places: &mut [Place],
+    source: &C,
+    member: Interval,
+    k: u64,
+    counter: &mut C::Counter,
+) -> Option<Interval>
+    requires node { IsNode (form_of expr.now) }
+    requires well_formed { IsWellFormed (form_of expr.now) }
+    requires below { k < far }
+    requires sound { IsText (C.text source.now) }
+    requires stands { Stands (C.text source.now) (form_of expr.now) places.old }
+    requires on { member_of (front_of places.old) ≡ Some member }
+    requires short { member.end < k }
+    ensures onward { GoesOn (concordance (C.text source.now) (form_of expr.now)) k member result }
+    ensures on { member_of (front_of places.new) ≡ result }
+    ensures stands { Stands (C.text source.now) (form_of expr.now) places.new }
+    ensures counted { C.count counter.old ≤ C.count counter.new }
+    ensures cost { C.count counter.new + cost_left (C.text source.now) (C.most source.now) (form_of expr.now) places.new
+        ≤ C.count counter.old + cost_left (C.text source.now) (C.most source.now) (form_of expr.now) places.old }
+{
+    match (expr, front_of(places)) {
+        (Expr::Seq(operands), Front::On(_)) => {
+            seq_onward(expr, operands, places, source, member, k, counter)
+        }
+        _ => start(expr, places, source, member.start + 1, counter),
+    }
 }
 
 /// The last member that is left and ends at or before `k`.
@@ -256,7 +296,8 @@ fn node_back<C: CountedLeaves>(
     ensures within { IfSome result (λ a. a.end < address_end) }
     ensures stands { Stands (C.text source.now) (form_of expr.now) places.new }
     ensures counted { C.count counter.old ≤ C.count counter.new }
-    ensures cost { C.count counter.new + cost_left (C.text source.now) (C.most source.now) (form_of expr.now) places.new ≤ C.count counter.old + cost_left (C.text source.now) (C.most source.now) (form_of expr.now) places.old }
+    ensures cost { C.count counter.new + cost_left (C.text source.now) (C.most source.now) (form_of expr.now) places.new
+        ≤ C.count counter.old + cost_left (C.text source.now) (C.most source.now) (form_of expr.now) places.old }
 {
     let mut member = start(expr, places, source, 0, counter)?;
     if k < member.end {
@@ -291,7 +332,8 @@ fn peek<C: CountedLeaves>(
     ensures front { front_of places.new ≡ Front.Between member result }
     ensures stands { Stands (C.text source.now) (form_of expr.now) places.new }
     ensures counted { C.count counter.old ≤ C.count counter.new }
-    ensures cost { C.count counter.new + cost_left (C.text source.now) (C.most source.now) (form_of expr.now) places.new ≤ C.count counter.old + cost_left (C.text source.now) (C.most source.now) (form_of expr.now) places.old }
+    ensures cost { C.count counter.new + cost_left (C.text source.now) (C.most source.now) (form_of expr.now) places.new
+        ≤ C.count counter.old + cost_left (C.text source.now) (C.most source.now) (form_of expr.now) places.old }
 {
     if let Front::Between(_, next) = front_of(places) {
         return next;

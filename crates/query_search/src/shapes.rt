@@ -7,6 +7,9 @@ use live_version::Version;
 const DEEP: u64 = 4;
 
 // So is "one of" more operands than these.
+const FEW: u64 = 3;
+
+// The places of a prefix term are gathered where its expansion is "one of" more words than these.
 const WIDE: u64 = 16;
 
 /// Whether leaping may ask again and again what it has asked before.
@@ -19,15 +22,15 @@ const WIDE: u64 = 16;
 /// query, of which the last answers are kept. An operand that is far away is looked for each time: of `("to" + "be or be") ^ "not"` a
 /// phrase that never comes, through all words for each `to`. Readers keep the answers, and ask those operands alone that were passed.
 ///
-/// That pays too where "one of" has many operands, as the expansion of a prefix that many words have. It does not where each member has a
-/// rare term: leaping then asks the operands only close to the places of that term, and readers would go through all that they have
-/// between these places.
+/// That pays too where "one of" has more than a few operands, as the expansion of a prefix has. It does not where each member has a rare
+/// term: leaping then asks the operands only close to the places of that term, and readers would go through all that they have between
+/// these.
 pub fn may_search_again(version: &Version, expr: &Expr) -> bool {
     if may_multiply(expr) || asks_anew(expr) {
         return true;
     }
     let shape = shape_of(expr);
-    shape.is_wide && !leaps_well(version, expr, shape.leaves)
+    shape.widest > FEW && !leaps_well(version, expr, shape.leaves)
 }
 
 /// Whether a single access may take longer than a merge of whole lists: it goes through the words for each member that a containment goes
@@ -50,7 +53,7 @@ fn asks_anew(expr: &Expr) -> bool {
 
 /// Whether some "one of" in it has many operands, as the expansion of a prefix that many words have.
 pub fn is_wide(expr: &Expr) -> bool {
-    shape_of(expr).is_wide
+    shape_of(expr).widest > WIDE
 }
 
 #[derive(Clone, Copy)]
@@ -66,8 +69,8 @@ struct Shape {
     asks_anew: bool,
     // Of how many operands it is "one of": those of "one of" among them count in its place, and anything else is one.
     choices: u64,
-    // Whether some "one of" in it has many operands.
-    is_wide: bool,
+    // How many operands a "one of" in it has at the most.
+    widest: u64,
     // How many terms, phrases and widths it has.
     leaves: u64,
 }
@@ -81,7 +84,7 @@ fn together(a: Shape, b: Shape) -> Shape {
         is_far: a.is_far || b.is_far,
         asks_anew: a.asks_anew || b.asks_anew,
         choices: a.choices.saturating_add(b.choices),
-        is_wide: a.is_wide || b.is_wide,
+        widest: a.widest.max(b.widest),
         leaves: a.leaves.saturating_add(b.leaves),
     }
 }
@@ -95,7 +98,7 @@ fn plain(leaves: u64) -> Shape {
         is_far: false,
         asks_anew: false,
         choices: leaves,
-        is_wide: false,
+        widest: 0,
         leaves,
     }
 }
@@ -113,7 +116,7 @@ fn shape_of(expr: &Expr) -> Shape {
             Shape {
                 has_a_chain: all.nesting > 0,
                 asks_anew: all.asks_anew || all.is_far,
-                is_wide: all.is_wide || all.choices > WIDE,
+                widest: all.widest.max(all.choices),
                 ..all
             }
         }

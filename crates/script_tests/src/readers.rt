@@ -217,7 +217,7 @@ fn a_nested_query_over_4000_words_ends(rt: HostRuntime) -> Result<(), Fail> {
 }
 
 /// Queries, and whether readers find their members.
-const WAYS: [(&[u8], bool); 12] = [
+const WAYS: [(&[u8], bool); 15] = [
     (b"\"a\" + \"b c\"", false),
     (b"(\"a\" + \"b c\") ^ \"d\"", true),
     (b"(\"a\" + \"b\") ^ \"d\"", false),
@@ -230,6 +230,9 @@ const WAYS: [(&[u8], bool); 12] = [
     (b"(\"a\" /< \"b\") ^ \"d\"", false),
     (b"(\"a\" < \"b c\") ^ \"d\"", false),
     (b"\"a\" < (\"b\" ^ (\"c\" > \"d\"))", true),
+    (b"\"a\" + \"b\" + \"c\"", false),
+    (b"\"a\" + \"b\" + \"c\" + \"d\"", true),
+    (b"\"d\" > (\"a\" + (\"b\" + (\"c\" + \"e\")))", true),
 ];
 
 /// The number of the first of these that goes another way.

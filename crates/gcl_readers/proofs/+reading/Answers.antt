@@ -1,4 +1,4 @@
-use Rattle.std.proofs.Common.{◌≡◌, ◌+◌, ◌-◌, ◌*◌, ◌<◌, ◌≤◌, ◌++◌, ◌∷◌, length, take, drop, Some, None, refl, ap, sym, ◌∙◌, subst, arith, rules, le_refl}
+use Rattle.std.proofs.Common.{◌≡◌, ◌+◌, ◌-◌, ◌*◌, ◌<◌, ◌≤◌, ◌++◌, ◌∷◌, length, take, drop, Some, None, IfSome, refl, ap, sym, ◌∙◌, subst, arith, rules, le_refl}
 use Rattle.gcl_model.specs.Extents.{Extent}
 use Rattle.gcl_model.specs.Forms.{width, both, one, seq, forms_count}
 use Rattle.gcl_model.specs.FormOf.{form_of}
@@ -13,6 +13,7 @@ use Rattle.gcl_order.specs.Walks.{joined}
 use Rattle.gcl_contain.specs.Kinds.{first_from}
 use Rattle.gcl_eval.specs.Containments.{loop_of}
 use Rattle.gcl_eval.specs.Operands.{operand_forms, operand_lists, AreOperands}
+use Rattle.gcl_eval.specs.Elements.{IsOnTheWay}
 use Rattle.gcl_eval.specs.Members.{members_from}
 use Rattle.gcl_eval.proofs.ChainRules.{back_is_as_far}
 use Rattle.gcl_eval.proofs.ContainForms.{both_operands, contain_kept}
@@ -23,12 +24,13 @@ use Rattle.gcl_readers.specs.Fronts.{IsFrontOf, IsTold, IsUnknown, asked_of, sta
 use Rattle.gcl_readers.specs.Agreement.{AllAnswerOrEnd, AllAnswerInOrder, all_left}
 use Rattle.gcl_readers.specs.Standing.{nodes, Stands, StandBelow, Tell, TellsFrom, front_of, with_front, start_at, starts_at, left_to}
 use Rattle.gcl_readers.specs.MergeCost.{find_cost, cost_below, costs_left, cost_left}
-use Rattle.gcl_readers.proofs.CostLemmas.{told_cost, look_cost, contain_costs, chain_cost, chain_cost_more, chain_cost_back, le-add, more_left, find_by}
+use Rattle.gcl_readers.proofs.CostLemmas.{told_cost, look_cost, contain_costs, chain_cost, chain_cost_more, chain_cost_spare, chain_cost_tail, chain_cost_back, le-add, more_left, find_by, without}
 use Rattle.gcl_readers.proofs.Members.{agrees_at, first_member, first_itself, last_of_left}
 use Rattle.gcl_readers.proofs.Answers.{moved_answers}
-use Rattle.gcl_readers.proofs.Standings.{some_place, restand_below, restand_told, within_text, proper_text, bounded_text, within_left, within_first, within_first_end, within_last, front_with, front_found, start_front, member_front, member_is}
+use Rattle.gcl_readers.proofs.Standings.{some_place, restand, restand_below, restand_told, within_text, proper_text, bounded_text, within_left, within_first, within_first_end, within_last, front_with, front_found, start_front, member_front, member_is, moved_on}
 use Rattle.gcl_readers.proofs.BothLemmas.{both_none, both_some, both_tell}
 use Rattle.gcl_readers.proofs.SeqLemmas.{seq_none, seq_alone, seq_no_tail, seq_joined, tail_after, back_finds, joins_in_order, in_order_alone, in_order_more, no_others, some_others}
+use Rattle.gcl_readers.proofs.OnwardLemmas.{element_tells, front_onward, goes_on_way, goes_to_next, paid, seq_tell, tell_onward, way_cost}
 use Rattle.gcl_readers.proofs.EndLemmas.{first_left, first_found, ends_from_first, ends_none, ends_here, ends_onward, ends_over, backs_from_first, backs_none, backs_before, backs_onward, backs_here, later_found, later_none}
 use Rattle.gcl_readers.proofs.TellLemmas.{tells_from, unknown_from}
 use Rattle.gcl_readers.proofs.ContainRules.{second_asked, second_moved, node_begins, node_begins_none, go_agrees, go_later, contain_split, contain_joined, contain_tell}
@@ -444,8 +446,7 @@ reading::node_end-loop-member-init g t c =
     let first = first_left (concordance (g.C.CountedLeaves.text c.args.source.now) (form_of c.args.expr.now)) (concordance_rises (g.C.CountedLeaves.text c.args.source.now) (form_of c.args.expr.now)) (start_at c.args.places.now) c.in_ok-member.member (sym c.in_ok-member.ensures.answer) in
     record {
       stands = c.start.ensures.stands;
-      at = c.in_ok-member.ensures.moved;
-      found = first_itself (concordance (g.C.CountedLeaves.text c.args.source.now) (form_of c.args.expr.now)) (concordance_rises (g.C.CountedLeaves.text c.args.source.now) (form_of c.args.expr.now)) c.in_ok-member.member first.member;
+      on = c.in_ok-member.ensures.on c.requires.node;
       counted = c.start.ensures.counted;
       cost = c.start.ensures.cost;
       answer = ends_from_first (concordance (g.C.CountedLeaves.text c.args.source.now) (form_of c.args.expr.now)) (concordance_rises (g.C.CountedLeaves.text c.args.source.now) (form_of c.args.expr.now)) (start_at c.args.places.now) c.args.k c.in_ok-member.member first;
@@ -454,56 +455,40 @@ reading::node_end-loop-member-init g t c =
 
 pub reading::node_end-returns-in_err-member-2-clause-answer : goal.reading::node_end-returns-in_err-member-2-clause-answer
 reading::node_end-returns-in_err-member-2-clause-answer g t c =
-    let starts : c.loop-member.member.start ≡ c.member.inside.start = sym (ap (λ (x : Extent). x.start) c.member.view_is) in
-    let ends : c.loop-member.member.end ≡ c.member.inside.end = sym (ap (λ (x : Extent). x.end) c.member.view_is) in
-    let at = c.loop-member.invariant.at in
-    let has = first_member (concordance (g.C.CountedLeaves.text c.args.source.now) (form_of c.args.expr.now)) c.loop-member.member.start c.loop-member.member c.loop-member.invariant.found in
-    let short : c.loop-member.member.end < c.args.k = omega (arith, c.loop-member-test.true) in
-    let none : None ≡ first_start (concordance (g.C.CountedLeaves.text c.args.source.now) (form_of c.args.expr.now)) (c.loop-member.member.start + 1) = subst (λ n. None ≡ first_start (members_from (concordance (g.C.CountedLeaves.text c.args.source.now) (form_of c.args.expr.now)) (start_at c.loop-member.places)) (n + 1)) (sym starts) c.in_err-member-2.ensures.answer ∙ agrees_at (concordance (g.C.CountedLeaves.text c.args.source.now) (form_of c.args.expr.now)) (start_at c.loop-member.places) (c.loop-member.member.start + 1) (omega arith) in
-    let r = sym (ends_over (concordance (g.C.CountedLeaves.text c.args.source.now) (form_of c.args.expr.now)) (concordance_rises (g.C.CountedLeaves.text c.args.source.now) (form_of c.args.expr.now)) c.args.k c.loop-member.member has short (sym none)) ∙ c.loop-member.invariant.answer in
-    search rules
+    c.from_residual-in_err-member-2.ensures ∙ sym c.in_err-member-2.ensures.onward ∙ c.loop-member.invariant.answer
+
+pub reading::node_end-returns-in_err-member-2-clause-moved : goal.reading::node_end-returns-in_err-member-2-clause-moved
+reading::node_end-returns-in_err-member-2-clause-moved g t c =
+    moved_on (front_of c.onward.new.places) c.from_residual-in_err-member-2.result (c.in_err-member-2.ensures.on ∙ sym c.from_residual-in_err-member-2.ensures)
 
 pub reading::node_end-loop-member-smaller : goal.reading::node_end-loop-member-smaller
 reading::node_end-loop-member-smaller g t c =
-    let starts : c.loop-member.member.start ≡ c.member.inside.start = sym (ap (λ (x : Extent). x.start) c.member.view_is) in
-    let ends : c.loop-member.member.end ≡ c.member.inside.end = sym (ap (λ (x : Extent). x.end) c.member.view_is) in
-    let at = c.loop-member.invariant.at in
-    let has = first_member (concordance (g.C.CountedLeaves.text c.args.source.now) (form_of c.args.expr.now)) c.loop-member.member.start c.loop-member.member c.loop-member.invariant.found in
-    let found : Some c.in_ok-member-2.member ≡ first_start (concordance (g.C.CountedLeaves.text c.args.source.now) (form_of c.args.expr.now)) (c.loop-member.member.start + 1) = subst (λ n. Some c.in_ok-member-2.member ≡ first_start (members_from (concordance (g.C.CountedLeaves.text c.args.source.now) (form_of c.args.expr.now)) (start_at c.loop-member.places)) (n + 1)) (sym starts) c.in_ok-member-2.ensures.answer ∙ agrees_at (concordance (g.C.CountedLeaves.text c.args.source.now) (form_of c.args.expr.now)) (start_at c.loop-member.places) (c.loop-member.member.start + 1) (omega arith) in
-    let next = first_found (concordance (g.C.CountedLeaves.text c.args.source.now) (form_of c.args.expr.now)) (concordance_rises (g.C.CountedLeaves.text c.args.source.now) (form_of c.args.expr.now)) (c.loop-member.member.start + 1) c.in_ok-member-2.member (sym found) in
-    let later = next.left in
-    let within = c.in_ok-member-2.ensures.within in
-    let proper = proper_text (g.C.CountedLeaves.text c.args.source.now) (form_of c.args.expr.now) c.in_ok-member-2.member next.member in
-    omega arith
+    let has = first_member (concordance (g.C.CountedLeaves.text c.args.source.now) (form_of c.args.expr.now)) c.loop-member.member.start c.loop-member.member (member_is (concordance (g.C.CountedLeaves.text c.args.source.now) (form_of c.args.expr.now)) (front_of c.loop-member.places) c.loop-member.member c.loop-member.invariant.stands.front c.loop-member.invariant.on) in
+    let proper = proper_text (g.C.CountedLeaves.text c.args.source.now) (form_of c.args.expr.now) c.loop-member.member has in
+    omega (arith, c.in_ok-member-2.ensures.onward.1, c.loop-member.invariant.within, proper)
 
 pub reading::node_end-loop-member-preserved : goal.reading::node_end-loop-member-preserved
 reading::node_end-loop-member-preserved g t c =
-    let starts : c.loop-member.member.start ≡ c.member.inside.start = sym (ap (λ (x : Extent). x.start) c.member.view_is) in
-    let ends : c.loop-member.member.end ≡ c.member.inside.end = sym (ap (λ (x : Extent). x.end) c.member.view_is) in
-    let at = c.loop-member.invariant.at in
-    let has = first_member (concordance (g.C.CountedLeaves.text c.args.source.now) (form_of c.args.expr.now)) c.loop-member.member.start c.loop-member.member c.loop-member.invariant.found in
-    let found : Some c.in_ok-member-2.member ≡ first_start (concordance (g.C.CountedLeaves.text c.args.source.now) (form_of c.args.expr.now)) (c.loop-member.member.start + 1) = subst (λ n. Some c.in_ok-member-2.member ≡ first_start (members_from (concordance (g.C.CountedLeaves.text c.args.source.now) (form_of c.args.expr.now)) (start_at c.loop-member.places)) (n + 1)) (sym starts) c.in_ok-member-2.ensures.answer ∙ agrees_at (concordance (g.C.CountedLeaves.text c.args.source.now) (form_of c.args.expr.now)) (start_at c.loop-member.places) (c.loop-member.member.start + 1) (omega arith) in
-    let next = first_found (concordance (g.C.CountedLeaves.text c.args.source.now) (form_of c.args.expr.now)) (concordance_rises (g.C.CountedLeaves.text c.args.source.now) (form_of c.args.expr.now)) (c.loop-member.member.start + 1) c.in_ok-member-2.member (sym found) in
-    let later = next.left in
-    let short : c.loop-member.member.end < c.args.k = omega (arith, c.loop-member-test.true) in
+    let goes = c.in_ok-member-2.ensures.onward in
     record {
-      stands = c.start-in-loop-member.ensures.stands;
-      at = c.in_ok-member-2.ensures.moved;
-      found = first_itself (concordance (g.C.CountedLeaves.text c.args.source.now) (form_of c.args.expr.now)) (concordance_rises (g.C.CountedLeaves.text c.args.source.now) (form_of c.args.expr.now)) c.in_ok-member-2.member next.member;
-      counted = omega (arith, c.loop-member.invariant.counted, c.start-in-loop-member.ensures.counted);
-      cost = omega (arith, c.loop-member.invariant.cost, c.start-in-loop-member.ensures.cost);
-      answer = ends_onward (concordance (g.C.CountedLeaves.text c.args.source.now) (form_of c.args.expr.now)) (concordance_rises (g.C.CountedLeaves.text c.args.source.now) (form_of c.args.expr.now)) c.args.k c.loop-member.member c.in_ok-member-2.member has short next ∙ c.loop-member.invariant.answer;
-      within = c.in_ok-member-2.ensures.within;
+      stands = c.onward.ensures.stands;
+      on = c.in_ok-member-2.ensures.on;
+      counted = omega (arith, c.loop-member.invariant.counted, c.onward.ensures.counted);
+      cost = omega (arith, c.loop-member.invariant.cost, c.onward.ensures.cost);
+      answer = goes.2 ∙ c.loop-member.invariant.answer;
+      within = within_first (g.C.CountedLeaves.text c.args.source.now) (form_of c.args.expr.now) c.requires.sound c.in_ok-member-2.member.start (Some c.in_ok-member-2.member) (sym goes.0);
     }
 
 pub reading::node_end-returns-clause-answer : goal.reading::node_end-returns-clause-answer
 reading::node_end-returns-clause-answer g t c =
     let starts : c.loop-member.member.start ≡ c.member.inside.start = sym (ap (λ (x : Extent). x.start) c.member.view_is) in
     let ends : c.loop-member.member.end ≡ c.member.inside.end = sym (ap (λ (x : Extent). x.end) c.member.view_is) in
-    let at = c.loop-member.invariant.at in
-    let has = first_member (concordance (g.C.CountedLeaves.text c.args.source.now) (form_of c.args.expr.now)) c.loop-member.member.start c.loop-member.member c.loop-member.invariant.found in
+    let has = first_member (concordance (g.C.CountedLeaves.text c.args.source.now) (form_of c.args.expr.now)) c.loop-member.member.start c.loop-member.member (member_is (concordance (g.C.CountedLeaves.text c.args.source.now) (form_of c.args.expr.now)) (front_of c.loop-member.places) c.loop-member.member c.loop-member.invariant.stands.front c.loop-member.invariant.on) in
     let far : c.args.k ≤ c.loop-member.member.end = omega (arith, c.loop-member-test.false) in
     sym (ends_here (concordance (g.C.CountedLeaves.text c.args.source.now) (form_of c.args.expr.now)) (concordance_rises (g.C.CountedLeaves.text c.args.source.now) (form_of c.args.expr.now)) c.args.k c.loop-member.member has far) ∙ c.loop-member.invariant.answer
+
+pub reading::node_end-returns-clause-moved : goal.reading::node_end-returns-clause-moved
+reading::node_end-returns-clause-moved g t c = moved_on (front_of c.loop-member.places) (Some c.loop-member.member) c.loop-member.invariant.on
 
 pub reading::start-returns-in-Width-clause-answer : goal.reading::start-returns-in-Width-clause-answer
 reading::start-returns-in-Width-clause-answer g t c =
@@ -631,7 +616,7 @@ chains::seq_find-returns-in_err-first-clause-len g t c =
 pub chains::seq_find-returns-in_err-first-clause-cost : goal.chains::seq_find-returns-in_err-first-clause-cost
 chains::seq_find-returns-in_err-first-clause-cost g t c =
     let here = operand_at (g.C.CountedLeaves.text c.args.source.now) c.args.operands.now c.in_ok-operand.others.now c.in_ok-operand.operand.now c.in_ok-operand.ensures.cases.0 c.args.places.now c.split_at_mut-mine.result.0.now c.split_at_mut-mine.result.1.now c.size_of-size.result c.requires.well_formed c.requires.stands c.size_of-size.ensures c.split_at_mut-mine.ensures.front c.split_at_mut-mine.ensures.back in
-    chain_cost_more (g.C.CountedLeaves.text c.args.source.now) (g.C.CountedLeaves.most c.args.source.now) c.args.operands.now c.in_ok-operand.others.now c.in_ok-operand.operand.now c.in_ok-operand.ensures.cases.0 c.args.places.now c.split_at_mut-mine.result.0.now c.split_at_mut-mine.result.1.now c.size_of-size.result c.split_at_mut-mine.ensures.front c.split_at_mut-mine.ensures.back here.stands c.start.new.places c.split_at_mut-mine.result.1.now c.start.ensures.stands (g.C.CountedLeaves.count c.args.counter.now) (g.C.CountedLeaves.count c.start.new.counter) (g.C.CountedLeaves.count c.start.new.counter) (2 * g.C.CountedLeaves.most c.args.source.now) (more_left (g.C.CountedLeaves.count c.args.counter.now) (g.C.CountedLeaves.count c.start.new.counter) (cost_left (g.C.CountedLeaves.text c.args.source.now) (g.C.CountedLeaves.most c.args.source.now) (form_of c.in_ok-operand.operand.now) c.start.new.places) (cost_left (g.C.CountedLeaves.text c.args.source.now) (g.C.CountedLeaves.most c.args.source.now) (form_of c.in_ok-operand.operand.now) c.split_at_mut-mine.result.0.now) (2 * g.C.CountedLeaves.most c.args.source.now) c.start.ensures.cost) (le-add (g.C.CountedLeaves.count c.start.new.counter) (costs_left (g.C.CountedLeaves.text c.args.source.now) (g.C.CountedLeaves.most c.args.source.now) (operand_forms c.in_ok-operand.others.now) c.split_at_mut-mine.result.1.now) (forms_count (operand_forms c.in_ok-operand.others.now) * (2 * g.C.CountedLeaves.most c.args.source.now)))
+    chain_cost_spare (g.C.CountedLeaves.text c.args.source.now) (g.C.CountedLeaves.most c.args.source.now) c.args.operands.now c.in_ok-operand.others.now c.in_ok-operand.operand.now c.in_ok-operand.ensures.cases.0 c.args.places.now c.split_at_mut-mine.result.0.now c.split_at_mut-mine.result.1.now c.size_of-size.result c.split_at_mut-mine.ensures.front c.split_at_mut-mine.ensures.back here.stands c.start.new.places c.split_at_mut-mine.result.1.now c.start.ensures.stands (g.C.CountedLeaves.count c.args.counter.now) (g.C.CountedLeaves.count c.start.new.counter) (g.C.CountedLeaves.count c.start.new.counter) (2 * g.C.CountedLeaves.most c.args.source.now) c.start.ensures.cost (le_refl _)
 
 pub chains::seq_find-returns-then-is_empty-clause-stands : goal.chains::seq_find-returns-then-is_empty-clause-stands
 chains::seq_find-returns-then-is_empty-clause-stands g t c =
@@ -645,7 +630,7 @@ chains::seq_find-returns-then-is_empty-clause-len g t c =
 pub chains::seq_find-returns-then-is_empty-clause-cost : goal.chains::seq_find-returns-then-is_empty-clause-cost
 chains::seq_find-returns-then-is_empty-clause-cost g t c =
     let here = operand_at (g.C.CountedLeaves.text c.args.source.now) c.args.operands.now c.in_ok-operand.others.now c.in_ok-operand.operand.now c.in_ok-operand.ensures.cases.0 c.args.places.now c.split_at_mut-mine.result.0.now c.split_at_mut-mine.result.1.now c.size_of-size.result c.requires.well_formed c.requires.stands c.size_of-size.ensures c.split_at_mut-mine.ensures.front c.split_at_mut-mine.ensures.back in
-    chain_cost_more (g.C.CountedLeaves.text c.args.source.now) (g.C.CountedLeaves.most c.args.source.now) c.args.operands.now c.in_ok-operand.others.now c.in_ok-operand.operand.now c.in_ok-operand.ensures.cases.0 c.args.places.now c.split_at_mut-mine.result.0.now c.split_at_mut-mine.result.1.now c.size_of-size.result c.split_at_mut-mine.ensures.front c.split_at_mut-mine.ensures.back here.stands c.start.new.places c.split_at_mut-mine.result.1.now c.start.ensures.stands (g.C.CountedLeaves.count c.args.counter.now) (g.C.CountedLeaves.count c.start.new.counter) (g.C.CountedLeaves.count c.start.new.counter) (2 * g.C.CountedLeaves.most c.args.source.now) (more_left (g.C.CountedLeaves.count c.args.counter.now) (g.C.CountedLeaves.count c.start.new.counter) (cost_left (g.C.CountedLeaves.text c.args.source.now) (g.C.CountedLeaves.most c.args.source.now) (form_of c.in_ok-operand.operand.now) c.start.new.places) (cost_left (g.C.CountedLeaves.text c.args.source.now) (g.C.CountedLeaves.most c.args.source.now) (form_of c.in_ok-operand.operand.now) c.split_at_mut-mine.result.0.now) (2 * g.C.CountedLeaves.most c.args.source.now) c.start.ensures.cost) (le-add (g.C.CountedLeaves.count c.start.new.counter) (costs_left (g.C.CountedLeaves.text c.args.source.now) (g.C.CountedLeaves.most c.args.source.now) (operand_forms c.in_ok-operand.others.now) c.split_at_mut-mine.result.1.now) (forms_count (operand_forms c.in_ok-operand.others.now) * (2 * g.C.CountedLeaves.most c.args.source.now)))
+    chain_cost_spare (g.C.CountedLeaves.text c.args.source.now) (g.C.CountedLeaves.most c.args.source.now) c.args.operands.now c.in_ok-operand.others.now c.in_ok-operand.operand.now c.in_ok-operand.ensures.cases.0 c.args.places.now c.split_at_mut-mine.result.0.now c.split_at_mut-mine.result.1.now c.size_of-size.result c.split_at_mut-mine.ensures.front c.split_at_mut-mine.ensures.back here.stands c.start.new.places c.split_at_mut-mine.result.1.now c.start.ensures.stands (g.C.CountedLeaves.count c.args.counter.now) (g.C.CountedLeaves.count c.start.new.counter) (g.C.CountedLeaves.count c.start.new.counter) (2 * g.C.CountedLeaves.most c.args.source.now) c.start.ensures.cost (le_refl _)
 
 pub chains::seq_find-returns-in_err-tail-clause-stands : goal.chains::seq_find-returns-in_err-tail-clause-stands
 chains::seq_find-returns-in_err-tail-clause-stands g t c =
@@ -659,7 +644,7 @@ chains::seq_find-returns-in_err-tail-clause-len g t c =
 pub chains::seq_find-returns-in_err-tail-clause-cost : goal.chains::seq_find-returns-in_err-tail-clause-cost
 chains::seq_find-returns-in_err-tail-clause-cost g t c =
     let here = operand_at (g.C.CountedLeaves.text c.args.source.now) c.args.operands.now c.in_ok-operand.others.now c.in_ok-operand.operand.now c.in_ok-operand.ensures.cases.0 c.args.places.now c.split_at_mut-mine.result.0.now c.split_at_mut-mine.result.1.now c.size_of-size.result c.requires.well_formed c.requires.stands c.size_of-size.ensures c.split_at_mut-mine.ensures.front c.split_at_mut-mine.ensures.back in
-    chain_cost_more (g.C.CountedLeaves.text c.args.source.now) (g.C.CountedLeaves.most c.args.source.now) c.args.operands.now c.in_ok-operand.others.now c.in_ok-operand.operand.now c.in_ok-operand.ensures.cases.0 c.args.places.now c.split_at_mut-mine.result.0.now c.split_at_mut-mine.result.1.now c.size_of-size.result c.split_at_mut-mine.ensures.front c.split_at_mut-mine.ensures.back here.stands c.start.new.places c.seq_find.new.places c.start.ensures.stands (g.C.CountedLeaves.count c.args.counter.now) (g.C.CountedLeaves.count c.start.new.counter) (g.C.CountedLeaves.count c.seq_find.new.counter) (2 * g.C.CountedLeaves.most c.args.source.now) (more_left (g.C.CountedLeaves.count c.args.counter.now) (g.C.CountedLeaves.count c.start.new.counter) (cost_left (g.C.CountedLeaves.text c.args.source.now) (g.C.CountedLeaves.most c.args.source.now) (form_of c.in_ok-operand.operand.now) c.start.new.places) (cost_left (g.C.CountedLeaves.text c.args.source.now) (g.C.CountedLeaves.most c.args.source.now) (form_of c.in_ok-operand.operand.now) c.split_at_mut-mine.result.0.now) (2 * g.C.CountedLeaves.most c.args.source.now) c.start.ensures.cost) c.seq_find.ensures.cost
+    chain_cost_tail (g.C.CountedLeaves.text c.args.source.now) (g.C.CountedLeaves.most c.args.source.now) c.args.operands.now c.in_ok-operand.others.now c.in_ok-operand.operand.now c.in_ok-operand.ensures.cases.0 c.args.places.now c.split_at_mut-mine.result.0.now c.split_at_mut-mine.result.1.now c.size_of-size.result c.split_at_mut-mine.ensures.front c.split_at_mut-mine.ensures.back here.stands c.start.new.places c.seq_find.new.places c.start.ensures.stands (g.C.CountedLeaves.count c.args.counter.now) (g.C.CountedLeaves.count c.start.new.counter) (g.C.CountedLeaves.count c.seq_find.new.counter) (2 * g.C.CountedLeaves.most c.args.source.now) c.start.ensures.cost c.seq_find.ensures.cost
 
 pub chains::seq_find-returns-in_err-head-clause-stands : goal.chains::seq_find-returns-in_err-head-clause-stands
 chains::seq_find-returns-in_err-head-clause-stands g t c =
@@ -812,7 +797,8 @@ chains::both_find-returns-clause-len g t c =
 pub reading::find-returns-in-Both-clause-cost : goal.reading::find-returns-in-Both-clause-cost
 reading::find-returns-in-Both-clause-cost g t c =
     let form = form-Both c.args.expr.now c.in-Both.operands c.deref.result.now c.in-Both.is c.deref.ensures.value in
-    find_by (g.C.CountedLeaves.text c.args.source.now) (g.C.CountedLeaves.most c.args.source.now) (form_of c.args.expr.now) (both (operand_forms c.deref.result.now)) form c.args.places.now c.both_find.new.places (g.C.CountedLeaves.count c.args.counter.now) (g.C.CountedLeaves.count c.both_find.new.counter) c.args.k c.both_find.result c.both_find.ensures.cost
+    let same = c.in_default.ensures.none refl in
+    find_by (g.C.CountedLeaves.text c.args.source.now) (g.C.CountedLeaves.most c.args.source.now) (form_of c.args.expr.now) (both (operand_forms c.deref.result.now)) form c.args.places.now c.both_find.new.places (g.C.CountedLeaves.count c.args.counter.now) (g.C.CountedLeaves.count c.both_find.new.counter) c.args.k c.both_find.result (subst (λ n. g.C.CountedLeaves.count c.both_find.new.counter + costs_left (g.C.CountedLeaves.text c.args.source.now) (g.C.CountedLeaves.most c.args.source.now) (operand_forms c.deref.result.now) c.both_find.new.places ≤ n + costs_left (g.C.CountedLeaves.text c.args.source.now) (g.C.CountedLeaves.most c.args.source.now) (operand_forms c.deref.result.now) c.args.places.now + forms_count (operand_forms c.deref.result.now) * (2 * g.C.CountedLeaves.most c.args.source.now)) same c.both_find.ensures.cost)
 
 pub reading::find-returns-in-Both-clause-stands : goal.reading::find-returns-in-Both-clause-stands
 reading::find-returns-in-Both-clause-stands g t c =
@@ -822,7 +808,8 @@ reading::find-returns-in-Both-clause-stands g t c =
 pub reading::find-returns-in-One-clause-cost : goal.reading::find-returns-in-One-clause-cost
 reading::find-returns-in-One-clause-cost g t c =
     let form = form-One c.args.expr.now c.in-One.operands c.deref-in-One.result.now c.in-One.is c.deref-in-One.ensures.value in
-    find_by (g.C.CountedLeaves.text c.args.source.now) (g.C.CountedLeaves.most c.args.source.now) (form_of c.args.expr.now) (one (operand_forms c.deref-in-One.result.now)) form c.args.places.now c.one_find.new.places (g.C.CountedLeaves.count c.args.counter.now) (g.C.CountedLeaves.count c.one_find.new.counter) c.args.k c.one_find.result (more_left (g.C.CountedLeaves.count c.args.counter.now) (g.C.CountedLeaves.count c.one_find.new.counter) (costs_left (g.C.CountedLeaves.text c.args.source.now) (g.C.CountedLeaves.most c.args.source.now) (operand_forms c.deref-in-One.result.now) c.one_find.new.places) (costs_left (g.C.CountedLeaves.text c.args.source.now) (g.C.CountedLeaves.most c.args.source.now) (operand_forms c.deref-in-One.result.now) c.args.places.now) 0 c.one_find.ensures.cost)
+    let same = c.in_default.ensures.none refl in
+    find_by (g.C.CountedLeaves.text c.args.source.now) (g.C.CountedLeaves.most c.args.source.now) (form_of c.args.expr.now) (one (operand_forms c.deref-in-One.result.now)) form c.args.places.now c.one_find.new.places (g.C.CountedLeaves.count c.args.counter.now) (g.C.CountedLeaves.count c.one_find.new.counter) c.args.k c.one_find.result (more_left (g.C.CountedLeaves.count c.args.counter.now) (g.C.CountedLeaves.count c.one_find.new.counter) (costs_left (g.C.CountedLeaves.text c.args.source.now) (g.C.CountedLeaves.most c.args.source.now) (operand_forms c.deref-in-One.result.now) c.one_find.new.places) (costs_left (g.C.CountedLeaves.text c.args.source.now) (g.C.CountedLeaves.most c.args.source.now) (operand_forms c.deref-in-One.result.now) c.args.places.now) 0 (subst (λ n. g.C.CountedLeaves.count c.one_find.new.counter + costs_left (g.C.CountedLeaves.text c.args.source.now) (g.C.CountedLeaves.most c.args.source.now) (operand_forms c.deref-in-One.result.now) c.one_find.new.places ≤ n + costs_left (g.C.CountedLeaves.text c.args.source.now) (g.C.CountedLeaves.most c.args.source.now) (operand_forms c.deref-in-One.result.now) c.args.places.now) same c.one_find.ensures.cost))
 
 pub reading::find-returns-in-One-clause-stands : goal.reading::find-returns-in-One-clause-stands
 reading::find-returns-in-One-clause-stands g t c =
@@ -832,9 +819,84 @@ reading::find-returns-in-One-clause-stands g t c =
 pub reading::find-returns-in-Seq-clause-cost : goal.reading::find-returns-in-Seq-clause-cost
 reading::find-returns-in-Seq-clause-cost g t c =
     let form = form-Seq c.args.expr.now c.in-Seq.operands c.deref-in-Seq.result.now c.in-Seq.is c.deref-in-Seq.ensures.value in
-    find_by (g.C.CountedLeaves.text c.args.source.now) (g.C.CountedLeaves.most c.args.source.now) (form_of c.args.expr.now) (seq (operand_forms c.deref-in-Seq.result.now)) form c.args.places.now c.seq_find.new.places (g.C.CountedLeaves.count c.args.counter.now) (g.C.CountedLeaves.count c.seq_find.new.counter) c.args.k c.seq_find.result c.seq_find.ensures.cost
+    let same = c.in_default.ensures.none refl in
+    find_by (g.C.CountedLeaves.text c.args.source.now) (g.C.CountedLeaves.most c.args.source.now) (form_of c.args.expr.now) (seq (operand_forms c.deref-in-Seq.result.now)) form c.args.places.now c.seq_find.new.places (g.C.CountedLeaves.count c.args.counter.now) (g.C.CountedLeaves.count c.seq_find.new.counter) c.args.k c.seq_find.result (without _ _ (2 * g.C.CountedLeaves.most c.args.source.now) (subst (λ n. g.C.CountedLeaves.count c.seq_find.new.counter + costs_left (g.C.CountedLeaves.text c.args.source.now) (g.C.CountedLeaves.most c.args.source.now) (operand_forms c.deref-in-Seq.result.now) c.seq_find.new.places + 2 * g.C.CountedLeaves.most c.args.source.now ≤ n + costs_left (g.C.CountedLeaves.text c.args.source.now) (g.C.CountedLeaves.most c.args.source.now) (operand_forms c.deref-in-Seq.result.now) c.args.places.now + forms_count (operand_forms c.deref-in-Seq.result.now) * (2 * g.C.CountedLeaves.most c.args.source.now)) same c.seq_find.ensures.cost))
 
 pub reading::find-returns-in-Seq-clause-stands : goal.reading::find-returns-in-Seq-clause-stands
 reading::find-returns-in-Seq-clause-stands g t c =
     let form = form-Seq c.args.expr.now c.in-Seq.operands c.deref-in-Seq.result.now c.in-Seq.is c.deref-in-Seq.ensures.value in
     subst (λ f. StandBelow (g.C.CountedLeaves.text c.args.source.now) f c.seq_find.new.places) (sym form) c.seq_find.ensures.stands
+
+pub chains::seq_onward-returns-in-Some-clause-onward : goal.chains::seq_onward-returns-in-Some-clause-onward
+chains::seq_onward-returns-in-Some-clause-onward g t c =
+    let has = first_member (concordance (g.C.CountedLeaves.text c.args.source.now) (form_of c.args.expr.now)) c.args.member.start c.args.member (member_is (concordance (g.C.CountedLeaves.text c.args.source.now) (form_of c.args.expr.now)) (front_of c.args.places.now) c.args.member c.requires.stands.front (ap member_of c.requires.on)) in
+    let starts : c.args.member.start ≡ c.member.inside.start = sym (ap (λ (x : Extent). x.start) c.member.view_is) in
+    goes_on_way (concordance (g.C.CountedLeaves.text c.args.source.now) (form_of c.args.expr.now)) (concordance_rises (g.C.CountedLeaves.text c.args.source.now) (form_of c.args.expr.now)) c.args.k c.args.member has c.requires.short c.in-Some.found c.in-Some.ensures.end
+    (subst (λ n. IfSome c.in-Some.found (IsOnTheWay (concordance (g.C.CountedLeaves.text c.args.source.now) (form_of c.args.expr.now)) (n + 1) c.args.k)) (sym starts) c.in-Some.ensures.onward)
+
+pub chains::seq_onward-returns-in-Some-clause-stands : goal.chains::seq_onward-returns-in-Some-clause-stands
+chains::seq_onward-returns-in-Some-clause-stands g t c =
+    let put : c.put_front.new.places ≡ with_front c.args.places.now (front_at c.in-Some.found) = c.put_front.ensures ∙ ap (with_front c.args.places.now) c.front_at.ensures in
+    let goes = chains::seq_onward-returns-in-Some-clause-onward g t c in
+    let tells = subst (λ f. Tell (g.C.CountedLeaves.text c.args.source.now) (form_of c.args.expr.now) f (drop 1 c.args.places.now)) c.requires.on c.requires.stands.tells in
+    subst (Stands (g.C.CountedLeaves.text c.args.source.now) (form_of c.args.expr.now)) (sym put)
+    (restand (g.C.CountedLeaves.text c.args.source.now) (form_of c.args.expr.now) c.args.places.now (front_at c.in-Some.found) c.requires.stands (front_onward (concordance (g.C.CountedLeaves.text c.args.source.now) (form_of c.args.expr.now)) c.args.k c.args.member c.in-Some.found goes)
+    (tell_onward (g.C.CountedLeaves.text c.args.source.now) (form_of c.args.expr.now) (operand_forms c.args.operands.now) c.requires.form (drop 1 c.args.places.now) c.args.k c.args.member c.in-Some.found goes tells))
+
+pub chains::seq_onward-returns-in-Some-clause-cost : goal.chains::seq_onward-returns-in-Some-clause-cost
+chains::seq_onward-returns-in-Some-clause-cost g t c =
+    let put : c.put_front.new.places ≡ with_front c.args.places.now (front_at c.in-Some.found) = c.put_front.ensures ∙ ap (with_front c.args.places.now) c.front_at.ensures in
+    let goes = chains::seq_onward-returns-in-Some-clause-onward g t c in
+    let has = first_member (concordance (g.C.CountedLeaves.text c.args.source.now) (form_of c.args.expr.now)) c.args.member.start c.args.member (member_is (concordance (g.C.CountedLeaves.text c.args.source.now) (form_of c.args.expr.now)) (front_of c.args.places.now) c.args.member c.requires.stands.front (ap member_of c.requires.on)) in
+    let some = some_place (g.C.CountedLeaves.text c.args.source.now) (form_of c.args.expr.now) c.args.places.now (StandBelow (g.C.CountedLeaves.text c.args.source.now) (form_of c.args.expr.now) (drop 1 c.args.places.now)) c.requires.stands in
+    subst (λ p. g.C.CountedLeaves.count c.element_onward.new.counter + cost_left (g.C.CountedLeaves.text c.args.source.now) (g.C.CountedLeaves.most c.args.source.now) (form_of c.args.expr.now) p ≤ g.C.CountedLeaves.count c.args.counter.now + cost_left (g.C.CountedLeaves.text c.args.source.now) (g.C.CountedLeaves.most c.args.source.now) (form_of c.args.expr.now) c.args.places.now) (sym put)
+    (way_cost (g.C.CountedLeaves.text c.args.source.now) (g.C.CountedLeaves.most c.args.source.now) (form_of c.args.expr.now) c.args.places.now c.args.k c.args.member c.in-Some.found some c.requires.on has c.requires.short c.in-Some.ensures.end goes c.in-Some.ensures.element (g.C.CountedLeaves.count c.element_onward.new.counter) (g.C.CountedLeaves.count c.args.counter.now) c.in-Some.ensures.steps)
+
+pub chains::seq_onward-returns-clause-onward : goal.chains::seq_onward-returns-clause-onward
+chains::seq_onward-returns-clause-onward g t c =
+    let has = first_member (concordance (g.C.CountedLeaves.text c.args.source.now) (form_of c.args.expr.now)) c.args.member.start c.args.member (member_is (concordance (g.C.CountedLeaves.text c.args.source.now) (form_of c.args.expr.now)) (front_of c.args.places.now) c.args.member c.requires.stands.front (ap member_of c.requires.on)) in
+    let starts : c.args.member.start ≡ c.member.inside.start = sym (ap (λ (x : Extent). x.start) c.member.view_is) in
+    let is : c.seq_find-found.result ≡ first_start (concordance (g.C.CountedLeaves.text c.args.source.now) (form_of c.args.expr.now)) (c.args.member.start + 1)
+    = subst (λ n. c.seq_find-found.result ≡ first_start (concordance (g.C.CountedLeaves.text c.args.source.now) (form_of c.args.expr.now)) (n + 1)) (sym starts) (c.seq_find-found.ensures.answer ∙ ap (λ f. first_start (concordance (g.C.CountedLeaves.text c.args.source.now) f) (c.member.inside.start + 1)) (sym c.requires.form)) in
+    goes_to_next (concordance (g.C.CountedLeaves.text c.args.source.now) (form_of c.args.expr.now)) (concordance_rises (g.C.CountedLeaves.text c.args.source.now) (form_of c.args.expr.now)) c.args.k c.args.member has c.requires.short c.seq_find-found.result is
+
+pub chains::seq_onward-returns-clause-stands : goal.chains::seq_onward-returns-clause-stands
+chains::seq_onward-returns-clause-stands g t c =
+    let starts : c.args.member.start ≡ c.member.inside.start = sym (ap (λ (x : Extent). x.start) c.member.view_is) in
+    let is : c.seq_find-found.result ≡ first_start (concordance (g.C.CountedLeaves.text c.args.source.now) (form_of c.args.expr.now)) (c.args.member.start + 1)
+    = subst (λ n. c.seq_find-found.result ≡ first_start (concordance (g.C.CountedLeaves.text c.args.source.now) (form_of c.args.expr.now)) (n + 1)) (sym starts) (c.seq_find-found.ensures.answer ∙ ap (λ f. first_start (concordance (g.C.CountedLeaves.text c.args.source.now) f) (c.member.inside.start + 1)) (sym c.requires.form)) in
+    let put : c.put_front-2.new.places ≡ with_front (take 1 c.args.places.now ++ c.seq_find-found.new.places) (front_at c.seq_find-found.result)
+    = c.put_front-2.ensures ∙ ap (λ p. with_front (p ++ c.seq_find-found.new.places) c.front_at-2.result) c.split_at_mut-below.ensures.front ∙ ap (with_front (take 1 c.args.places.now ++ c.seq_find-found.new.places)) c.front_at-2.ensures in
+    let len : length c.seq_find-found.new.places ≡ length (drop 1 c.args.places.now) = c.seq_find-found.ensures.len ∙ ap length c.split_at_mut-below.ensures.back in
+    subst (Stands (g.C.CountedLeaves.text c.args.source.now) (form_of c.args.expr.now)) (sym put)
+    (restand_below (g.C.CountedLeaves.text c.args.source.now) (form_of c.args.expr.now) c.args.places.now c.seq_find-found.new.places (front_at c.seq_find-found.result) c.requires.stands (front_found (concordance (g.C.CountedLeaves.text c.args.source.now) (form_of c.args.expr.now)) (concordance_rises (g.C.CountedLeaves.text c.args.source.now) (form_of c.args.expr.now)) (c.args.member.start + 1) c.seq_find-found.result is) len
+    (subst (λ f. StandBelow (g.C.CountedLeaves.text c.args.source.now) f c.seq_find-found.new.places) (sym c.requires.form) c.seq_find-found.ensures.stands)
+    (seq_tell (g.C.CountedLeaves.text c.args.source.now) (form_of c.args.expr.now) (operand_forms c.args.operands.now) c.requires.form c.seq_find-found.new.places c.seq_find-found.result c.seq_find-found.ensures.tells))
+
+pub chains::seq_onward-returns-clause-cost : goal.chains::seq_onward-returns-clause-cost
+chains::seq_onward-returns-clause-cost g t c =
+    let starts : c.args.member.start ≡ c.member.inside.start = sym (ap (λ (x : Extent). x.start) c.member.view_is) in
+    let is : c.seq_find-found.result ≡ first_start (concordance (g.C.CountedLeaves.text c.args.source.now) (form_of c.args.expr.now)) (c.args.member.start + 1)
+    = subst (λ n. c.seq_find-found.result ≡ first_start (concordance (g.C.CountedLeaves.text c.args.source.now) (form_of c.args.expr.now)) (n + 1)) (sym starts) (c.seq_find-found.ensures.answer ∙ ap (λ f. first_start (concordance (g.C.CountedLeaves.text c.args.source.now) f) (c.member.inside.start + 1)) (sym c.requires.form)) in
+    let put : c.put_front-2.new.places ≡ with_front (take 1 c.args.places.now ++ c.seq_find-found.new.places) (front_at c.seq_find-found.result)
+    = c.put_front-2.ensures ∙ ap (λ p. with_front (p ++ c.seq_find-found.new.places) c.front_at-2.result) c.split_at_mut-below.ensures.front ∙ ap (with_front (take 1 c.args.places.now ++ c.seq_find-found.new.places)) c.front_at-2.ensures in
+    let some = some_place (g.C.CountedLeaves.text c.args.source.now) (form_of c.args.expr.now) c.args.places.now (StandBelow (g.C.CountedLeaves.text c.args.source.now) (form_of c.args.expr.now) (drop 1 c.args.places.now)) c.requires.stands in
+    let le = paid (g.C.CountedLeaves.count c.args.counter.now) (g.C.CountedLeaves.count c.element_onward.new.counter) (g.C.CountedLeaves.count c.seq_find-found.new.counter) (costs_left (g.C.CountedLeaves.text c.args.source.now) (g.C.CountedLeaves.most c.args.source.now) (operand_forms c.args.operands.now) c.seq_find-found.new.places) (costs_left (g.C.CountedLeaves.text c.args.source.now) (g.C.CountedLeaves.most c.args.source.now) (operand_forms c.args.operands.now) c.split_at_mut-below.result.1.now) (forms_count (operand_forms c.args.operands.now) * (2 * g.C.CountedLeaves.most c.args.source.now)) (2 * g.C.CountedLeaves.most c.args.source.now) c.seq_find-found.ensures.cost (c.in_default.ensures.few refl) in
+    let found = find_by (g.C.CountedLeaves.text c.args.source.now) (g.C.CountedLeaves.most c.args.source.now) (form_of c.args.expr.now) (seq (operand_forms c.args.operands.now)) c.requires.form c.split_at_mut-below.result.1.now c.seq_find-found.new.places (g.C.CountedLeaves.count c.args.counter.now) (g.C.CountedLeaves.count c.seq_find-found.new.counter) (c.args.member.start + 1) c.seq_find-found.result le in
+    let spent = subst (λ p. g.C.CountedLeaves.count c.seq_find-found.new.counter + cost_below (g.C.CountedLeaves.text c.args.source.now) (g.C.CountedLeaves.most c.args.source.now) (form_of c.args.expr.now) c.seq_find-found.new.places ≤ g.C.CountedLeaves.count c.args.counter.now + cost_below (g.C.CountedLeaves.text c.args.source.now) (g.C.CountedLeaves.most c.args.source.now) (form_of c.args.expr.now) p + find_cost (g.C.CountedLeaves.text c.args.source.now) (g.C.CountedLeaves.most c.args.source.now) (form_of c.args.expr.now) (c.args.member.start + 1) c.seq_find-found.result) c.split_at_mut-below.ensures.back found in
+    let unknown = subst (λ f. IsUnknown f (c.args.member.start + 1)) (sym c.requires.on) (omega arith) in
+    subst (λ p. g.C.CountedLeaves.count c.seq_find-found.new.counter + cost_left (g.C.CountedLeaves.text c.args.source.now) (g.C.CountedLeaves.most c.args.source.now) (form_of c.args.expr.now) p ≤ g.C.CountedLeaves.count c.args.counter.now + cost_left (g.C.CountedLeaves.text c.args.source.now) (g.C.CountedLeaves.most c.args.source.now) (form_of c.args.expr.now) c.args.places.now) (sym put)
+    (look_cost (g.C.CountedLeaves.text c.args.source.now) (g.C.CountedLeaves.most c.args.source.now) (form_of c.args.expr.now) c.args.places.now c.seq_find-found.new.places (c.args.member.start + 1) c.seq_find-found.result some unknown is (g.C.CountedLeaves.count c.seq_find-found.new.counter) (g.C.CountedLeaves.count c.args.counter.now) spent)
+
+pub reading::find-returns-in-Some-clause-tells : goal.reading::find-returns-in-Some-clause-tells
+reading::find-returns-in-Some-clause-tells g t c =
+    element_tells (g.C.CountedLeaves.text c.args.source.now) (form_of c.args.expr.now) c.in-Some.ensures.element c.args.places.now c.args.k c.in-Some.element c.in-Some.ensures.answer c.requires.tells
+
+pub reading::onward-returns-in_default-clause-onward : goal.reading::onward-returns-in_default-clause-onward
+reading::onward-returns-in_default-clause-onward g t c =
+    let has = first_member (concordance (g.C.CountedLeaves.text c.args.source.now) (form_of c.args.expr.now)) c.args.member.start c.args.member (member_is (concordance (g.C.CountedLeaves.text c.args.source.now) (form_of c.args.expr.now)) (front_of c.args.places.now) c.args.member c.requires.stands.front c.requires.on) in
+    let starts : c.args.member.start ≡ c.member.inside.start = sym (ap (λ (x : Extent). x.start) c.member.view_is) in
+    let behind = moved_on (front_of c.args.places.now) (Some c.args.member) c.requires.on in
+    let is : c.start.result ≡ first_start (concordance (g.C.CountedLeaves.text c.args.source.now) (form_of c.args.expr.now)) (c.args.member.start + 1)
+    = subst (λ n. c.start.result ≡ first_start (left_to (g.C.CountedLeaves.text c.args.source.now) (form_of c.args.expr.now) c.args.places.now) (n + 1)) (sym starts) c.start.ensures.answer ∙ agrees_at (concordance (g.C.CountedLeaves.text c.args.source.now) (form_of c.args.expr.now)) (start_at c.args.places.now) (c.args.member.start + 1) (omega (arith, behind)) in
+    goes_to_next (concordance (g.C.CountedLeaves.text c.args.source.now) (form_of c.args.expr.now)) (concordance_rises (g.C.CountedLeaves.text c.args.source.now) (form_of c.args.expr.now)) c.args.k c.args.member has c.requires.short c.start.result is

@@ -20,8 +20,7 @@ invariant-reading::node_end-loop-member g l =
     let list = concordance text (form_of l.expr) in
     record {
       stands : Stands text (form_of l.expr) l.places;
-      at : start_at l.places ≤ l.member.start;
-      found : first_start list l.member.start ≡ Some l.member;
+      on : member_of (front_of l.places) ≡ Some l.member;
       answer : first_end (members_from list l.member.start) l.k ≡ first_end (left_to text (form_of l.expr) l.fn.places) l.k;
       within : l.member.end < address_end;
       counted : g.C.CountedLeaves.count l.fn.counter ≤ g.C.CountedLeaves.count l.counter;
@@ -87,13 +86,19 @@ abbrev pub decreases-reading::peek : goal.decreases-reading::peek
 decreases-reading::peek g l = 16 * nodes (form_of l.expr.now) + 11
 
 abbrev pub decreases-reading::node_end : goal.decreases-reading::node_end
-decreases-reading::node_end g l = 16 * nodes (form_of l.expr.now) + 12
+decreases-reading::node_end g l = 16 * nodes (form_of l.expr.now) + 13
+
+abbrev pub decreases-reading::onward : goal.decreases-reading::onward
+decreases-reading::onward g l = 16 * nodes (form_of l.expr.now) + 12
+
+abbrev pub decreases-chains::seq_onward : goal.decreases-chains::seq_onward
+decreases-chains::seq_onward g l = 16 * nodes (form_of l.expr.now) + 11
 
 abbrev pub decreases-reading::node_back : goal.decreases-reading::node_back
 decreases-reading::node_back g l = 16 * nodes (form_of l.expr.now) + 12
 
 abbrev pub decreases-reading::end : goal.decreases-reading::end
-decreases-reading::end g l = 16 * nodes (form_of l.expr.now) + 13
+decreases-reading::end g l = 16 * nodes (form_of l.expr.now) + 14
 
 abbrev pub decreases-reading::back : goal.decreases-reading::back
 decreases-reading::back g l = 16 * nodes (form_of l.expr.now) + 13
@@ -102,10 +107,10 @@ abbrev pub decreases-containments::containment_find : goal.decreases-containment
 decreases-containments::containment_find g l = 16 * nodes (form_of l.expr.now) + 8
 
 abbrev pub decreases-containments::ask : goal.decreases-containments::ask
-decreases-containments::ask g l = 16 * nodes (form_of l.second.now) + 14
+decreases-containments::ask g l = 16 * nodes (form_of l.second.now) + 15
 
 abbrev pub decreases-containments::go_on : goal.decreases-containments::go_on
-decreases-containments::go_on g l = 16 * nodes (form_of l.first.now) + 14
+decreases-containments::go_on g l = 16 * nodes (form_of l.first.now) + 15
 
 abbrev pub decreases-chains::both_ends : goal.decreases-chains::both_ends
 decreases-chains::both_ends g l = 16 * nodes_of (operand_forms l.operands.now) + 14
