@@ -15,6 +15,7 @@ use Rattle.gcl_eval.specs.Members.{members_from}
 use Rattle.gcl_eval.proofs.Listing.{all_members, next_member, no_member}
 use Rattle.gcl_readers.specs.Fronts.{start_or_end}
 use Rattle.gcl_readers.specs.Standing.{left_to, start_at}
+use Rattle.gcl_readers.proofs.Members.{agrees_at}
 use Rattle.gcl_readers.specs.declared.front.Place.{Place as ReaderPlace}
 use Rattle.token_places.specs.Laws.{IsNoEarlier}
 use Rattle.token_places.specs.Places.{Place, file_places, stretch}
@@ -149,22 +150,9 @@ pub count-next : (text : Text) (form : Form) (k n m next : ℕ) (a : Extent) →
 count-next text form k n m next a found more onward =
     ap length (taken-next text form k n m a (sym found) more) ∙ ap (λ (j : ℕ). suc (length (take m (members_from (concordance text form) j)))) (sym onward)
 
--- where members in front of an address were passed, the first one from there on is the same
-first_left : (list : List Extent) (x k : ℕ) → x ≤ k → first_start (members_from list x) k ≡ first_start list k
-first_left [] x k le = refl
-first_left (a ∷ list) x k le = by_test (leb x a.start) refl (first_left list x k le)
-  where
-    by_test : (t : Bool) → leb x a.start ≡ t → first_start (members_from list x) k ≡ first_start list k
-        → first_start (cond t (a ∷ members_from list x) (members_from list x)) k ≡ first_start (a ∷ list) k
-    by_test true e rest = ap (λ (o : Option Extent). cond (leb k a.start) (Some a) o) rest
-    by_test false e rest = elim (cases_Bool (leb k a.start)) [
-      | inl t ↦ absurd (omega (arith, leb-true k a.start t, leb-false x a.start e))
-      | inr f ↦ rest ∙ sym (ap (λ s. cond s (Some a) (first_start list k)) f)
-    ]
-
--- so readers answer from there as the whole list does
+-- readers that passed no member from an address on answer from there as the whole list does
 pub answer-of_all : (text : Text) (form : Form) (readers : List ReaderPlace) (k : ℕ) (o : Option Extent) → start_at readers ≤ k → o ≡ first_start (left_to text form readers) k → o ≡ first_start (concordance text form) k
-answer-of_all text form readers k o behind is = is ∙ first_left (concordance text form) (start_at readers) k behind
+answer-of_all text form readers k o behind is = is ∙ agrees_at (concordance text form) (start_at readers) k behind
 
 pub start-of_some : (n : ℕ) (o : Option Extent) → n ≤ start_or_end o → IfSome o (λ a. n ≤ a.start)
 start-of_some n None le = tt

@@ -1,4 +1,4 @@
-mod Members
+pub mod Members
 mod FrontLemmas
 mod Answers
 mod Standings

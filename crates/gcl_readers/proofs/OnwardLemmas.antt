@@ -16,10 +16,10 @@ use Rattle.gcl_readers.specs.declared.front.Front.{Front}
 use Rattle.gcl_readers.specs.declared.front.Front.TheVariants.{On}
 use Rattle.gcl_readers.specs.declared.front.Place.{Place}
 use Rattle.gcl_readers.specs.Agreement.{AllAnswerInOrder}
-use Rattle.gcl_readers.specs.Fronts.{IsFrontOf, IsUnknown, after, front_at}
-use Rattle.gcl_readers.specs.MergeCost.{member_cost, find_cost, cost_below, cost_left}
+use Rattle.gcl_readers.specs.Fronts.{IsFrontOf, IsUnknown, front_at}
+use Rattle.gcl_readers.specs.MergeCost.{find_cost, cost_below, cost_left}
 use Rattle.gcl_readers.specs.Reading.{GoesOn}
-use Rattle.gcl_readers.specs.Standing.{Stands, Tell, TellsFrom, front_of, starts_at, with_front}
+use Rattle.gcl_readers.specs.Standing.{Tell, TellsFrom, front_of, starts_at, with_front}
 use Rattle.gcl_readers.proofs.Answers.{in_order_later}
 use Rattle.gcl_readers.proofs.CostLemmas.{look_cost}
 use Rattle.gcl_readers.proofs.EndLemmas.{ends_here, ends_onward, ends_over, first_found}

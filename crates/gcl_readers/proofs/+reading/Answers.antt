@@ -31,7 +31,7 @@ use Rattle.gcl_readers.proofs.Standings.{some_place, restand, restand_below, res
 use Rattle.gcl_readers.proofs.BothLemmas.{both_none, both_some, both_tell}
 use Rattle.gcl_readers.proofs.SeqLemmas.{seq_none, seq_alone, seq_no_tail, seq_joined, tail_after, back_finds, joins_in_order, in_order_alone, in_order_more, no_others, some_others}
 use Rattle.gcl_readers.proofs.OnwardLemmas.{element_tells, front_onward, goes_on_way, goes_to_next, paid, seq_tell, tell_onward, way_cost}
-use Rattle.gcl_readers.proofs.EndLemmas.{first_left, first_found, ends_from_first, ends_none, ends_here, ends_onward, ends_over, backs_from_first, backs_none, backs_before, backs_onward, backs_here, later_found, later_none}
+use Rattle.gcl_readers.proofs.EndLemmas.{first_left, first_found, ends_from_first, ends_none, ends_here, backs_from_first, backs_none, backs_before, backs_onward, backs_here, later_found, later_none}
 use Rattle.gcl_readers.proofs.TellLemmas.{tells_from, unknown_from}
 use Rattle.gcl_readers.proofs.ContainRules.{second_asked, second_moved, node_begins, node_begins_none, go_agrees, go_later, contain_split, contain_joined, contain_tell}
 use Rattle.gcl_readers.proofs.OperandRules.{others_stand, stands_joined, joined_length, operand_at, answers_joined, first_answers, in_order_joined, first_in_order}
