@@ -94,7 +94,7 @@ impl Question for Count<'_> {
 }
 
 /// The next of the numbers that stand for chance.
-fn chance(state: &mut u64, below: u64) -> u64
+pub(crate) fn chance(state: &mut u64, below: u64) -> u64
     requires { 0 < below }
     ensures { result < below }
 {
@@ -107,7 +107,7 @@ fn chance(state: &mut u64, below: u64) -> u64
 const WORDS: [&str; 4] = ["a", "b", "c", "d"];
 
 /// So many words as chance has them.
-fn chance_words(
+pub(crate) fn chance_words(
     alloc: Global,
     state: &mut u64,
     count: u64,
@@ -129,7 +129,11 @@ const LEAVES: [&str; 7] = ["\"a\"", "\"b\"", "\"c\"", "\"d\"", "\"a b\"", "[1]",
 const OPERATORS: [&str; 7] = ["^", "+", "..", ">", "<", "/>", "/<"];
 
 /// A query of this depth at most.
-fn put_query(query: &mut Vec<u8>, state: &mut u64, depth: u64) -> Result<(), AllocError> {
+pub(crate) fn put_query(
+    query: &mut Vec<u8>,
+    state: &mut u64,
+    depth: u64,
+) -> Result<(), AllocError> {
     if depth == 0 || chance(state, 5) == 0 {
         return query.extend_from_slice(LEAVES[chance(state, 7) as usize].as_bytes());
     }
@@ -146,7 +150,7 @@ fn put_query(query: &mut Vec<u8>, state: &mut u64, depth: u64) -> Result<(), All
 }
 
 /// The text of these words from `first` on, where they are not too many.
-fn text_of(
+pub(crate) fn text_of(
     alloc: Global,
     first: u64,
     words: &TokenList,

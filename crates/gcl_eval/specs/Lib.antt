@@ -6,3 +6,4 @@ pub mod Members
 pub mod KnownAnswers
 pub mod TwoWidths
 pub mod Elements
+pub mod inner

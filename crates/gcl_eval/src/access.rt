@@ -8,7 +8,7 @@
 //! 3, and (4, 5) the first that starts after it does. "Followed by" asks its last operand first, from where the way leads
 //! back: of "or" and "be" at 3 and 6, (6, 6) leads back to (3, 3), and (3, 6) is the member.
 
-ghost use Rattle.std.specs.Prelude.{◌≡◌, ◌+◌, ◌<◌, ◌≤◌, IfSome};
+ghost use Rattle.std.specs.Prelude.{◌≡◌, ◌+◌, ◌<◌, ◌≤◌, IfSome, ℕ, IfOk};
 ghost use Rattle.gcl_model.specs.Limits.{address_end, far};
 ghost use Rattle.gcl_model.specs.FormOf.{form_of};
 ghost use Rattle.gcl_model.specs.Meaning.{concordance};
@@ -35,17 +35,20 @@ pub(crate) fn access<C: CountedLeaves>(
     source: &C,
     k: u64,
     counter: &mut C::Counter,
-) -> Option<Interval>
+) -> Result<Option<Interval>, C::Stop>
     requires well_formed { IsWellFormed (form_of expr.now) }
     requires below { k < far }
-    ensures answer { result ≡ access_of wanted (concordance (C.text source.now) (form_of expr.now)) k }
-    ensures within { IfSome result (λ a. a.end < address_end) }
+    ensures answer { IfOk result (λ found. found ≡ access_of wanted (concordance (C.text source.now) (form_of expr.now)) k) }
+    ensures within { IfOk result (λ found. IfSome found (λ a. a.end < address_end)) }
     ensures counted { C.count counter.old ≤ C.count counter.new }
-    ensures cost { C.count counter.new ≤ C.count counter.old + cost (C.text source.now) (C.most source.now) (form_of expr.now) }
-    ensures cost_by_access { C.count counter.new ≤ C.count counter.old + cost_in (rounds wanted) (C.text source.now) (C.most source.now) (form_of expr.now) }
+    ensures cost { IfOk result (λ _. C.count counter.new ≤
+        C.count counter.old + cost (C.text source.now) (C.most source.now) (form_of expr.now)) }
+    ensures cost_by_access { IfOk result (λ _. C.count counter.new ≤
+        C.count counter.old + cost_in (rounds wanted) (C.text source.now) (C.most source.now) (form_of expr.now)) }
+    ensures capped { (cap : ℕ) → C.Caps source.now cap → C.count counter.old ≤ cap → C.count counter.new ≤ cap }
 {
-    if let Some(element) = element_access(expr, wanted, source, k, counter) {
-        return Some(element);
+    if let Some(element) = element_access(expr, wanted, source, k, counter)? {
+        return Ok(Some(element));
     }
     access_by_operands(expr, wanted, source, k, counter)
 }
@@ -58,20 +61,23 @@ fn access_by_operands<C: CountedLeaves>(
     source: &C,
     k: u64,
     counter: &mut C::Counter,
-) -> Option<Interval>
+) -> Result<Option<Interval>, C::Stop>
     requires well_formed { IsWellFormed (form_of expr.now) }
     requires below { k < far }
-    ensures answer { result ≡ access_of access (concordance (C.text source.now) (form_of expr.now)) k }
-    ensures within { IfSome result (λ a. a.end < address_end) }
+    ensures answer { IfOk result (λ found. found ≡ access_of access (concordance (C.text source.now) (form_of expr.now)) k) }
+    ensures within { IfOk result (λ found. IfSome found (λ a. a.end < address_end)) }
     ensures counted { C.count counter.old ≤ C.count counter.new }
-    ensures cost { C.count counter.new ≤ C.count counter.old + cost (C.text source.now) (C.most source.now) (form_of expr.now) }
-    ensures cost_by_access { C.count counter.new ≤ C.count counter.old + cost_in (rounds access) (C.text source.now) (C.most source.now) (form_of expr.now) }
+    ensures cost { IfOk result (λ _. C.count counter.new ≤
+        C.count counter.old + cost (C.text source.now) (C.most source.now) (form_of expr.now)) }
+    ensures cost_by_access { IfOk result (λ _. C.count counter.new ≤
+        C.count counter.old + cost_in (rounds access) (C.text source.now) (C.most source.now) (form_of expr.now)) }
+    ensures capped { (cap : ℕ) → C.Caps source.now cap → C.count counter.old ≤ cap → C.count counter.new ≤ cap }
 {
     let span = source.span();
     match expr {
         Expr::Term(token) => term_access(token, access, source, k, counter),
         Expr::Phrase(tokens) => phrase_access(tokens, access, source, k, counter),
-        Expr::Width(width) => width_access(*width, access, span, k),
+        Expr::Width(width) => Ok(width_access(*width, access, span, k)),
         Expr::Both(_) | Expr::One(_) | Expr::Seq(_) => chain_access(
             expr, access, source, k, counter,
         ),

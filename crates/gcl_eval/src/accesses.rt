@@ -26,7 +26,8 @@ pub fn first_start<L: Leaves, S: Ledger>(
     ensures near_cost { steps.new ≤ steps.old + near_cost (L.text leaves.now) (L.most leaves.now) (form_of expr.now) }
 {
     let source = LentLeaves::<L, S>::new(leaves);
-    access(expr, Access::FirstStart, &source, k, steps)
+    let Ok(found) = access(expr, Access::FirstStart, &source, k, steps);
+    found
 }
 
 /// The first member that ends at or after `k`.
@@ -43,7 +44,8 @@ pub fn first_end<L: Leaves, S: Ledger>(
     ensures cost { steps.new ≤ steps.old + cost (L.text leaves.now) (L.most leaves.now) (form_of expr.now) }
 {
     let source = LentLeaves::<L, S>::new(leaves);
-    access(expr, Access::FirstEnd, &source, k, steps)
+    let Ok(found) = access(expr, Access::FirstEnd, &source, k, steps);
+    found
 }
 
 /// The last member that ends at or before `k`.
@@ -61,7 +63,8 @@ pub fn last_end<L: Leaves, S: Ledger>(
     ensures near_cost { steps.new ≤ steps.old + near_cost (L.text leaves.now) (L.most leaves.now) (form_of expr.now) }
 {
     let source = LentLeaves::<L, S>::new(leaves);
-    access(expr, Access::LastEnd, &source, k, steps)
+    let Ok(found) = access(expr, Access::LastEnd, &source, k, steps);
+    found
 }
 
 /// The last member that starts at or before `k`.
@@ -78,5 +81,6 @@ pub fn last_start<L: Leaves, S: Ledger>(
     ensures cost { steps.new ≤ steps.old + cost (L.text leaves.now) (L.most leaves.now) (form_of expr.now) }
 {
     let source = LentLeaves::<L, S>::new(leaves);
-    access(expr, Access::LastStart, &source, k, steps)
+    let Ok(found) = access(expr, Access::LastStart, &source, k, steps);
+    found
 }

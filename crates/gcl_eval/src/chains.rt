@@ -1,4 +1,4 @@
-ghost use Rattle.std.specs.Prelude.{◌≡◌, ◌+◌, ◌*◌, ◌<◌, ◌≤◌, IfSome};
+ghost use Rattle.std.specs.Prelude.{◌≡◌, ◌+◌, ◌*◌, ◌<◌, ◌≤◌, IfSome, ℕ, IfOk};
 ghost use Rattle.gcl_model.specs.Limits.{address_end, far};
 ghost use Rattle.gcl_model.specs.Forms.{both, one, seq};
 ghost use Rattle.gcl_model.specs.FormOf.{form_of};
@@ -27,13 +27,15 @@ pub(crate) fn chain_access<C: CountedLeaves>(
     source: &C,
     k: u64,
     counter: &mut C::Counter,
-) -> Option<Interval>
+) -> Result<Option<Interval>, C::Stop>
     requires chain { IsChain (form_of expr.now) }
     requires well_formed { IsWellFormed (form_of expr.now) }
     requires below { k < far }
-    ensures answer { result ≡ access_of access (concordance (C.text source.now) (form_of expr.now)) k }
+    ensures answer { IfOk result (λ found. found ≡ access_of access (concordance (C.text source.now) (form_of expr.now)) k) }
     ensures counted { C.count counter.old ≤ C.count counter.new }
-    ensures cost { C.count counter.new ≤ C.count counter.old + cost_in (rounds access) (C.text source.now) (C.most source.now) (form_of expr.now) }
+    ensures cost { IfOk result (λ _. C.count counter.new ≤
+        C.count counter.old + cost_in (rounds access) (C.text source.now) (C.most source.now) (form_of expr.now)) }
+    ensures capped { (cap : ℕ) → C.Caps source.now cap → C.count counter.old ≤ cap → C.count counter.new ≤ cap }
 {
     match access {
         Access::FirstStart => near_access(expr, Direction::Forward, source, k, counter),
@@ -52,13 +54,15 @@ fn far_access<C: CountedLeaves>(
     source: &C,
     k: u64,
     counter: &mut C::Counter,
-) -> Option<Interval>
+) -> Result<Option<Interval>, C::Stop>
     requires chain { IsChain (form_of expr.now) }
     requires well_formed { IsWellFormed (form_of expr.now) }
     requires below { k < far }
-    ensures answer { result ≡ far_access direction (concordance (C.text source.now) (form_of expr.now)) k }
+    ensures answer { IfOk result (λ found. found ≡ far_access direction (concordance (C.text source.now) (form_of expr.now)) k) }
     ensures counted { C.count counter.old ≤ C.count counter.new }
-    ensures cost { C.count counter.new ≤ C.count counter.old + cost (C.text source.now) (C.most source.now) (form_of expr.now) }
+    ensures cost { IfOk result (λ _. C.count counter.new ≤
+        C.count counter.old + cost (C.text source.now) (C.most source.now) (form_of expr.now)) }
+    ensures capped { (cap : ℕ) → C.Caps source.now cap → C.count counter.old ≤ cap → C.count counter.new ≤ cap }
 {
     match expr {
         Expr::Seq(operands) => followed_by_far_sides(operands, direction, source, k, counter),
@@ -74,17 +78,21 @@ fn past_passed<C: CountedLeaves>(
     source: &C,
     k: u64,
     counter: &mut C::Counter,
-) -> Option<Interval>
+) -> Result<Option<Interval>, C::Stop>
     requires chain { IsChain (form_of expr.now) }
     requires well_formed { IsWellFormed (form_of expr.now) }
     requires below { k < far }
-    ensures answer { result ≡ far_access direction (concordance (C.text source.now) (form_of expr.now)) k }
+    ensures answer { IfOk result (λ found. found ≡ far_access direction (concordance (C.text source.now) (form_of expr.now)) k) }
     ensures counted { C.count counter.old ≤ C.count counter.new }
-    ensures cost { C.count counter.new ≤ C.count counter.old + cost (C.text source.now) (C.most source.now) (form_of expr.now) }
+    ensures cost { IfOk result (λ _. C.count counter.new ≤
+        C.count counter.old + cost (C.text source.now) (C.most source.now) (form_of expr.now)) }
+    ensures capped { (cap : ℕ) → C.Caps source.now cap → C.count counter.old ≤ cap → C.count counter.new ≤ cap }
 {
     let span = source.span();
-    let passed = passed_member(expr, direction, source, k, counter);
-    let from = resume(direction, span, passed)?;
+    let passed = passed_member(expr, direction, source, k, counter)?;
+    let Some(from) = resume(direction, span, passed) else {
+        return Ok(None);
+    };
     near_access(expr, direction, source, from, counter)
 }
 
@@ -96,16 +104,21 @@ fn passed_member<C: CountedLeaves>(
     source: &C,
     k: u64,
     counter: &mut C::Counter,
-) -> Option<Interval>
+) -> Result<Option<Interval>, C::Stop>
     requires chain { IsChain (form_of expr.now) }
     requires well_formed { IsWellFormed (form_of expr.now) }
     requires below { k < far }
-    ensures answer { result ≡ passed direction (concordance (C.text source.now) (form_of expr.now)) (C.text source.now).next k }
-    ensures within { IfSome result (λ a. a.end < address_end) }
+    ensures answer { IfOk result (λ found. found ≡
+        passed direction (concordance (C.text source.now) (form_of expr.now)) (C.text source.now).next k) }
+    ensures within { IfOk result (λ found. IfSome found (λ a. a.end < address_end)) }
     ensures counted { C.count counter.old ≤ C.count counter.new }
-    ensures cost { C.count counter.new ≤ C.count counter.old + near_cost (C.text source.now) (C.most source.now) (form_of expr.now) }
+    ensures cost { IfOk result (λ _. C.count counter.new ≤
+        C.count counter.old + near_cost (C.text source.now) (C.most source.now) (form_of expr.now)) }
+    ensures capped { (cap : ℕ) → C.Caps source.now cap → C.count counter.old ≤ cap → C.count counter.new ≤ cap }
 {
-    let outside = outside(direction, source.span(), k)?;
+    let Some(outside) = outside(direction, source.span(), k) else {
+        return Ok(None);
+    };
     near_access(expr, opposite(direction), source, outside, counter)
 }
 
@@ -118,13 +131,15 @@ fn near_access<C: CountedLeaves>(
     source: &C,
     k: u64,
     counter: &mut C::Counter,
-) -> Option<Interval>
+) -> Result<Option<Interval>, C::Stop>
     requires chain { IsChain (form_of expr.now) }
     requires well_formed { IsWellFormed (form_of expr.now) }
     requires below { k < far }
-    ensures answer { result ≡ near_access direction (concordance (C.text source.now) (form_of expr.now)) k }
+    ensures answer { IfOk result (λ found. found ≡ near_access direction (concordance (C.text source.now) (form_of expr.now)) k) }
     ensures counted { C.count counter.old ≤ C.count counter.new }
-    ensures cost { C.count counter.new ≤ C.count counter.old + near_cost (C.text source.now) (C.most source.now) (form_of expr.now) }
+    ensures cost { IfOk result (λ _. C.count counter.new ≤
+        C.count counter.old + near_cost (C.text source.now) (C.most source.now) (form_of expr.now)) }
+    ensures capped { (cap : ℕ) → C.Caps source.now cap → C.count counter.old ≤ cap → C.count counter.new ≤ cap }
 {
     match expr {
         Expr::Both(operands) => both_of(operands, direction, source, k, counter),
@@ -142,16 +157,23 @@ fn both_of<C: CountedLeaves>(
     source: &C,
     k: u64,
     counter: &mut C::Counter,
-) -> Option<Interval>
+) -> Result<Option<Interval>, C::Stop>
     requires operands { AreOperands (operand_forms operands.now) }
     requires below { k < far }
-    ensures answer { result ≡ near_access direction (concordance (C.text source.now) (both (operand_forms operands.now))) k }
+    ensures answer { IfOk result (λ found. found ≡
+        near_access direction (concordance (C.text source.now) (both (operand_forms operands.now))) k) }
     ensures counted { C.count counter.old ≤ C.count counter.new }
-    ensures cost { C.count counter.new ≤ C.count counter.old + 2 * operand_costs (C.text source.now) (C.most source.now) operands.now }
+    ensures cost { IfOk result (λ _. C.count counter.new ≤
+        C.count counter.old + 2 * operand_costs (C.text source.now) (C.most source.now) operands.now) }
+    ensures capped { (cap : ℕ) → C.Caps source.now cap → C.count counter.old ≤ cap → C.count counter.new ≤ cap }
 {
-    let far = farthest(operands, direction, source, k, counter)?;
-    let near = farthest(operands, opposite(direction), source, far, counter)?;
-    Some(between(direction, near, far))
+    let Some(far) = farthest(operands, direction, source, k, counter)? else {
+        return Ok(None);
+    };
+    let Some(near) = farthest(operands, opposite(direction), source, far, counter)? else {
+        return Ok(None);
+    };
+    Ok(Some(between(direction, near, far)))
 }
 
 /// The farthest side of the operands' answers at `k`, or `k` where that is farther.
@@ -162,20 +184,25 @@ fn farthest<C: CountedLeaves>(
     source: &C,
     k: u64,
     counter: &mut C::Counter,
-) -> Option<u64>
+) -> Result<Option<u64>, C::Stop>
     requires operands { AreWellFormed (operand_forms operands.now) }
     requires below { k < far }
-    ensures answer { result ≡ farthest direction (operand_lists (C.text source.now) operands.now) k k }
-    ensures below { IfSome result (λ side. side < far) }
+    ensures answer { IfOk result (λ found. found ≡ farthest direction (operand_lists (C.text source.now) operands.now) k k) }
+    ensures below { IfOk result (λ found. IfSome found (λ side. side < far)) }
     ensures counted { C.count counter.old ≤ C.count counter.new }
-    ensures cost { C.count counter.new ≤ C.count counter.old + operand_costs (C.text source.now) (C.most source.now) operands.now }
+    ensures cost { IfOk result (λ _. C.count counter.new ≤
+        C.count counter.old + operand_costs (C.text source.now) (C.most source.now) operands.now) }
+    ensures capped { (cap : ℕ) → C.Caps source.now cap → C.count counter.old ≤ cap → C.count counter.new ≤ cap }
 {
     let mut side = k;
     for operand in operands {
-        let answer = access(operand, access_by_near_sides(direction), source, k, counter)?;
+        let Some(answer) = access(operand, access_by_near_sides(direction), source, k, counter)?
+        else {
+            return Ok(None);
+        };
         side = farther(direction, side, answer);
     }
-    Some(side)
+    Ok(Some(side))
 }
 
 /// "One of": the best of the operands' answers.
@@ -186,19 +213,22 @@ fn one_of<C: CountedLeaves>(
     source: &C,
     k: u64,
     counter: &mut C::Counter,
-) -> Option<Interval>
+) -> Result<Option<Interval>, C::Stop>
     requires operands { AreOperands (operand_forms operands.now) }
     requires below { k < far }
-    ensures answer { result ≡ near_access direction (concordance (C.text source.now) (one (operand_forms operands.now))) k }
+    ensures answer { IfOk result (λ found. found ≡
+        near_access direction (concordance (C.text source.now) (one (operand_forms operands.now))) k) }
     ensures counted { C.count counter.old ≤ C.count counter.new }
-    ensures cost { C.count counter.new ≤ C.count counter.old + operand_costs (C.text source.now) (C.most source.now) operands.now }
+    ensures cost { IfOk result (λ _. C.count counter.new ≤
+        C.count counter.old + operand_costs (C.text source.now) (C.most source.now) operands.now) }
+    ensures capped { (cap : ℕ) → C.Caps source.now cap → C.count counter.old ≤ cap → C.count counter.new ≤ cap }
 {
     let mut best = None;
     for operand in operands {
-        let answer = access(operand, access_by_near_sides(direction), source, k, counter);
+        let answer = access(operand, access_by_near_sides(direction), source, k, counter)?;
         best = better(direction, best, answer);
     }
-    best
+    Ok(best)
 }
 
 /// "Followed by": through all operands, and back from the answer of the last through the others.
@@ -209,19 +239,32 @@ fn followed_by<C: CountedLeaves>(
     source: &C,
     k: u64,
     counter: &mut C::Counter,
-) -> Option<Interval>
+) -> Result<Option<Interval>, C::Stop>
     requires operands { AreOperands (operand_forms operands.now) }
     requires below { k < far }
-    ensures answer { result ≡ near_access direction (concordance (C.text source.now) (seq (operand_forms operands.now))) k }
+    ensures answer { IfOk result (λ found. found ≡
+        near_access direction (concordance (C.text source.now) (seq (operand_forms operands.now))) k) }
     ensures counted { C.count counter.old ≤ C.count counter.new }
-    ensures cost { C.count counter.new ≤ C.count counter.old + 2 * operand_costs (C.text source.now) (C.most source.now) operands.now }
+    ensures cost { IfOk result (λ _. C.count counter.new ≤
+        C.count counter.old + 2 * operand_costs (C.text source.now) (C.most source.now) operands.now) }
+    ensures capped { (cap : ℕ) → C.Caps source.now cap → C.count counter.old ≤ cap → C.count counter.new ≤ cap }
 {
-    let (nearest, after_nearest) = next_operand(direction, operands)?;
-    let (_, before_farthest) = next_operand(opposite(direction), operands)?;
-    let found = access(nearest, access_by_near_sides(direction), source, k, counter)?;
-    let far = walk(after_nearest, direction, source, found, counter)?;
-    let near = walk(before_farthest, opposite(direction), source, far, counter)?;
-    Some(join(direction, near, far))
+    let Some((nearest, after_nearest)) = next_operand(direction, operands) else {
+        return Ok(None);
+    };
+    let Some((_, before_farthest)) = next_operand(opposite(direction), operands) else {
+        return Ok(None);
+    };
+    let Some(found) = access(nearest, access_by_near_sides(direction), source, k, counter)? else {
+        return Ok(None);
+    };
+    let Some(far) = walk(after_nearest, direction, source, found, counter)? else {
+        return Ok(None);
+    };
+    let Some(near) = walk(before_farthest, opposite(direction), source, far, counter)? else {
+        return Ok(None);
+    };
+    Ok(Some(join(direction, near, far)))
 }
 
 /// "Followed by", by the far sides: from the last operand's answer back through the others, and on again. A way on that
@@ -233,22 +276,33 @@ fn followed_by_far_sides<C: CountedLeaves>(
     source: &C,
     k: u64,
     counter: &mut C::Counter,
-) -> Option<Interval>
+) -> Result<Option<Interval>, C::Stop>
     requires operands { AreOperands (operand_forms operands.now) }
     requires below { k < far }
-    ensures answer { result ≡ far_access direction (concordance (C.text source.now) (seq (operand_forms operands.now))) k }
+    ensures answer { IfOk result (λ found. found ≡
+        far_access direction (concordance (C.text source.now) (seq (operand_forms operands.now))) k) }
     ensures counted { C.count counter.old ≤ C.count counter.new }
-    ensures cost { C.count counter.new ≤ C.count counter.old + 4 * operand_costs (C.text source.now) (C.most source.now) operands.now }
+    ensures cost { IfOk result (λ _. C.count counter.new ≤
+        C.count counter.old + 4 * operand_costs (C.text source.now) (C.most source.now) operands.now) }
+    ensures capped { (cap : ℕ) → C.Caps source.now cap → C.count counter.old ≤ cap → C.count counter.new ≤ cap }
 {
-    let (_, after_nearest) = next_operand(direction, operands)?;
-    let (farthest, before_farthest) = next_operand(opposite(direction), operands)?;
-    let found = access(farthest, access_by_far_sides(direction), source, k, counter)?;
-    match walk(before_farthest, opposite(direction), source, found, counter) {
+    let Some((_, after_nearest)) = next_operand(direction, operands) else {
+        return Ok(None);
+    };
+    let Some((farthest, before_farthest)) = next_operand(opposite(direction), operands) else {
+        return Ok(None);
+    };
+    let Some(found) = access(farthest, access_by_far_sides(direction), source, k, counter)? else {
+        return Ok(None);
+    };
+    match walk(before_farthest, opposite(direction), source, found, counter)? {
         None => next_past(operands, direction, source, None, counter),
         Some(near) => {
-            let far = walk(after_nearest, direction, source, near, counter)?;
+            let Some(far) = walk(after_nearest, direction, source, near, counter)? else {
+                return Ok(None);
+            };
             if reaches(direction, k, far) {
-                Some(join(direction, near, far))
+                Ok(Some(join(direction, near, far)))
             } else {
                 next_past(operands, direction, source, Some(near), counter)
             }
@@ -264,15 +318,19 @@ fn next_past<C: CountedLeaves>(
     source: &C,
     near: Option<Interval>,
     counter: &mut C::Counter,
-) -> Option<Interval>
+) -> Result<Option<Interval>, C::Stop>
     requires operands { AreOperands (operand_forms operands.now) }
     requires within { IfSome near (λ a. a.end < address_end) }
-    ensures answer { result ≡
-        next_past direction (concordance (C.text source.now) (seq (operand_forms operands.now))) (C.text source.now).first (C.text source.now).next near }
+    ensures answer { IfOk result (λ found. found ≡
+        next_past direction (concordance (C.text source.now) (seq (operand_forms operands.now))) (C.text source.now).first (C.text source.now).next near) }
     ensures counted { C.count counter.old ≤ C.count counter.new }
-    ensures cost { C.count counter.new ≤ C.count counter.old + 2 * operand_costs (C.text source.now) (C.most source.now) operands.now }
+    ensures cost { IfOk result (λ _. C.count counter.new ≤
+        C.count counter.old + 2 * operand_costs (C.text source.now) (C.most source.now) operands.now) }
+    ensures capped { (cap : ℕ) → C.Caps source.now cap → C.count counter.old ≤ cap → C.count counter.new ≤ cap }
 {
-    let from = resume(direction, source.span(), near)?;
+    let Some(from) = resume(direction, source.span(), near) else {
+        return Ok(None);
+    };
     followed_by(operands, direction, source, from, counter)
 }
 
@@ -284,26 +342,28 @@ fn walk<C: CountedLeaves>(
     source: &C,
     start: Interval,
     counter: &mut C::Counter,
-) -> Option<Interval>
+) -> Result<Option<Interval>, C::Stop>
     requires operands { AreWellFormed (operand_forms operands.now) }
     requires within { start.end < address_end }
-    ensures answer { result ≡ walk direction (operand_lists (C.text source.now) operands.now) start }
-    ensures within { IfSome result (λ a. a.end < address_end) }
+    ensures answer { IfOk result (λ found. found ≡ walk direction (operand_lists (C.text source.now) operands.now) start) }
+    ensures within { IfOk result (λ found. IfSome found (λ a. a.end < address_end)) }
     ensures counted { C.count counter.old ≤ C.count counter.new }
-    ensures cost { C.count counter.new ≤ C.count counter.old + operand_costs (C.text source.now) (C.most source.now) operands.now }
+    ensures cost { IfOk result (λ _. C.count counter.new ≤
+        C.count counter.old + operand_costs (C.text source.now) (C.most source.now) operands.now) }
+    ensures capped { (cap : ℕ) → C.Caps source.now cap → C.count counter.old ≤ cap → C.count counter.new ≤ cap }
 {
     let mut answer = start;
     let mut rest = operands;
     while let Some((operand, others)) = next_operand(direction, rest) {
-        let from = beyond(direction, answer)?;
-        answer = access(
-            operand,
-            access_by_near_sides(direction),
-            source,
-            from,
-            counter,
-        )?;
+        let Some(from) = beyond(direction, answer) else {
+            return Ok(None);
+        };
+        let near = access_by_near_sides(direction);
+        let Some(next) = access(operand, near, source, from, counter)? else {
+            return Ok(None);
+        };
+        answer = next;
         rest = others;
     }
-    Some(answer)
+    Ok(Some(answer))
 }

@@ -1,4 +1,4 @@
-ghost use Rattle.std.specs.Prelude.{◌≡◌, ◌+◌, ◌<◌, ◌≤◌, Some, IfSome, MatchOption};
+ghost use Rattle.std.specs.Prelude.{◌≡◌, ◌+◌, ◌<◌, ◌≤◌, Some, IfSome, MatchOption, ℕ, IfOk};
 ghost use Rattle.gcl_model.specs.Limits.{address_end, far};
 ghost use Rattle.gcl_model.specs.Forms.{containing};
 ghost use Rattle.gcl_model.specs.FormOf.{form_of};
@@ -29,30 +29,37 @@ pub(crate) fn containment_access<C: CountedLeaves>(
     k: u64,
     known: &mut Option<Known>,
     counter: &mut C::Counter,
-) -> Option<Interval>
+) -> Result<Option<Interval>, C::Stop>
     requires containment { IsContainment (form_of expr.now) }
     requires well_formed { IsWellFormed (form_of expr.now) }
     requires below { k < far }
     requires known { KnowsSecond (direction_of wanted) (C.text source.now) (form_of expr.now) known.old }
-    ensures answer { result ≡ access_of wanted (concordance (C.text source.now) (form_of expr.now)) k }
-    ensures within { IfSome result (λ a. a.end < address_end) }
-    ensures known { KnowsSecond (direction_of wanted) (C.text source.now) (form_of expr.now) known.new }
+    ensures answer { IfOk result (λ found. found ≡ access_of wanted (concordance (C.text source.now) (form_of expr.now)) k) }
+    ensures within { IfOk result (λ found. IfSome found (λ a. a.end < address_end)) }
+    ensures known { IfOk result (λ _. KnowsSecond (direction_of wanted) (C.text source.now) (form_of expr.now) known.new) }
     ensures counted { C.count counter.old ≤ C.count counter.new }
-    ensures cost { C.count counter.new ≤ C.count counter.old + cost (C.text source.now) (C.most source.now) (form_of expr.now) }
+    ensures cost { IfOk result (λ _. C.count counter.new ≤
+        C.count counter.old + cost (C.text source.now) (C.most source.now) (form_of expr.now)) }
+    ensures capped { (cap : ℕ) → C.Caps source.now cap → C.count counter.old ≤ cap → C.count counter.new ≤ cap }
 {
     let (containment, first, second) = operands(expr);
     let direction = wanted.direction();
     let onward = goes_by(containment, direction);
-    let ahead = element_ahead(expr, wanted, source, k, known, counter);
-    let mut member = first_member(ahead, first, wanted, source, k, counter)?;
+    let ahead = element_ahead(expr, wanted, source, k, known, counter)?;
+    let Some(mut member) = first_member(ahead, first, wanted, source, k, counter)? else {
+        return Ok(None);
+    };
     loop {
         let (asked, at) = question(containment, direction, member);
-        let answer = known_access(second, asked, source, at, known, counter);
+        let answer = known_access(second, asked, source, at, known, counter)?;
         match turn(containment, direction, member, answer) {
-            Turn::Accept => return Some(member),
-            Turn::Finish => return None,
+            Turn::Accept => return Ok(Some(member)),
+            Turn::Finish => return Ok(None),
             Turn::GoTo(next) => {
-                member = access(first, onward, source, next, counter)?;
+                let Some(later) = access(first, onward, source, next, counter)? else {
+                    return Ok(None);
+                };
+                member = later;
             }
         }
     }
@@ -68,17 +75,20 @@ fn first_member<C: CountedLeaves>(
     source: &C,
     k: u64,
     counter: &mut C::Counter,
-) -> Option<Interval>
+) -> Result<Option<Interval>, C::Stop>
     requires well_formed { IsWellFormed (form_of first.now) }
     requires below { k < far }
     requires within { IfSome ahead (λ a. a.end < address_end) }
-    ensures answer { MatchOption ahead (result ≡ access_of wanted (concordance (C.text source.now) (form_of first.now)) k) (λ a. result ≡ Some a) }
-    ensures within { IfSome result (λ a. a.end < address_end) }
+    ensures answer { IfOk result (λ found. MatchOption ahead (found ≡
+        access_of wanted (concordance (C.text source.now) (form_of first.now)) k) (λ a. found ≡ Some a)) }
+    ensures within { IfOk result (λ found. IfSome found (λ a. a.end < address_end)) }
     ensures counted { C.count counter.old ≤ C.count counter.new }
-    ensures cost { C.count counter.new ≤ C.count counter.old + cost_in (rounds wanted) (C.text source.now) (C.most source.now) (form_of first.now) }
+    ensures cost { IfOk result (λ _. C.count counter.new ≤
+        C.count counter.old + cost_in (rounds wanted) (C.text source.now) (C.most source.now) (form_of first.now)) }
+    ensures capped { (cap : ℕ) → C.Caps source.now cap → C.count counter.old ≤ cap → C.count counter.new ≤ cap }
 {
     match ahead {
-        Some(member) => Some(member),
+        Some(member) => Ok(Some(member)),
         None => access(first, wanted, source, k, counter),
     }
 }
@@ -94,23 +104,25 @@ fn element_ahead<C: CountedLeaves>(
     k: u64,
     known: &mut Option<Known>,
     counter: &mut C::Counter,
-) -> Option<Interval>
+) -> Result<Option<Interval>, C::Stop>
     requires containment { IsContainment (form_of expr.now) }
     requires well_formed { IsWellFormed (form_of expr.now) }
     requires below { k < far }
     requires known { KnowsSecond (direction_of wanted) (C.text source.now) (form_of expr.now) known.old }
-    ensures begins { IfSome result (MayBegin wanted (C.text source.now) (form_of expr.now) k) }
-    ensures within { IfSome result (λ a. a.end < address_end) }
-    ensures known { KnowsSecond (direction_of wanted) (C.text source.now) (form_of expr.now) known.new }
+    ensures begins { IfOk result (λ found. IfSome found (MayBegin wanted (C.text source.now) (form_of expr.now) k)) }
+    ensures within { IfOk result (λ found. IfSome found (λ a. a.end < address_end)) }
+    ensures known { IfOk result (λ _. KnowsSecond (direction_of wanted) (C.text source.now) (form_of expr.now) known.new) }
     ensures counted { C.count counter.old ≤ C.count counter.new }
-    ensures cost { C.count counter.new ≤ C.count counter.old + ahead_cost wanted (C.text source.now) (C.most source.now) (form_of expr.now) }
+    ensures cost { IfOk result (λ _. C.count counter.new ≤
+        C.count counter.old + ahead_cost wanted (C.text source.now) (C.most source.now) (form_of expr.now)) }
+    ensures capped { (cap : ℕ) → C.Caps source.now cap → C.count counter.old ≤ cap → C.count counter.new ≤ cap }
 {
     let (containment, first, second) = operands(expr);
     match (containment, wanted) {
         (Containment::Containing, Access::FirstStart) => {
             element_behind_answer(first, second, source, k, known, counter)
         }
-        _ => None,
+        _ => Ok(None),
     }
 }
 
@@ -125,28 +137,36 @@ fn element_behind_answer<C: CountedLeaves>(
     k: u64,
     known: &mut Option<Known>,
     counter: &mut C::Counter,
-) -> Option<Interval>
+) -> Result<Option<Interval>, C::Stop>
     requires well_formed { IsWellFormed (form_of second.now) }
     requires below { k < far }
     requires known { IsKnown FirstStart (concordance (C.text source.now) (form_of second.now)) known.old }
-    ensures begins { IfSome result (IsBeginning
-        (concordance (C.text source.now) (form_of first.now)) (concordance (C.text source.now) (containing (form_of first.now) (form_of second.now))) k) }
-    ensures within { IfSome result (λ a. a.end < address_end) }
-    ensures known { IsKnown FirstStart (concordance (C.text source.now) (form_of second.now)) known.new }
+    ensures begins { IfOk result (λ found. IfSome found (IsBeginning
+        (concordance (C.text source.now) (form_of first.now)) (concordance (C.text source.now) (containing (form_of first.now) (form_of second.now))) k)) }
+    ensures within { IfOk result (λ found. IfSome found (λ a. a.end < address_end)) }
+    ensures known { IfOk result (λ _. IsKnown FirstStart (concordance (C.text source.now) (form_of second.now)) known.new) }
     ensures counted { C.count counter.old ≤ C.count counter.new }
-    ensures cost { C.count counter.new + near_cost (C.text source.now) (C.most source.now) (form_of first.now) ≤ C.count counter.old +
-        cost (C.text source.now) (C.most source.now) (form_of first.now) + cost (C.text source.now) (C.most source.now) (form_of second.now) }
+    ensures cost { IfOk result (λ _. C.count counter.new + near_cost (C.text source.now) (C.most source.now) (form_of first.now) ≤
+        C.count counter.old +
+        cost (C.text source.now) (C.most source.now) (form_of first.now) + cost (C.text source.now) (C.most source.now) (form_of second.now)) }
+    ensures capped { (cap : ℕ) → C.Caps source.now cap → C.count counter.old ≤ cap → C.count counter.new ≤ cap }
 {
     if !was_leap(known, k) {
-        return None;
+        return Ok(None);
     }
     // any other first operand is not found by three look-ups
-    let _tokens = element_tokens(first)?;
-    let answer = known_access(second, Access::FirstStart, source, k, known, counter)?;
-    let element = element_up_to(first, source, answer.end, counter)?;
+    let Some(_tokens) = element_tokens(first) else {
+        return Ok(None);
+    };
+    let Some(answer) = known_access(second, Access::FirstStart, source, k, known, counter)? else {
+        return Ok(None);
+    };
+    let Some(element) = element_up_to(first, source, answer.end, counter)? else {
+        return Ok(None);
+    };
     if k <= element.start {
-        Some(element)
+        Ok(Some(element))
     } else {
-        None
+        Ok(None)
     }
 }

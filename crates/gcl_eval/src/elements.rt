@@ -1,6 +1,6 @@
 //! Elements: intervals from one token to another, such as the tags of a line, which the leaves may have at hand.
 
-ghost use Rattle.std.specs.Prelude.{◌≡◌, ◌+◌, ◌*◌, ◌<◌, ◌≤◌, None, Some, IfSome, IsNone};
+ghost use Rattle.std.specs.Prelude.{◌≡◌, ◌+◌, ◌*◌, ◌<◌, ◌≤◌, None, Some, IfSome, IsNone, ℕ, IfOk};
 ghost use Rattle.gcl_model.specs.Forms.{term, no_forms, more_forms};
 ghost use Rattle.gcl_model.specs.Texts.{IsText, next_place};
 ghost use Rattle.gcl_model.specs.Elements.{IsElementUpTo};
@@ -50,21 +50,26 @@ pub(crate) fn element_access<C: CountedLeaves>(
     source: &C,
     k: u64,
     counter: &mut C::Counter,
-) -> Option<Interval>
-    ensures answer { IfSome result (λ a. Some a ≡ access_of wanted (concordance (C.text source.now) (form_of expr.now)) k) }
-    ensures within { IfSome result (λ a. a.end < address_end) }
+) -> Result<Option<Interval>, C::Stop>
+    ensures answer { IfOk result (λ found. IfSome found (λ a. Some a ≡
+        access_of wanted (concordance (C.text source.now) (form_of expr.now)) k)) }
+    ensures within { IfOk result (λ found. IfSome found (λ a. a.end < address_end)) }
     ensures counted { C.count counter.old ≤ C.count counter.new }
     ensures steps { C.count counter.new ≤ C.count counter.old + 3 * C.most source.now }
-    ensures cost { C.count counter.new ≤ C.count counter.old + cost_in (rounds wanted) (C.text source.now) (C.most source.now) (form_of expr.now) }
-    ensures none { IsNone result → C.count counter.new ≡ C.count counter.old }
+    ensures cost { IfOk result (λ _. C.count counter.new ≤
+        C.count counter.old + cost_in (rounds wanted) (C.text source.now) (C.most source.now) (form_of expr.now)) }
+    ensures none { IfOk result (λ found. IsNone found → C.count counter.new ≡ C.count counter.old) }
+    ensures capped { (cap : ℕ) → C.Caps source.now cap → C.count counter.old ≤ cap → C.count counter.new ≤ cap }
 {
-    let (first, second) = element_tokens(expr)?;
+    let Some((first, second)) = element_tokens(expr) else {
+        return Ok(None);
+    };
     // the span tells that the words rise
     let _span = source.span();
     match wanted {
         Access::FirstStart => source.element_from(first.as_slice(), second.as_slice(), k, counter),
         Access::FirstEnd => source.element_up_to(first.as_slice(), second.as_slice(), k, counter),
-        Access::LastEnd | Access::LastStart => None,
+        Access::LastEnd | Access::LastStart => Ok(None),
     }
 }
 
@@ -76,16 +81,19 @@ pub(crate) fn element_up_to<C: CountedLeaves>(
     source: &C,
     k: u64,
     counter: &mut C::Counter,
-) -> Option<Interval>
-    ensures answer { IfSome result (λ a. Some a ≡ first_end (concordance (C.text source.now) (form_of expr.now)) k) }
-    ensures within { IfSome result (λ a. a.end < address_end) }
+) -> Result<Option<Interval>, C::Stop>
+    ensures answer { IfOk result (λ found. IfSome found (λ a. Some a ≡ first_end (concordance (C.text source.now) (form_of expr.now)) k)) }
+    ensures within { IfOk result (λ found. IfSome found (λ a. a.end < address_end)) }
     ensures counted { C.count counter.old ≤ C.count counter.new }
     ensures steps { C.count counter.new ≤ C.count counter.old + 3 * C.most source.now }
+    ensures capped { (cap : ℕ) → C.Caps source.now cap → C.count counter.old ≤ cap → C.count counter.new ≤ cap }
 {
-    if let Some(element) = element_access(expr, Access::FirstEnd, source, k, counter) {
-        return Some(element);
+    if let Some(element) = element_access(expr, Access::FirstEnd, source, k, counter)? {
+        return Ok(Some(element));
     }
-    let (first, second) = element_tokens(expr)?;
+    let Some((first, second)) = element_tokens(expr) else {
+        return Ok(None);
+    };
     three_look_ups(first.as_slice(), second.as_slice(), source, k, counter)
 }
 
@@ -97,20 +105,29 @@ fn three_look_ups<C: CountedLeaves>(
     source: &C,
     k: u64,
     counter: &mut C::Counter,
-) -> Option<Interval>
-    ensures answer { IfSome result (IsElementUpTo (C.text source.now).words first.now second.now k) }
+) -> Result<Option<Interval>, C::Stop>
+    ensures answer { IfOk result (λ found. IfSome found (IsElementUpTo (C.text source.now).words first.now second.now k)) }
     ensures sound { IsText (C.text source.now) }
     ensures counted { C.count counter.old ≤ C.count counter.new }
     ensures steps { C.count counter.new ≤ C.count counter.old + 3 * C.most source.now }
+    ensures capped { (cap : ℕ) → C.Caps source.now cap → C.count counter.old ≤ cap → C.count counter.new ≤ cap }
 {
-    let found = source.next(second, k, counter)?;
-    let behind = found.checked_sub(1)?;
-    let start = source.prev(first, behind, counter)?;
-    let end = source.next(second, start + 1, counter)?;
+    let Some(found) = source.next(second, k, counter)? else {
+        return Ok(None);
+    };
+    let Some(behind) = found.checked_sub(1) else {
+        return Ok(None);
+    };
+    let Some(start) = source.prev(first, behind, counter)? else {
+        return Ok(None);
+    };
+    let Some(end) = source.next(second, start + 1, counter)? else {
+        return Ok(None);
+    };
     if k <= end {
-        Some(Interval::new(start, end))
+        Ok(Some(Interval::new(start, end)))
     } else {
-        None
+        Ok(None)
     }
 }
 
@@ -121,14 +138,18 @@ pub fn element_at_hand<C: CountedLeaves>(
     source: &C,
     k: u64,
     counter: &mut C::Counter,
-) -> Option<Interval>
-    ensures answer { IfSome result (λ a. Some a ≡ first_start (concordance (C.text source.now) (form_of expr.now)) k) }
+) -> Result<Option<Interval>, C::Stop>
+    ensures answer { IfOk result (λ found. IfSome found (λ a. Some a ≡
+        first_start (concordance (C.text source.now) (form_of expr.now)) k)) }
     ensures counted { C.count counter.old ≤ C.count counter.new }
     ensures steps { C.count counter.new ≤ C.count counter.old + 3 * C.most source.now }
-    ensures element { IfSome result (λ _. IsElement (form_of expr.now)) }
-    ensures none { IsNone result → C.count counter.new ≡ C.count counter.old }
+    ensures element { IfOk result (λ found. IfSome found (λ _. IsElement (form_of expr.now))) }
+    ensures none { IfOk result (λ found. IsNone found → C.count counter.new ≡ C.count counter.old) }
+    ensures capped { (cap : ℕ) → C.Caps source.now cap → C.count counter.old ≤ cap → C.count counter.new ≤ cap }
 {
-    let _tokens = element_tokens(expr)?;
+    let Some(_tokens) = element_tokens(expr) else {
+        return Ok(None);
+    };
     element_access(expr, Access::FirstStart, source, k, counter)
 }
 
@@ -143,17 +164,22 @@ pub fn element_onward<C: CountedLeaves>(
     from: u64,
     k: u64,
     counter: &mut C::Counter,
-) -> Option<Option<Interval>>
-    ensures end { IfSome result (λ found. found ≡ None → first_end (concordance (C.text source.now) (form_of expr.now)) k ≡ None) }
-    ensures onward { IfSome result (λ found. IfSome found (IsOnTheWay (concordance (C.text source.now) (form_of expr.now)) from k)) }
-    ensures element { IfSome result (λ _. IsElement (form_of expr.now)) }
+) -> Result<Option<Option<Interval>>, C::Stop>
+    ensures end { IfOk result (λ found. IfSome found (λ found. found ≡
+        None → first_end (concordance (C.text source.now) (form_of expr.now)) k ≡ None)) }
+    ensures onward { IfOk result (λ found. IfSome found (λ found. IfSome found (IsOnTheWay (concordance (C.text source.now) (form_of
+        expr.now)) from k))) }
+    ensures element { IfOk result (λ found. IfSome found (λ _. IsElement (form_of expr.now))) }
     ensures counted { C.count counter.old ≤ C.count counter.new }
     ensures steps { C.count counter.new ≤ C.count counter.old + 3 * C.most source.now }
-    ensures few { IsNone result → C.count counter.new ≤ C.count counter.old + 2 * C.most source.now }
+    ensures few { IfOk result (λ found. IsNone found → C.count counter.new ≤ C.count counter.old + 2 * C.most source.now) }
+    ensures capped { (cap : ℕ) → C.Caps source.now cap → C.count counter.old ≤ cap → C.count counter.new ≤ cap }
 {
-    let (first, second) = element_tokens(expr)?;
-    if let Some(element) = element_access(expr, Access::FirstEnd, source, k, counter) {
-        return Some(Some(element));
+    let Some((first, second)) = element_tokens(expr) else {
+        return Ok(None);
+    };
+    if let Some(element) = element_access(expr, Access::FirstEnd, source, k, counter)? {
+        return Ok(Some(Some(element)));
     }
     onward_by_look_ups(
         first.as_slice(),
@@ -174,22 +200,30 @@ fn onward_by_look_ups<C: CountedLeaves>(
     from: u64,
     k: u64,
     counter: &mut C::Counter,
-) -> Option<Option<Interval>>
-    ensures end { IfSome result (λ found. found ≡ None → None ≡ next_place (C.text source.now).words second.now k) }
-    ensures onward { IfSome result (λ found. IfSome found (LeadsTo (C.text source.now).words first.now second.now from k)) }
+) -> Result<Option<Option<Interval>>, C::Stop>
+    ensures end { IfOk result (λ found. IfSome found (λ found. found ≡ None → None ≡ next_place (C.text source.now).words second.now k)) }
+    ensures onward { IfOk result (λ found. IfSome found (λ found. IfSome found (LeadsTo (C.text source.now).words first.now second.now
+        from k))) }
     ensures sound { IsText (C.text source.now) }
     ensures counted { C.count counter.old ≤ C.count counter.new }
     ensures steps { C.count counter.new ≤ C.count counter.old + 3 * C.most source.now }
-    ensures few { IsNone result → C.count counter.new ≤ C.count counter.old + 2 * C.most source.now }
+    ensures few { IfOk result (λ found. IsNone found → C.count counter.new ≤ C.count counter.old + 2 * C.most source.now) }
+    ensures capped { (cap : ℕ) → C.Caps source.now cap → C.count counter.old ≤ cap → C.count counter.new ≤ cap }
 {
-    let Some(found) = source.next(second, k, counter) else {
-        return Some(None);
+    let Some(found) = source.next(second, k, counter)? else {
+        return Ok(Some(None));
     };
-    let behind = found.checked_sub(1)?;
-    let start = source.prev(first, behind, counter)?;
+    let Some(behind) = found.checked_sub(1) else {
+        return Ok(None);
+    };
+    let Some(start) = source.prev(first, behind, counter)? else {
+        return Ok(None);
+    };
     if start < from {
-        return None;
+        return Ok(None);
     }
-    let end = source.next(second, start + 1, counter)?;
-    Some(Some(Interval::new(start, end)))
+    let Some(end) = source.next(second, start + 1, counter)? else {
+        return Ok(None);
+    };
+    Ok(Some(Some(Interval::new(start, end))))
 }

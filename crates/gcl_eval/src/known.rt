@@ -4,7 +4,7 @@
 //! that starts at 2 or later, (5, 6), is the first from 4 on, too. So who asks at positions that go on keeps the last
 //! answer, and asks again where it was passed.
 
-ghost use Rattle.std.specs.Prelude.{◌≡◌, ◌+◌, ◌<◌, ◌≤◌, IfSome};
+ghost use Rattle.std.specs.Prelude.{◌≡◌, ◌+◌, ◌<◌, ◌≤◌, IfSome, ℕ, IfOk};
 ghost use Rattle.gcl_model.specs.Limits.{address_end, far};
 ghost use Rattle.gcl_model.specs.FormOf.{form_of};
 ghost use Rattle.gcl_model.specs.Meaning.{concordance};
@@ -127,23 +127,25 @@ pub(crate) fn known_access<C: CountedLeaves>(
     k: u64,
     known: &mut Option<Known>,
     counter: &mut C::Counter,
-) -> Option<Interval>
+) -> Result<Option<Interval>, C::Stop>
     requires well_formed { IsWellFormed (form_of expr.now) }
     requires below { k < far }
     requires known { IsKnown wanted (concordance (C.text source.now) (form_of expr.now)) known.old }
-    ensures answer { result ≡ access_of wanted (concordance (C.text source.now) (form_of expr.now)) k }
-    ensures within { IfSome result (λ a. a.end < address_end) }
-    ensures known { IsKnown wanted (concordance (C.text source.now) (form_of expr.now)) known.new }
+    ensures answer { IfOk result (λ found. found ≡ access_of wanted (concordance (C.text source.now) (form_of expr.now)) k) }
+    ensures within { IfOk result (λ found. IfSome found (λ a. a.end < address_end)) }
+    ensures known { IfOk result (λ _. IsKnown wanted (concordance (C.text source.now) (form_of expr.now)) known.new) }
     ensures counted { C.count counter.old ≤ C.count counter.new }
-    ensures cost { C.count counter.new ≤ C.count counter.old + cost (C.text source.now) (C.most source.now) (form_of expr.now) }
+    ensures cost { IfOk result (λ _. C.count counter.new ≤
+        C.count counter.old + cost (C.text source.now) (C.most source.now) (form_of expr.now)) }
+    ensures capped { (cap : ℕ) → C.Caps source.now cap → C.count counter.old ≤ cap → C.count counter.new ≤ cap }
 {
     let last = *known;
     match told(wanted, last, k) {
-        Some(answer) => answer,
+        Some(answer) => Ok(answer),
         None => {
-            let answer = access(expr, wanted, source, k, counter);
+            let answer = access(expr, wanted, source, k, counter)?;
             *known = Some(asked_at(k, &answer));
-            answer
+            Ok(answer)
         }
     }
 }

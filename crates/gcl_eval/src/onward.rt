@@ -4,7 +4,7 @@
 //! only where its member was passed. Of 64 words one is looked up at each member, and the other 63 are known. So is all
 //! but the last word of the next row of "ha ha ha".
 
-ghost use Rattle.std.specs.Prelude.{◌≡◌, ◌+◌, ◌<◌, ◌≤◌, length, IfSome, set, get_or, None};
+ghost use Rattle.std.specs.Prelude.{◌≡◌, ◌+◌, ◌<◌, ◌≤◌, length, IfSome, set, get_or, None, ℕ, IfOk};
 ghost use Rattle.gcl_model.specs.Limits.{address_end, far};
 ghost use Rattle.gcl_model.specs.Forms.{one, phrase};
 ghost use Rattle.gcl_model.specs.FormOf.{form_of};
@@ -35,15 +35,17 @@ pub(crate) fn next_member<C: CountedLeaves>(
     k: u64,
     known: &mut [Option<Known>; MOST_KNOWN],
     counter: &mut C::Counter,
-) -> Option<Interval>
+) -> Result<Option<Interval>, C::Stop>
     requires well_formed { IsWellFormed (form_of expr.now) }
     requires below { k < far }
     requires known { KnowsOperands (C.text source.now) (form_of expr.now) known.old }
-    ensures answer { result ≡ first_start (concordance (C.text source.now) (form_of expr.now)) k }
-    ensures within { IfSome result (λ a. a.end < address_end) }
-    ensures known { KnowsOperands (C.text source.now) (form_of expr.now) known.new }
+    ensures answer { IfOk result (λ found. found ≡ first_start (concordance (C.text source.now) (form_of expr.now)) k) }
+    ensures within { IfOk result (λ found. IfSome found (λ a. a.end < address_end)) }
+    ensures known { IfOk result (λ _. KnowsOperands (C.text source.now) (form_of expr.now) known.new) }
     ensures counted { C.count counter.old ≤ C.count counter.new }
-    ensures cost { C.count counter.new ≤ C.count counter.old + near_cost (C.text source.now) (C.most source.now) (form_of expr.now) }
+    ensures cost { IfOk result (λ _. C.count counter.new ≤
+        C.count counter.old + near_cost (C.text source.now) (C.most source.now) (form_of expr.now)) }
+    ensures capped { (cap : ℕ) → C.Caps source.now cap → C.count counter.old ≤ cap → C.count counter.new ≤ cap }
 {
     match expr {
         Expr::One(operands) => first_of_one(operands, source, k, known, counter),
@@ -63,24 +65,26 @@ fn first_of_one<C: CountedLeaves>(
     k: u64,
     known: &mut [Option<Known>; MOST_KNOWN],
     counter: &mut C::Counter,
-) -> Option<Interval>
+) -> Result<Option<Interval>, C::Stop>
     requires operands { AreOperands (operand_forms operands.now) }
     requires below { k < far }
     requires known { AreKnown (operand_lists (C.text source.now) operands.now) known.old }
-    ensures answer { result ≡ first_start (concordance (C.text source.now) (one (operand_forms operands.now))) k }
-    ensures within { IfSome result (λ a. a.end < address_end) }
-    ensures known { AreKnown (operand_lists (C.text source.now) operands.now) known.new }
+    ensures answer { IfOk result (λ found. found ≡ first_start (concordance (C.text source.now) (one (operand_forms operands.now))) k) }
+    ensures within { IfOk result (λ found. IfSome found (λ a. a.end < address_end)) }
+    ensures known { IfOk result (λ _. AreKnown (operand_lists (C.text source.now) operands.now) known.new) }
     ensures counted { C.count counter.old ≤ C.count counter.new }
-    ensures cost { C.count counter.new ≤ C.count counter.old + operand_costs (C.text source.now) (C.most source.now) operands.now }
+    ensures cost { IfOk result (λ _. C.count counter.new ≤
+        C.count counter.old + operand_costs (C.text source.now) (C.most source.now) operands.now) }
+    ensures capped { (cap : ℕ) → C.Caps source.now cap → C.count counter.old ≤ cap → C.count counter.new ≤ cap }
 {
     let mut best = None;
     for (number, operand) in operands.iter().enumerate() {
         let mut last = known_of(known, number);
-        let answer = known_access(operand, Access::FirstStart, source, k, &mut last, counter);
+        let answer = known_access(operand, Access::FirstStart, source, k, &mut last, counter)?;
         keep(known, number, last);
         best = better(Direction::Forward, best, answer);
     }
-    best
+    Ok(best)
 }
 
 /// A containment: what is known of its second operand has the first place.
@@ -91,21 +95,23 @@ fn first_of_containment<C: CountedLeaves>(
     k: u64,
     known: &mut [Option<Known>; MOST_KNOWN],
     counter: &mut C::Counter,
-) -> Option<Interval>
+) -> Result<Option<Interval>, C::Stop>
     requires containment { IsContainment (form_of expr.now) }
     requires well_formed { IsWellFormed (form_of expr.now) }
     requires below { k < far }
     requires known { KnowsOperands (C.text source.now) (form_of expr.now) known.old }
-    ensures answer { result ≡ first_start (concordance (C.text source.now) (form_of expr.now)) k }
-    ensures within { IfSome result (λ a. a.end < address_end) }
-    ensures known { KnowsOperands (C.text source.now) (form_of expr.now) known.new }
+    ensures answer { IfOk result (λ found. found ≡ first_start (concordance (C.text source.now) (form_of expr.now)) k) }
+    ensures within { IfOk result (λ found. IfSome found (λ a. a.end < address_end)) }
+    ensures known { IfOk result (λ _. KnowsOperands (C.text source.now) (form_of expr.now) known.new) }
     ensures counted { C.count counter.old ≤ C.count counter.new }
-    ensures cost { C.count counter.new ≤ C.count counter.old + cost (C.text source.now) (C.most source.now) (form_of expr.now) }
+    ensures cost { IfOk result (λ _. C.count counter.new ≤
+        C.count counter.old + cost (C.text source.now) (C.most source.now) (form_of expr.now)) }
+    ensures capped { (cap : ℕ) → C.Caps source.now cap → C.count counter.old ≤ cap → C.count counter.new ≤ cap }
 {
     let mut last = known_of(known, 0);
-    let answer = containment_access(expr, Access::FirstStart, source, k, &mut last, counter);
+    let answer = containment_access(expr, Access::FirstStart, source, k, &mut last, counter)?;
     keep(known, 0, last);
-    answer
+    Ok(answer)
 }
 
 /// A phrase: of one that is one word again and again, the last row has the first place, and only the address right behind it is looked at.
@@ -115,24 +121,26 @@ fn first_of_phrase<C: CountedLeaves>(
     k: u64,
     known: &mut [Option<Known>; MOST_KNOWN],
     counter: &mut C::Counter,
-) -> Option<Interval>
+) -> Result<Option<Interval>, C::Stop>
     requires several { 2 ≤ length tokens.now }
     requires below { k < far }
     requires known { KnowsRun (C.text source.now) tokens.now (get_or known.old 0 None) }
-    ensures answer { result ≡ first_start (concordance (C.text source.now) (phrase tokens.now)) k }
-    ensures within { IfSome result (λ a. a.end < address_end) }
-    ensures known { KnowsRun (C.text source.now) tokens.now (get_or known.new 0 None) }
+    ensures answer { IfOk result (λ found. found ≡ first_start (concordance (C.text source.now) (phrase tokens.now)) k) }
+    ensures within { IfOk result (λ found. IfSome found (λ a. a.end < address_end)) }
+    ensures known { IfOk result (λ _. KnowsRun (C.text source.now) tokens.now (get_or known.new 0 None)) }
     ensures counted { C.count counter.old ≤ C.count counter.new }
-    ensures cost { C.count counter.new ≤ C.count counter.old + cost (C.text source.now) (C.most source.now) (phrase tokens.now) }
+    ensures cost { IfOk result (λ _. C.count counter.new ≤
+        C.count counter.old + cost (C.text source.now) (C.most source.now) (phrase tokens.now)) }
+    ensures capped { (cap : ℕ) → C.Caps source.now cap → C.count counter.old ≤ cap → C.count counter.new ≤ cap }
 {
     // the span tells that the words rise
     let _span = source.span();
     let last = known_of(known, 0);
-    let answer = row_from(tokens, source, k, &last, counter);
+    let answer = row_from(tokens, source, k, &last, counter)?;
     if last.is_some() || has_one_word(tokens) {
         keep(known, 0, Some(asked_at(k, &answer)));
     }
-    answer
+    Ok(answer)
 }
 
 /// The first row from `k` on, by the row right before it where that is known.
@@ -143,13 +151,15 @@ fn row_from<C: CountedLeaves>(
     k: u64,
     last: &Option<Known>,
     counter: &mut C::Counter,
-) -> Option<Interval>
+) -> Result<Option<Interval>, C::Stop>
     requires several { 2 ≤ length tokens.now }
     requires below { k < far }
     requires last { KnowsRun (C.text source.now) tokens.now last.now }
-    ensures answer { result ≡ first_start (concordance (C.text source.now) (phrase tokens.now)) k }
+    ensures answer { IfOk result (λ found. found ≡ first_start (concordance (C.text source.now) (phrase tokens.now)) k) }
     ensures counted { C.count counter.old ≤ C.count counter.new }
-    ensures cost { C.count counter.new ≤ C.count counter.old + cost (C.text source.now) (C.most source.now) (phrase tokens.now) }
+    ensures cost { IfOk result (λ _. C.count counter.new ≤
+        C.count counter.old + cost (C.text source.now) (C.most source.now) (phrase tokens.now)) }
+    ensures capped { (cap : ℕ) → C.Caps source.now cap → C.count counter.old ≤ cap → C.count counter.new ≤ cap }
 {
     match right_before(last, k) {
         Some(row) => counted_next_row(tokens, source, row, counter),

@@ -1,4 +1,4 @@
-ghost use Rattle.std.specs.Prelude.{◌≡◌, ◌+◌, ◌<◌, ◌≤◌, length};
+ghost use Rattle.std.specs.Prelude.{◌≡◌, ◌+◌, ◌<◌, ◌≤◌, length, ℕ, IfOk};
 ghost use Rattle.gcl_model.specs.Limits.{far};
 ghost use Rattle.gcl_model.specs.Forms.{phrase};
 ghost use Rattle.gcl_model.specs.Meaning.{concordance};
@@ -16,12 +16,14 @@ pub(crate) fn phrase_access<C: CountedLeaves>(
     source: &C,
     k: u64,
     counter: &mut C::Counter,
-) -> Option<Interval>
+) -> Result<Option<Interval>, C::Stop>
     requires several { 2 ≤ length tokens.now }
     requires below { k < far }
-    ensures answer { result ≡ access_of access (concordance (C.text source.now) (phrase tokens.now)) k }
+    ensures answer { IfOk result (λ found. found ≡ access_of access (concordance (C.text source.now) (phrase tokens.now)) k) }
     ensures counted { C.count counter.old ≤ C.count counter.new }
-    ensures cost { C.count counter.new ≤ C.count counter.old + cost (C.text source.now) (C.most source.now) (phrase tokens.now) }
+    ensures cost { IfOk result (λ _. C.count counter.new ≤
+        C.count counter.old + cost (C.text source.now) (C.most source.now) (phrase tokens.now)) }
+    ensures capped { (cap : ℕ) → C.Caps source.now cap → C.count counter.old ≤ cap → C.count counter.new ≤ cap }
 {
     match access {
         Access::FirstStart => counted_first_start(tokens, source, k, counter),

@@ -1,4 +1,4 @@
-ghost use Rattle.std.specs.Prelude.{◌≡◌, ◌+◌, ◌*◌, ◌≤◌, true, false, IsTrue, IfSome, IsNone};
+ghost use Rattle.std.specs.Prelude.{◌≡◌, ℕ, ◌+◌, ◌*◌, ◌≤◌, true, false, IsTrue, IfSome, IsNone, IfOk};
 ghost use Rattle.gcl_model.specs.Texts.{holds, next_place, previous_place, any_pair};
 ghost use Rattle.gcl_model.specs.Elements.{IsElementFrom, IsElementUpTo};
 
@@ -7,6 +7,7 @@ use crate::leaves::Leaves;
 use crate::pair::Pair;
 use crate::span::Span;
 use crate::steps::{Ledger, Steps};
+use std::convert::Infallible;
 use std::marker::PhantomData;
 
 /// Leaves of which only the caller has the counter. Code that goes over this trait can make no counter of its own, so each of its
@@ -18,6 +19,9 @@ pub trait CountedLeaves {
     /// What look-ups are counted on.
     type Counter;
 
+    /// Why a look-up is refused: `Infallible` where none is.
+    type Stop;
+
     /// The addresses and the words at them, in rising address.
     ghost text: { Self → Text };
 
@@ -27,19 +31,34 @@ pub trait CountedLeaves {
     /// How many look-ups were counted.
     ghost count: { Self.Counter → ℕ };
 
+    /// No look-up is made that would count more than this number, if no more are counted yet.
+    ghost Caps: { Self → ℕ → Type 0 };
+
     /// The least address from `k` on that holds the term.
-    fn next(&self, term: &[u8], k: u64, counter: &mut Self::Counter) -> Option<u64>
-        ensures answer { result ≡ next_place (text self.now).words term.now k }
+    fn next(
+        &self,
+        term: &[u8],
+        k: u64,
+        counter: &mut Self::Counter,
+    ) -> Result<Option<u64>, Self::Stop>
+        ensures answer { IfOk result (λ place. place ≡ next_place (text self.now).words term.now k) }
         ensures sound { IsText (text self.now) }
         ensures counted { count counter.old ≤ count counter.new }
-        ensures cost { count counter.new ≤ count counter.old + most self.now };
+        ensures cost { count counter.new ≤ count counter.old + most self.now }
+        ensures capped { (cap : ℕ) → Caps self.now cap → count counter.old ≤ cap → count counter.new ≤ cap };
 
     /// The greatest address up to `k` that holds the term.
-    fn prev(&self, term: &[u8], k: u64, counter: &mut Self::Counter) -> Option<u64>
-        ensures answer { result ≡ previous_place (text self.now).words term.now k }
+    fn prev(
+        &self,
+        term: &[u8],
+        k: u64,
+        counter: &mut Self::Counter,
+    ) -> Result<Option<u64>, Self::Stop>
+        ensures answer { IfOk result (λ place. place ≡ previous_place (text self.now).words term.now k) }
         ensures sound { IsText (text self.now) }
         ensures counted { count counter.old ≤ count counter.new }
-        ensures cost { count counter.new ≤ count counter.old + most self.now };
+        ensures cost { count counter.new ≤ count counter.old + most self.now }
+        ensures capped { (cap : ℕ) → Caps self.now cap → count counter.old ≤ cap → count counter.new ≤ cap };
 
     /// An address from `k` on before which `second` nowhere stands right after `first`, and whether it does there, as far as it is known
     /// without a look-up.
@@ -57,11 +76,12 @@ pub trait CountedLeaves {
         second: &[u8],
         k: u64,
         counter: &mut Self::Counter,
-    ) -> Option<Interval>
-        ensures answer { IfSome result (IsElementFrom (text self.now).words first.now second.now k) }
+    ) -> Result<Option<Interval>, Self::Stop>
+        ensures answer { IfOk result (λ found. IfSome found (IsElementFrom (text self.now).words first.now second.now k)) }
         ensures counted { count counter.old ≤ count counter.new }
         ensures cost { count counter.new ≤ count counter.old + 3 * most self.now }
-        ensures none { IsNone result → count counter.new ≡ count counter.old };
+        ensures none { IfOk result (λ found. IsNone found → count counter.new ≡ count counter.old) }
+        ensures capped { (cap : ℕ) → Caps self.now cap → count counter.old ≤ cap → count counter.new ≤ cap };
 
     /// The first such interval that ends at or after `k`, where it is at hand, and where the `first` before the next `second` from `k` on
     /// leads to it. It is counted alike.
@@ -71,11 +91,12 @@ pub trait CountedLeaves {
         second: &[u8],
         k: u64,
         counter: &mut Self::Counter,
-    ) -> Option<Interval>
-        ensures answer { IfSome result (IsElementUpTo (text self.now).words first.now second.now k) }
+    ) -> Result<Option<Interval>, Self::Stop>
+        ensures answer { IfOk result (λ found. IfSome found (IsElementUpTo (text self.now).words first.now second.now k)) }
         ensures counted { count counter.old ≤ count counter.new }
         ensures cost { count counter.new ≤ count counter.old + 3 * most self.now }
-        ensures none { IsNone result → count counter.new ≡ count counter.old };
+        ensures none { IfOk result (λ found. IsNone found → count counter.new ≡ count counter.old) }
+        ensures capped { (cap : ℕ) → Caps self.now cap → count counter.old ≤ cap → count counter.new ≤ cap };
 
     /// The addresses, and what holds of the words.
     fn span(&self) -> Span
@@ -106,18 +127,22 @@ impl<'a, L: Leaves, S: Ledger> LentLeaves<'a, L, S> {
 impl<L: Leaves, S: Ledger> CountedLeaves for LentLeaves<'_, L, S> {
     type Counter = Steps<S>;
 
+    type Stop = Infallible;
+
     ghost text = { λ lent. L.text lent.leaves.now };
 
     ghost most = { λ lent. L.most lent.leaves.now };
 
     ghost count = { λ steps. steps };
 
-    fn next(&self, term: &[u8], k: u64, steps: &mut Steps<S>) -> Option<u64> {
-        self.leaves.next(term, k, steps)
+    ghost Caps = { λ _ _. ⊥ };
+
+    fn next(&self, term: &[u8], k: u64, steps: &mut Steps<S>) -> Result<Option<u64>, Infallible> {
+        Ok(self.leaves.next(term, k, steps))
     }
 
-    fn prev(&self, term: &[u8], k: u64, steps: &mut Steps<S>) -> Option<u64> {
-        self.leaves.prev(term, k, steps)
+    fn prev(&self, term: &[u8], k: u64, steps: &mut Steps<S>) -> Result<Option<u64>, Infallible> {
+        Ok(self.leaves.prev(term, k, steps))
     }
 
     fn earliest_pair(&self, first: &[u8], second: &[u8], k: u64) -> Pair {
@@ -130,8 +155,8 @@ impl<L: Leaves, S: Ledger> CountedLeaves for LentLeaves<'_, L, S> {
         second: &[u8],
         k: u64,
         steps: &mut Steps<S>,
-    ) -> Option<Interval> {
-        self.leaves.element_from(first, second, k, steps)
+    ) -> Result<Option<Interval>, Infallible> {
+        Ok(self.leaves.element_from(first, second, k, steps))
     }
 
     fn element_up_to(
@@ -140,8 +165,8 @@ impl<L: Leaves, S: Ledger> CountedLeaves for LentLeaves<'_, L, S> {
         second: &[u8],
         k: u64,
         steps: &mut Steps<S>,
-    ) -> Option<Interval> {
-        self.leaves.element_up_to(first, second, k, steps)
+    ) -> Result<Option<Interval>, Infallible> {
+        Ok(self.leaves.element_up_to(first, second, k, steps))
     }
 
     fn span(&self) -> Span {

@@ -7,8 +7,8 @@
 //!
 //! The layers above use the definitions, the laws (`concordances_rise`, `chains_group`), and `Leaves`: words at
 //! addresses that are looked up one at a time. Over `1 to, 2 be, 5 to` the next `to` from 2 on stands at 5. An
-//! evaluator goes over `CountedLeaves`, where it can make no counter of its own; whoever has no counter asks a
-//! `Question`.
+//! evaluator goes over `CountedLeaves`, where it can make no counter of its own, and where a look-up may be refused, as
+//! `LimitedLeaves` do once a limit is reached; whoever has no counter asks a `Question`.
 #![tactic(auto)]
 
 mod blanks;
@@ -22,6 +22,7 @@ mod interval;
 mod interval_list;
 mod laws;
 mod leaves;
+mod limited_leaves;
 mod pair;
 mod questions;
 mod span;
@@ -39,6 +40,7 @@ pub use interval::Interval;
 pub use interval_list::IntervalList;
 pub use laws::{chains_group, concordances_rise};
 pub use leaves::Leaves;
+pub use limited_leaves::{LimitedLeaves, Spent};
 pub use pair::Pair;
 pub use questions::{Question, counted, uncounted};
 pub use span::{ADDRESS_END, Span};

@@ -18,15 +18,16 @@ ghost use Rattle.gcl_readers.specs.Standing.{AllStand, Stands, Tell, TellsFrom, 
 ghost use Rattle.gcl_readers.specs.MergeCost.{cost_left, costs_left};
 
 use crate::front::{Front, Place, front_at, put_front, size_of};
+use crate::look_ups::element_onward;
 use crate::reading::{back, start};
 use gcl_combine::{both_forward_end, both_forward_start, one_forward};
-use gcl_eval::element_onward;
 use gcl_model::{CountedLeaves, Expr, Interval};
 use gcl_order::{after, seq_join};
+use std::convert::Infallible;
 
 /// "One of": the best of an answer and of the operands' ones.
 #[cycle(reading)]
-pub(crate) fn one_find<C: CountedLeaves>(
+pub(crate) fn one_find<C: CountedLeaves<Stop = Infallible>>(
     operands: &[Expr],
     places: &mut [Place],
     source: &C,
@@ -57,7 +58,7 @@ pub(crate) fn one_find<C: CountedLeaves>(
 
 /// "Both of": on to the greatest end, and back from it to the least start.
 #[cycle(reading)]
-pub(crate) fn both_find<C: CountedLeaves>(
+pub(crate) fn both_find<C: CountedLeaves<Stop = Infallible>>(
     operands: &[Expr],
     places: &mut [Place],
     source: &C,
@@ -83,7 +84,7 @@ pub(crate) fn both_find<C: CountedLeaves>(
 
 /// The greatest of an end and of those of the operands' answers from `k` on.
 #[cycle(reading)]
-fn both_ends<C: CountedLeaves>(
+fn both_ends<C: CountedLeaves<Stop = Infallible>>(
     operands: &[Expr],
     places: &mut [Place],
     source: &C,
@@ -116,7 +117,7 @@ fn both_ends<C: CountedLeaves>(
 
 /// The least of a start and of those of the operands' answers up to `k`.
 #[cycle(reading)]
-fn both_starts<C: CountedLeaves>(
+fn both_starts<C: CountedLeaves<Stop = Infallible>>(
     operands: &[Expr],
     places: &mut [Place],
     source: &C,
@@ -147,7 +148,7 @@ fn both_starts<C: CountedLeaves>(
 
 /// "Followed by": on from operand to operand, and back from the last one to the first, which itself is not asked twice.
 #[cycle(reading)]
-pub(crate) fn seq_find<C: CountedLeaves>(
+pub(crate) fn seq_find<C: CountedLeaves<Stop = Infallible>>(
     operands: &[Expr],
     places: &mut [Place],
     source: &C,
@@ -184,7 +185,7 @@ pub(crate) fn seq_find<C: CountedLeaves>(
 /// From a member of "followed by" that ends before `k` on towards the first one that ends there or later: to an element on the way, and else to
 /// the next member.
 #[cycle(reading)]
-pub(crate) fn seq_onward<C: CountedLeaves>(
+pub(crate) fn seq_onward<C: CountedLeaves<Stop = Infallible>>(
     expr: &Expr,
     operands: &[Expr],
     places: &mut [Place],

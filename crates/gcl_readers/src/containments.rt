@@ -19,10 +19,11 @@ use crate::front::{Place, size_of};
 use crate::reading::{end, start};
 use gcl_contain::{Turn, has_turn, in_turn, not_has_turn, not_in_turn};
 use gcl_model::{Containment, CountedLeaves, Expr, Interval};
+use std::convert::Infallible;
 
 /// A containment: from member to member of the first operand, each of which asks the second one once.
 #[cycle(reading)]
-pub(crate) fn containment_find<C: CountedLeaves>(
+pub(crate) fn containment_find<C: CountedLeaves<Stop = Infallible>>(
     expr: &Expr,
     places: &mut [Place],
     source: &C,
@@ -60,7 +61,7 @@ pub(crate) fn containment_find<C: CountedLeaves>(
 
 /// What a member of the first operand asks of the second.
 #[cycle(reading)]
-fn ask<C: CountedLeaves>(
+fn ask<C: CountedLeaves<Stop = Infallible>>(
     containment: Containment,
     second: &Expr,
     places: &mut [Place],
@@ -89,7 +90,7 @@ fn ask<C: CountedLeaves>(
 
 /// The first operand's next member, by the side that the loop goes by.
 #[cycle(reading)]
-fn go_on<C: CountedLeaves>(
+fn go_on<C: CountedLeaves<Stop = Infallible>>(
     containment: Containment,
     first: &Expr,
     places: &mut [Place],

@@ -12,6 +12,7 @@ mod chains;
 mod containments;
 mod front;
 mod listing;
+mod look_ups;
 mod places;
 mod readers;
 mod reading;

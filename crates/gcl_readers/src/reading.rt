@@ -18,14 +18,14 @@ use crate::containments::containment_find;
 use crate::front::{
     Front, Place, front_at, front_between, front_of, member_of, put_front, start_left, told,
 };
+use crate::look_ups::{element_at_hand, next_place, phrase_find, previous_place};
 use fixed_width::{width_first_end, width_first_start, width_last_end};
-use gcl_eval::element_at_hand;
 use gcl_model::{Bytes, CountedLeaves, Expr, Interval};
-use phrase_walk::counted_first_start;
+use std::convert::Infallible;
 
 /// The first member that is left and starts at or after `k`.
 #[cycle(reading)]
-pub(crate) fn start<C: CountedLeaves>(
+pub(crate) fn start<C: CountedLeaves<Stop = Infallible>>(
     expr: &Expr,
     places: &mut [Place],
     source: &C,
@@ -59,7 +59,7 @@ pub(crate) fn start<C: CountedLeaves>(
 
 /// The first member from `k` on, where no answer is known that far.
 #[cycle(reading)]
-fn look<C: CountedLeaves>(
+fn look<C: CountedLeaves<Stop = Infallible>>(
     expr: &Expr,
     places: &mut [Place],
     source: &C,
@@ -88,7 +88,7 @@ fn look<C: CountedLeaves>(
 
 /// The first member from `k` on, by the readers of the operands.
 #[cycle(reading)]
-fn find<C: CountedLeaves>(
+fn find<C: CountedLeaves<Stop = Infallible>>(
     expr: &Expr,
     places: &mut [Place],
     source: &C,
@@ -113,7 +113,7 @@ fn find<C: CountedLeaves>(
     }
     match expr {
         Expr::Term(token) => term_find(token, source, k, counter),
-        Expr::Phrase(tokens) => counted_first_start(tokens, source, k, counter),
+        Expr::Phrase(tokens) => phrase_find(tokens, source, k, counter),
         Expr::Both(operands) => both_find(operands, places, source, k, counter),
         Expr::One(operands) => one_find(operands, places, source, k, None, counter),
         Expr::Seq(operands) => seq_find(operands, places, source, k, counter),
@@ -125,7 +125,7 @@ fn find<C: CountedLeaves>(
     }
 }
 
-fn term_find<C: CountedLeaves>(
+fn term_find<C: CountedLeaves<Stop = Infallible>>(
     token: &Bytes,
     source: &C,
     k: u64,
@@ -135,13 +135,13 @@ fn term_find<C: CountedLeaves>(
     ensures counted { C.count counter.old ≤ C.count counter.new }
     ensures cost { C.count counter.new ≤ C.count counter.old + C.most source.now }
 {
-    let place = source.next(token.as_slice(), k, counter)?;
+    let place = next_place(token.as_slice(), source, k, counter)?;
     Some(Interval::new(place, place))
 }
 
 /// The first member that is left and ends at or after `k`.
 #[cycle(reading)]
-pub(crate) fn end<C: CountedLeaves>(
+pub(crate) fn end<C: CountedLeaves<Stop = Infallible>>(
     expr: &Expr,
     places: &mut [Place],
     source: &C,
@@ -167,7 +167,7 @@ pub(crate) fn end<C: CountedLeaves>(
 }
 
 #[cycle(reading)]
-fn node_end<C: CountedLeaves>(
+fn node_end<C: CountedLeaves<Stop = Infallible>>(
     expr: &Expr,
     places: &mut [Place],
     source: &C,
@@ -197,7 +197,7 @@ fn node_end<C: CountedLeaves>(
 /// From the first member that is left, which ends before `k`, on towards the first one that ends there or later: to the next member, or past
 /// elements, none of which ends there.
 #[cycle(reading)]
-fn onward<C: CountedLeaves>(
+fn onward<C: CountedLeaves<Stop = Infallible>>(
     expr: &Expr,
     places: &mut [Place],
     source: &C,
@@ -229,7 +229,7 @@ fn onward<C: CountedLeaves>(
 
 /// The last member that is left and ends at or before `k`.
 #[cycle(reading)]
-pub(crate) fn back<C: CountedLeaves>(
+pub(crate) fn back<C: CountedLeaves<Stop = Infallible>>(
     expr: &Expr,
     places: &mut [Place],
     source: &C,
@@ -254,7 +254,7 @@ pub(crate) fn back<C: CountedLeaves>(
     }
 }
 
-fn term_back<C: CountedLeaves>(
+fn term_back<C: CountedLeaves<Stop = Infallible>>(
     token: &Bytes,
     places: &mut [Place],
     source: &C,
@@ -269,7 +269,7 @@ fn term_back<C: CountedLeaves>(
     ensures counted { C.count counter.old ≤ C.count counter.new }
     ensures cost { C.count counter.new + cost_left (C.text source.now) (C.most source.now) (term token.now) places.new ≤ C.count counter.old + cost_left (C.text source.now) (C.most source.now) (term token.now) places.old + 2 * C.most source.now }
 {
-    let address = source.prev(token.as_slice(), k, counter)?;
+    let address = previous_place(token.as_slice(), source, k, counter)?;
     if address < start_left(front_of(places)) {
         return None;
     }
@@ -279,7 +279,7 @@ fn term_back<C: CountedLeaves>(
 }
 
 #[cycle(reading)]
-fn node_back<C: CountedLeaves>(
+fn node_back<C: CountedLeaves<Stop = Infallible>>(
     expr: &Expr,
     places: &mut [Place],
     source: &C,
@@ -315,7 +315,7 @@ fn node_back<C: CountedLeaves>(
 
 /// The member after the first one that is left.
 #[cycle(reading)]
-fn peek<C: CountedLeaves>(
+fn peek<C: CountedLeaves<Stop = Infallible>>(
     expr: &Expr,
     places: &mut [Place],
     source: &C,

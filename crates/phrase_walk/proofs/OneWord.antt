@@ -1,11 +1,11 @@
 -- Rows of a phrase that is one word again and again: where one of them ends, it is seen where the next one is.
-use Rattle.std.proofs.Common.{◌≡◌, ℕ, ◌+◌, ◌-◌, ◌<◌, ◌≤◌, leb, true, List, [], length, bytes_eq, Option, Some, None, IfSome, sym, ap, ◌∙◌, subst, arith, inl, inr}
+use Rattle.std.proofs.Common.{◌≡◌, ℕ, ◌+◌, ◌-◌, ◌<◌, ◌≤◌, leb, true, List, [], length, bytes_eq, Option, Some, None, IfSome, sym, ◌∙◌, subst, arith, inl, inr}
 use Rattle.std.proofs.lemmas.Bool.{true≢false, cases_Bool, cases_lt, leb-true, le-leb}
 use Rattle.std.proofs.lemmas.List.Folds.{list_all_at}
 use Rattle.std.proofs.lemmas.Slice.Eq.{bytes_eq-Decides}
 use Rattle.gcl_model.specs.Extents.{Extent, extent}
 use Rattle.gcl_model.specs.Access.{first_start}
-use Rattle.gcl_model.specs.Texts.{Text, IsText, holds, next_place}
+use Rattle.gcl_model.specs.Texts.{Text, IsText, next_place}
 use Rattle.gcl_model.specs.Forms.{phrase}
 use Rattle.gcl_model.specs.Meaning.{concordance}
 use Rattle.gcl_model.proofs.Covers.{find_agree_on, find_gives}

@@ -27,7 +27,8 @@ pub fn phrase_first_start<L: Leaves, S: Ledger>(
     ensures passed { steps.new ≤ steps.old + passed_cost (L.text leaves.now) (L.most leaves.now) tokens.now k result }
 {
     let source = LentLeaves::<L, S>::new(leaves);
-    counted_first_start(tokens, &source, k, steps)
+    let Ok(found) = counted_first_start(tokens, &source, k, steps);
+    found
 }
 
 /// The first that ends at or after `k`.
@@ -47,7 +48,8 @@ pub fn phrase_first_end<L: Leaves, S: Ledger>(
         passed_cost (L.text leaves.now) (L.most leaves.now) tokens.now (k - (length tokens.now - 1)) result }
 {
     let source = LentLeaves::<L, S>::new(leaves);
-    counted_first_end(tokens, &source, k, steps)
+    let Ok(found) = counted_first_end(tokens, &source, k, steps);
+    found
 }
 
 /// The last that ends at or before `k`.
@@ -65,7 +67,8 @@ pub fn phrase_last_end<L: Leaves, S: Ledger>(
     ensures rounds { steps.new ≤ steps.old + rounds_cost (L.text leaves.now).words (L.most leaves.now) tokens.now }
 {
     let source = LentLeaves::<L, S>::new(leaves);
-    counted_last_end(tokens, &source, k, steps)
+    let Ok(found) = counted_last_end(tokens, &source, k, steps);
+    found
 }
 
 /// The last that starts at or before `k`.
@@ -83,5 +86,6 @@ pub fn phrase_last_start<L: Leaves, S: Ledger>(
     ensures rounds { steps.new ≤ steps.old + rounds_cost (L.text leaves.now).words (L.most leaves.now) tokens.now }
 {
     let source = LentLeaves::<L, S>::new(leaves);
-    counted_last_start(tokens, &source, k, steps)
+    let Ok(found) = counted_last_start(tokens, &source, k, steps);
+    found
 }

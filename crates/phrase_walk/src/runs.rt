@@ -1,4 +1,4 @@
-ghost use Rattle.std.specs.Prelude.{◌≡◌, ◌+◌, ◌<◌, ◌≤◌, length, true, IfSome};
+ghost use Rattle.std.specs.Prelude.{◌≡◌, ℕ, ◌+◌, ◌<◌, ◌≤◌, length, true, IfSome, IfOk};
 ghost use Rattle.gcl_model.specs.Limits.{address_end};
 ghost use Rattle.gcl_model.specs.Access.{first_start};
 ghost use Rattle.gcl_model.specs.Forms.{phrase};
@@ -33,26 +33,31 @@ fn first_word(tokens: &TokenList) -> &[u8]
 /// The first row that starts behind this one, of a phrase that is one word again and again: where the row goes on by one address, that is
 /// all that is looked at, since the others are known.
 ///
-/// Of `ha ha ha ha` the row of "ha ha ha" behind (0, 2) is (1, 3).
+/// Of `ha ha ha ha` the row of "ha ha ha" behind (0, 2) is (1, 3). It stops where a look-up is refused.
 pub fn counted_next_row<C: CountedLeaves>(
     tokens: &TokenList,
     source: &C,
     row: Interval,
     counter: &mut C::Counter,
-) -> Option<Interval>
+) -> Result<Option<Interval>, C::Stop>
     requires tokens { 2 ≤ length tokens.now }
     requires one_word { is_one_word tokens.now ≡ true }
     requires row { IsRow (C.text source.now) tokens.now row }
     requires below { row.end < address_end }
-    ensures answer { result ≡ first_start (concordance (C.text source.now) (phrase tokens.now)) (row.start + 1) }
+    ensures answer { IfOk result (λ found. found ≡ first_start (concordance (C.text source.now) (phrase tokens.now)) (row.start + 1)) }
     ensures counted { C.count counter.old ≤ C.count counter.new }
-    ensures cost { C.count counter.new ≤ C.count counter.old + cost (C.text source.now) (C.most source.now) (phrase tokens.now) }
-    ensures once { IfSome result (λ next. next.start ≡ row.start + 1 → C.count counter.new ≤ C.count counter.old + C.most source.now) }
+    ensures cost { IfOk result (λ _. C.count counter.new ≤ C.count counter.old +
+        cost (C.text source.now) (C.most source.now) (phrase tokens.now)) }
+    ensures once { IfOk result (λ found. IfSome found (λ next.
+        next.start ≡ row.start + 1 → C.count counter.new ≤ C.count counter.old + C.most source.now)) }
+    ensures capped { (cap : ℕ) → C.Caps source.now cap → C.count counter.old ≤ cap → C.count counter.new ≤ cap }
 {
     let behind = row.end + 1;
-    let place = source.next(first_word(tokens), behind, counter)?;
+    let Some(place) = source.next(first_word(tokens), behind, counter)? else {
+        return Ok(None);
+    };
     if place == behind {
-        return Some(Interval::new(row.start + 1, place));
+        return Ok(Some(Interval::new(row.start + 1, place)));
     }
     counted_first_start(tokens, source, place, counter)
 }

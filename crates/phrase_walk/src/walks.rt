@@ -1,4 +1,4 @@
-ghost use Rattle.std.specs.Prelude.{◌≡◌, ◌+◌, ◌<◌, ◌≤◌, length, IfSome, IsNone, IsTrue};
+ghost use Rattle.std.specs.Prelude.{◌≡◌, ℕ, ◌+◌, ◌<◌, ◌≤◌, length, IfSome, IsNone, IsTrue, IfOk};
 ghost use Rattle.gcl_model.specs.Access.{first_start, last_start};
 ghost use Rattle.gcl_model.specs.Forms.{phrase};
 ghost use Rattle.gcl_model.specs.Meaning.{concordance};
@@ -9,7 +9,7 @@ ghost use Rattle.phrase_walk.specs.Starts.{IsFollowed, IsInPlace, LeadsTo, NoneB
 
 use gcl_model::{Bytes, CountedLeaves, Interval, Pair};
 
-/// The first row of the tokens that starts at or after `k`.
+/// The first row of the tokens that starts at or after `k`. The walk stops where a look-up is refused.
 // The tokens are asked in a ring, each for its place in the row from the nearest start that is left: so the walk goes as far as the
 // rarest of them lets it, whichever that is, and ends as soon as all agree.
 pub(crate) fn first_from<C: CountedLeaves>(
@@ -17,24 +17,30 @@ pub(crate) fn first_from<C: CountedLeaves>(
     source: &C,
     k: u64,
     counter: &mut C::Counter,
-) -> Option<Interval>
+) -> Result<Option<Interval>, C::Stop>
     requires { 1 ≤ length tokens.now }
-    ensures answer { result ≡ first_start (concordance (C.text source.now) (phrase tokens.now)) k }
+    ensures answer { IfOk result (λ found. found ≡ first_start (concordance (C.text source.now) (phrase tokens.now)) k) }
     ensures counted { C.count counter.old ≤ C.count counter.new }
-    ensures cost { C.count counter.new ≤ C.count counter.old + cost (C.text source.now) (C.most source.now) (phrase tokens.now) }
-    ensures rounds { C.count counter.new ≤ C.count counter.old + rounds_cost (C.text source.now).words (C.most source.now) tokens.now }
-    ensures passed { C.count counter.new ≤ C.count counter.old + passed_cost (C.text source.now) (C.most source.now) tokens.now k result }
+    ensures cost { IfOk result (λ _. C.count counter.new ≤ C.count counter.old +
+        cost (C.text source.now) (C.most source.now) (phrase tokens.now)) }
+    ensures rounds { IfOk result (λ _. C.count counter.new ≤ C.count counter.old +
+        rounds_cost (C.text source.now).words (C.most source.now) tokens.now) }
+    ensures passed { IfOk result (λ found. C.count counter.new ≤ C.count counter.old +
+        passed_cost (C.text source.now) (C.most source.now) tokens.now k found) }
+    ensures capped { (cap : ℕ) → C.Caps source.now cap → C.count counter.old ≤ cap → C.count counter.new ≤ cap }
 {
     let len = tokens.len();
     if source.span().next <= k {
-        return None;
+        return Ok(None);
     }
     let mut start = k;
     let mut turn = 0usize;
     let mut agreed = 0usize;
     let mut stands = false;
     while agreed < len {
-        let found = next_token(tokens, source, turn, start, stands, counter)?;
+        let Some(found) = next_token(tokens, source, turn, start, stands, counter)? else {
+            return Ok(None);
+        };
         // No row starts before this: its token would stand before the place.
         let earliest = found.place - turn as u64;
         agreed = if earliest == start { agreed + 1 } else { 1 };
@@ -42,7 +48,7 @@ pub(crate) fn first_from<C: CountedLeaves>(
         turn = next_turn(turn, len);
         stands = found.followed;
     }
-    Some(Interval::new(start, start + (len as u64 - 1)))
+    Ok(Some(Interval::new(start, start + (len as u64 - 1))))
 }
 
 /// A place of a token, and whether the one that comes after it in the row is known to stand right after it.
@@ -61,35 +67,39 @@ fn next_token<C: CountedLeaves>(
     start: u64,
     stands: bool,
     counter: &mut C::Counter,
-) -> Option<Found>
+) -> Result<Option<Found>, C::Stop>
     requires turn { turn < length tokens.now }
     requires start { start < (C.text source.now).next }
     requires sound { IsText (C.text source.now) }
     requires stands { IsTrue stands → IsInPlace (C.text source.now) tokens.now start turn }
-    ensures found { IfSome result (λ found. LeadsTo (C.text source.now) tokens.now turn start found.place) }
-    ensures followed { IfSome result (λ found. IsTrue found.followed → IsFollowed (C.text source.now) tokens.now turn found.place) }
-    ensures none { IsNone result → NoneFrom (C.text source.now) tokens.now start }
+    ensures found { IfOk result (λ found. IfSome found (λ led. LeadsTo (C.text source.now) tokens.now turn start led.place)) }
+    ensures followed { IfOk result (λ found. IfSome found (λ led. IsTrue led.followed →
+        IsFollowed (C.text source.now) tokens.now turn led.place)) }
+    ensures none { IfOk result (λ found. IsNone found → NoneFrom (C.text source.now) tokens.now start) }
     ensures counted { C.count counter.old ≤ C.count counter.new }
-    ensures cost { C.count counter.new ≤ C.count counter.old + C.most source.now }
+    ensures cost { IfOk result (λ _. C.count counter.new ≤ C.count counter.old + C.most source.now) }
+    ensures capped { (cap : ℕ) → C.Caps source.now cap → C.count counter.old ≤ cap → C.count counter.new ≤ cap }
 {
     if stands {
-        return Some(Found {
+        return Ok(Some(Found {
             place: start + turn as u64,
             followed: false,
-        });
+        }));
     }
     let pair = earliest_start(tokens, source, turn, start);
     if pair.found {
-        return Some(Found {
+        return Ok(Some(Found {
             place: pair.at,
             followed: true,
-        });
+        }));
     }
-    let place = source.next(tokens[turn].as_slice(), pair.at + turn as u64, counter)?;
-    Some(Found {
+    let Some(place) = source.next(tokens[turn].as_slice(), pair.at + turn as u64, counter)? else {
+        return Ok(None);
+    };
+    Ok(Some(Found {
         place,
         followed: false,
-    })
+    }))
 }
 
 /// A start from this one on before which no row starts. At the first token's turn it is a later one where the source tells, without a
@@ -120,34 +130,43 @@ fn earliest_start<C: CountedLeaves>(tokens: &[Bytes], source: &C, turn: usize, s
     }
 }
 
-/// The last row of the tokens that starts at or before `k`.
+/// The last row of the tokens that starts at or before `k`. The walk stops where a look-up is refused.
 pub(crate) fn last_upto<C: CountedLeaves>(
     tokens: &[Bytes],
     source: &C,
     k: u64,
     counter: &mut C::Counter,
-) -> Option<Interval>
+) -> Result<Option<Interval>, C::Stop>
     requires { 1 ≤ length tokens.now }
-    ensures answer { result ≡ last_start (concordance (C.text source.now) (phrase tokens.now)) k }
+    ensures answer { IfOk result (λ found. found ≡ last_start (concordance (C.text source.now) (phrase tokens.now)) k) }
     ensures counted { C.count counter.old ≤ C.count counter.new }
-    ensures cost { C.count counter.new ≤ C.count counter.old + cost (C.text source.now) (C.most source.now) (phrase tokens.now) }
-    ensures rounds { C.count counter.new ≤ C.count counter.old + rounds_cost (C.text source.now).words (C.most source.now) tokens.now }
+    ensures cost { IfOk result (λ _. C.count counter.new ≤ C.count counter.old +
+        cost (C.text source.now) (C.most source.now) (phrase tokens.now)) }
+    ensures rounds { IfOk result (λ _. C.count counter.new ≤ C.count counter.old +
+        rounds_cost (C.text source.now).words (C.most source.now) tokens.now) }
+    ensures capped { (cap : ℕ) → C.Caps source.now cap → C.count counter.old ≤ cap → C.count counter.new ≤ cap }
 {
     let len = tokens.len();
-    let room = source.span().next.checked_sub(len as u64)?;
+    let Some(room) = source.span().next.checked_sub(len as u64) else {
+        return Ok(None);
+    };
     let mut start = k.min(room);
     let mut turn = 0usize;
     let mut agreed = 0usize;
     while agreed < len {
         let at = len - 1 - turn;
-        let place = source.prev(tokens[at].as_slice(), start + at as u64, counter)?;
+        let Some(place) = source.prev(tokens[at].as_slice(), start + at as u64, counter)? else {
+            return Ok(None);
+        };
         // No row starts after this: its token would come after the last place.
-        let latest = place.checked_sub(at as u64)?;
+        let Some(latest) = place.checked_sub(at as u64) else {
+            return Ok(None);
+        };
         agreed = if latest == start { agreed + 1 } else { 1 };
         start = latest;
         turn = next_turn(turn, len);
     }
-    Some(Interval::new(start, start + (len as u64 - 1)))
+    Ok(Some(Interval::new(start, start + (len as u64 - 1))))
 }
 
 /// The turn after this one: after the last of a round comes the first of the next.

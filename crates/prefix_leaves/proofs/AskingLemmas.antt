@@ -1,31 +1,19 @@
--- The text that leaves with prefix terms have, and the members that are left from a later address on.
-use Rattle.std.proofs.Common.{◌≡◌, ℕ, ◌≤◌, ◌<◌, leb, List, [], ◌∷◌, inl, inr, refl, ap, ◌∙◌, arith}
-use Rattle.std.proofs.lemmas.Bool.{cases_Bool, lt-leb, leb-false}
-use Rattle.gcl_model.specs.Extents.{Extent}
-use Rattle.gcl_eval.specs.Members.{members_from}
+-- The text and the look-ups of leaves with prefix terms over a version.
+use Rattle.std.proofs.Common.{◌≡◌, ◌∙◌, ℕ, List, ap, subst}
+use Rattle.gcl_model.specs.Texts.{Text}
 use Rattle.live_version.specs.Contents.{VersionContent, version_text}
 use Rattle.prefix_places.specs.Places.{PrefixContent}
 use Rattle.prefix_leaves.specs.Renaming.{renamed}
-use Rattle.prefix_leaves.specs.Prefixes.{tokens_of}
+use Rattle.prefix_leaves.specs.Prefixes.{tokens_of, wide_most}
 
 -- of the same prefix terms over the same version it is the same text
 pub text_over : (p q : List PrefixContent) (u v : VersionContent) → p ≡ q → u ≡ v → renamed (tokens_of p) (version_text u) ≡ renamed (tokens_of q) (version_text v)
 text_over p q u v same_terms same_version =
     ap (λ (l : List PrefixContent). renamed (tokens_of l) (version_text u)) same_terms ∙ ap (λ (w : VersionContent). renamed (tokens_of q) (version_text w)) same_version
 
--- from a later address on it is the same whether the earlier ones are left out or not
-pub from_later : (k j : ℕ) (list : List Extent) → k ≤ j → members_from (members_from list k) j ≡ members_from list j
-from_later k j [] le = refl
-from_later k j (x ∷ list) le =
-    elim (cases_Bool (leb k x.start)) [
-      | inl t ↦ rw t (same x (members_from list k) list (from_later k j list le))
-      | inr f ↦
-          let lt : x.start < k = leb-false k x.start f in
-          rw (f, lt-leb j x.start (omega arith)) (from_later k j list le)
-    ]
-  where
-    same : (x : Extent) (xs ys : List Extent) → members_from xs j ≡ members_from ys j → members_from (x ∷ xs) j ≡ members_from (x ∷ ys) j
-    same x xs ys is = elim (cases_Bool (leb j x.start)) [
-      | inl t ↦ rw t (ap (λ l. x ∷ l) is)
-      | inr f ↦ rw f is
-    ]
+-- and what holds of the text and the look-ups of one access holds of the same
+pub holds_over : (P : Text → ℕ → Type 0) (p q : List PrefixContent) (u v : VersionContent) → p ≡ q → u ≡ v →
+    P (renamed (tokens_of p) (version_text u)) (wide_most u) → P (renamed (tokens_of q) (version_text v)) (wide_most v)
+holds_over P p q u v same_terms same_version holds =
+    subst (λ (w : VersionContent). P (renamed (tokens_of q) (version_text w)) (wide_most w)) same_version
+    (subst (λ (l : List PrefixContent). P (renamed (tokens_of l) (version_text u)) (wide_most u)) same_terms holds)

@@ -1,8 +1,10 @@
 -- Prefix terms with their places.
-use Rattle.std.specs.Prelude.{◌≡◌, ℕ, Bool, true, List, [], ◌∷◌, map, bytes_eq, if◌then◌else◌}
+use Rattle.std.specs.Prelude.{◌≡◌, ℕ, ◌+◌, Bool, true, List, [], ◌∷◌, map, bytes_eq, if◌then◌else◌}
 use Rattle.std.specs.List.{list_any, list_all}
+use Rattle.gcl_model.specs.Limits.{most_slots}
 use Rattle.gcl_model.specs.Texts.{Text, places}
 use Rattle.gcl_model.specs.Wide.{is_prefix_term}
+use Rattle.live_version.specs.Contents.{VersionContent}
 use Rattle.prefix_places.specs.Places.{PrefixContent, wide_places}
 use Rattle.prefix_leaves.specs.Renaming.{are_alone, is_meant_by, renamed}
 
@@ -28,3 +30,8 @@ pub record AreOver (text : Text) (prefixes : List PrefixContent) : Type 0 where
 -- each has the places that its token has in the renamed text, as AreOver says it of the words
 abbrev pub HavePlaces : Text → List PrefixContent → Type 0
 HavePlaces text prefixes = map (λ p. p.places) prefixes ≡ map (λ p. places (renamed (tokens_of prefixes) text).words p.token) prefixes
+
+-- how many look-ups one access to a word or a prefix term may make: one for each slot and each deletion of the version, or one among the
+-- places of the prefix term
+abbrev pub wide_most : VersionContent → ℕ
+wide_most v = most_slots + v.dels + 1

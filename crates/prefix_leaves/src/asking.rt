@@ -1,187 +1,150 @@
 //! The members of an expression over a version, of whose prefix terms the places are at hand.
-ghost use Rattle.std.specs.Prelude.{◌≡◌, ◌<◌, ◌≤◌, true, length, take, IfOk};
+ghost use Rattle.std.specs.Prelude.{◌≡◌, ℕ, ◌+◌, ◌<◌, ◌≤◌, true, length, take, IfOk, OnErr};
 ghost use Rattle.gcl_model.specs.FormOf.{form_of};
 ghost use Rattle.gcl_model.specs.Limits.{far};
 ghost use Rattle.gcl_model.specs.WellFormed.{IsWellFormed};
 ghost use Rattle.gcl_model.specs.Wide.{wide};
 ghost use Rattle.gcl_eval.specs.Members.{members_from};
 ghost use Rattle.gcl_readers.specs.Reading.{behind_page};
-ghost use Rattle.gcl_readers.specs.Standing.{Stands, start_at};
+ghost use Rattle.gcl_cursor.specs.declared.cursor.Cursor.TheVariants.{Free};
+ghost use Rattle.gcl_cursor.specs.Cursors.{IsAt, IsLimited, allowed, left_of};
 ghost use Rattle.live_version.specs.Contents.{version_text};
-ghost use Rattle.prefix_leaves.specs.Prefixes.{AreOver, tokens_of};
+ghost use Rattle.prefix_leaves.specs.Prefixes.{AreOver, tokens_of, wide_most};
 ghost use Rattle.prefix_leaves.specs.Renaming.{is_apart, renamed};
 
 use crate::leaves::PrefixLeaves;
-use crate::uncounted::{count, list_from, read_from, read_number};
-use gcl_model::{Expr, IntervalList};
-use gcl_readers::Readers;
+use gcl_cursor::Cursor;
+use gcl_eval::Page;
+use gcl_model::{Expr, IntervalList, Steps, Tally};
 use live_version::Version;
 use prefix_places::PrefixPlaces;
 use std::alloc::{AllocError, Global};
 use std::marker::Brand;
-use std::sync::ledger::Blank;
+use std::sync::ledger;
 use term_fingers::{Fingers, Naming};
 
-/// The first `most` of the members that start at or after `k`, or all of these where there are fewer, by leaping. `Err` is out of memory.
-pub fn wide_list_from(
+/// The members of the page, of which the cursor has passed none. Its full pages, and one that is not full or a number after them, make no
+/// more look-ups in all than it has left when it is made, unless memory is refused. `Err` is out of memory: then the page can be asked for
+/// again, and the look-ups have no limit any more.
+pub fn wide_page<S: ledger::Ledger>(
     alloc: Global,
+    cursor: &mut Cursor,
     version: &Version,
     prefixes: &[PrefixPlaces],
     expr: &Expr,
-    k: u64,
-    most: u64,
+    page: Page,
+    steps: &mut Steps<Tally<S>>,
 ) -> Result<IntervalList, AllocError>
     requires over { AreOver (version_text version.now) prefixes.now }
     requires apart { is_apart (tokens_of prefixes.now) (form_of expr.now) ≡ true }
     requires well_formed { IsWellFormed (form_of expr.now) }
-    requires below { k < far }
-    ensures { IfOk result (λ members. members ≡ take most (members_from (wide (version_text version.now) (form_of expr.now)) k)) }
+    requires below { page.from < far }
+    requires at { IsAt (renamed (tokens_of prefixes.now) (version_text version.now)) (form_of expr.now) page.from cursor.old }
+    ensures ok { IfOk result (λ members. members ≡
+        take page.most (members_from (wide (version_text version.now) (form_of expr.now)) page.from)) }
+    ensures full { IfOk result (λ members. length members ≡ page.most →
+        IsAt (renamed (tokens_of prefixes.now) (version_text version.now)) (form_of expr.now) (behind_page page.from members) cursor.new) }
+    ensures short { IfOk result (λ members. length members < page.most →
+        (k : ℕ) → IsAt (renamed (tokens_of prefixes.now) (version_text version.now)) (form_of expr.now) k cursor.new) }
+    ensures limited { IfOk result (λ members. length members ≡ page.most → IsLimited cursor.old → IsLimited cursor.new) }
+    ensures err { OnErr result (cursor.new ≡ Free) }
+    ensures cost { steps.new +
+        left_of (renamed (tokens_of prefixes.now) (version_text version.now)) (wide_most version.now) (form_of expr.now) cursor.new ≤
+        steps.old +
+        allowed (renamed (tokens_of prefixes.now) (version_text version.now)) (wide_most version.now) (form_of expr.now) cursor.old
+        (length (take page.most (members_from (wide (version_text version.now) (form_of expr.now)) page.from))) }
 {
-    leap_from::<Brand>(alloc, version, prefixes, expr, k, most)
+    page_of::<Brand, S>(alloc, cursor, version, prefixes, expr, page, steps)
 }
 
-fn leap_from<J: Naming>(
+fn page_of<J: Naming, S: ledger::Ledger>(
     alloc: Global,
+    cursor: &mut Cursor,
     version: &Version,
     prefixes: &[PrefixPlaces],
     expr: &Expr,
-    k: u64,
-    most: u64,
-) -> Result<IntervalList, AllocError>
-    requires named { version.now ≡ J.version }
-    requires over { AreOver (version_text version.now) prefixes.now }
-    requires apart { is_apart (tokens_of prefixes.now) (form_of expr.now) ≡ true }
-    requires well_formed { IsWellFormed (form_of expr.now) }
-    requires below { k < far }
-    ensures { IfOk result (λ members. members ≡ take most (members_from (wide (version_text version.now) (form_of expr.now)) k)) }
-{
-    let fingers = Fingers::<J>::of(version, expr);
-    let leaves = PrefixLeaves::new(&fingers, prefixes);
-    list_from::<PrefixLeaves<'_, Fingers<'_, J>>, Brand>(
-        alloc,
-        expr,
-        &leaves,
-        k,
-        most,
-        Blank::new(1),
-    )
-}
-
-/// How many members there are, by leaping. It takes no memory.
-pub fn wide_count(version: &Version, prefixes: &[PrefixPlaces], expr: &Expr) -> u64
-    requires over { AreOver (version_text version.now) prefixes.now }
-    requires apart { is_apart (tokens_of prefixes.now) (form_of expr.now) ≡ true }
-    requires well_formed { IsWellFormed (form_of expr.now) }
-    ensures { result ≡ length (wide (version_text version.now) (form_of expr.now)) }
-{
-    leap_count::<Brand>(version, prefixes, expr)
-}
-
-fn leap_count<J: Naming>(version: &Version, prefixes: &[PrefixPlaces], expr: &Expr) -> u64
-    requires named { version.now ≡ J.version }
-    requires over { AreOver (version_text version.now) prefixes.now }
-    requires apart { is_apart (tokens_of prefixes.now) (form_of expr.now) ≡ true }
-    requires well_formed { IsWellFormed (form_of expr.now) }
-    ensures { result ≡ length (wide (version_text version.now) (form_of expr.now)) }
-{
-    let fingers = Fingers::<J>::of(version, expr);
-    let leaves = PrefixLeaves::new(&fingers, prefixes);
-    count::<PrefixLeaves<'_, Fingers<'_, J>>, Brand>(expr, &leaves, Blank::new(1))
-}
-
-/// The first `most` of the members that start at or after `k`, by readers that have passed none of them. Where a page is full, the next one
-/// begins behind the start of its last member. Of an `Err`, out of memory, no page can go on.
-pub fn wide_read_from(
-    alloc: Global,
-    readers: &mut Readers,
-    version: &Version,
-    prefixes: &[PrefixPlaces],
-    expr: &Expr,
-    k: u64,
-    most: u64,
-) -> Result<IntervalList, AllocError>
-    requires over { AreOver (version_text version.now) prefixes.now }
-    requires apart { is_apart (tokens_of prefixes.now) (form_of expr.now) ≡ true }
-    requires well_formed { IsWellFormed (form_of expr.now) }
-    requires below { k < far }
-    requires stands { Stands (renamed (tokens_of prefixes.now) (version_text version.now)) (form_of expr.now) readers.old }
-    requires behind { start_at readers.old ≤ k }
-    ensures ok { IfOk result (λ members. members ≡ take most (members_from (wide (version_text version.now) (form_of expr.now)) k)) }
-    ensures behind { IfOk result (λ members. length members ≡ most → start_at readers.new ≤ behind_page k members) }
-    ensures stands { Stands (renamed (tokens_of prefixes.now) (version_text version.now)) (form_of expr.now) readers.new }
-{
-    read_list::<Brand>(alloc, readers, version, prefixes, expr, k, most)
-}
-
-fn read_list<J: Naming>(
-    alloc: Global,
-    readers: &mut Readers,
-    version: &Version,
-    prefixes: &[PrefixPlaces],
-    expr: &Expr,
-    k: u64,
-    most: u64,
+    page: Page,
+    steps: &mut Steps<Tally<S>>,
 ) -> Result<IntervalList, AllocError>
     requires named { version.now ≡ J.version }
     requires over { AreOver (version_text version.now) prefixes.now }
     requires apart { is_apart (tokens_of prefixes.now) (form_of expr.now) ≡ true }
     requires well_formed { IsWellFormed (form_of expr.now) }
-    requires below { k < far }
-    requires stands { Stands (renamed (tokens_of prefixes.now) (version_text version.now)) (form_of expr.now) readers.old }
-    requires behind { start_at readers.old ≤ k }
-    ensures ok { IfOk result (λ members. members ≡ take most (members_from (wide (version_text version.now) (form_of expr.now)) k)) }
-    ensures behind { IfOk result (λ members. length members ≡ most → start_at readers.new ≤ behind_page k members) }
-    ensures stands { Stands (renamed (tokens_of prefixes.now) (version_text version.now)) (form_of expr.now) readers.new }
+    requires below { page.from < far }
+    requires at { IsAt (renamed (tokens_of prefixes.now) (version_text version.now)) (form_of expr.now) page.from cursor.old }
+    ensures ok { IfOk result (λ members. members ≡
+        take page.most (members_from (wide (version_text version.now) (form_of expr.now)) page.from)) }
+    ensures full { IfOk result (λ members. length members ≡ page.most →
+        IsAt (renamed (tokens_of prefixes.now) (version_text version.now)) (form_of expr.now) (behind_page page.from members) cursor.new) }
+    ensures short { IfOk result (λ members. length members < page.most →
+        (k : ℕ) → IsAt (renamed (tokens_of prefixes.now) (version_text version.now)) (form_of expr.now) k cursor.new) }
+    ensures limited { IfOk result (λ members. length members ≡ page.most → IsLimited cursor.old → IsLimited cursor.new) }
+    ensures err { OnErr result (cursor.new ≡ Free) }
+    ensures cost { steps.new +
+        left_of (renamed (tokens_of prefixes.now) (version_text version.now)) (wide_most version.now) (form_of expr.now) cursor.new ≤
+        steps.old +
+        allowed (renamed (tokens_of prefixes.now) (version_text version.now)) (wide_most version.now) (form_of expr.now) cursor.old
+        (length (take page.most (members_from (wide (version_text version.now) (form_of expr.now)) page.from))) }
 {
     let fingers = Fingers::<J>::of(version, expr);
     let leaves = PrefixLeaves::new(&fingers, prefixes);
-    read_from::<PrefixLeaves<'_, Fingers<'_, J>>, Brand>(
-        alloc,
-        readers,
-        expr,
-        &leaves,
-        k,
-        most,
-        Blank::new(1),
-    )
+    cursor.page(alloc, expr, &leaves, page, steps)
 }
 
-/// How many members start at or after `k`, by readers that have passed none of them. It takes no memory.
-pub fn wide_read_count(
-    readers: &mut Readers,
+/// How many members start at `from` or later, where this many came before. It takes no memory.
+pub fn wide_number<S: ledger::Ledger>(
+    cursor: &mut Cursor,
     version: &Version,
     prefixes: &[PrefixPlaces],
     expr: &Expr,
-    k: u64,
+    from: u64,
+    given: u64,
+    steps: &mut Steps<Tally<S>>,
 ) -> u64
     requires over { AreOver (version_text version.now) prefixes.now }
     requires apart { is_apart (tokens_of prefixes.now) (form_of expr.now) ≡ true }
     requires well_formed { IsWellFormed (form_of expr.now) }
-    requires below { k < far }
-    requires stands { Stands (renamed (tokens_of prefixes.now) (version_text version.now)) (form_of expr.now) readers.old }
-    requires behind { start_at readers.old ≤ k }
-    ensures { result ≡ length (members_from (wide (version_text version.now) (form_of expr.now)) k) }
+    requires below { from < far }
+    requires at { IsAt (renamed (tokens_of prefixes.now) (version_text version.now)) (form_of expr.now) from cursor.old }
+    requires given { given + length (members_from (wide (version_text version.now) (form_of expr.now)) from) ≡
+        length (wide (version_text version.now) (form_of expr.now)) }
+    ensures value { result ≡ length (members_from (wide (version_text version.now) (form_of expr.now)) from) }
+    ensures at { (k : ℕ) → IsAt (renamed (tokens_of prefixes.now) (version_text version.now)) (form_of expr.now) k cursor.new }
+    ensures cost { steps.new +
+        left_of (renamed (tokens_of prefixes.now) (version_text version.now)) (wide_most version.now) (form_of expr.now) cursor.new ≤
+        steps.old +
+        allowed (renamed (tokens_of prefixes.now) (version_text version.now)) (wide_most version.now) (form_of expr.now) cursor.old
+        (length (wide (version_text version.now) (form_of expr.now))) }
 {
-    read_rest::<Brand>(readers, version, prefixes, expr, k)
+    number_of::<Brand, S>(cursor, version, prefixes, expr, from, given, steps)
 }
 
-fn read_rest<J: Naming>(
-    readers: &mut Readers,
+fn number_of<J: Naming, S: ledger::Ledger>(
+    cursor: &mut Cursor,
     version: &Version,
     prefixes: &[PrefixPlaces],
     expr: &Expr,
-    k: u64,
+    from: u64,
+    given: u64,
+    steps: &mut Steps<Tally<S>>,
 ) -> u64
     requires named { version.now ≡ J.version }
     requires over { AreOver (version_text version.now) prefixes.now }
     requires apart { is_apart (tokens_of prefixes.now) (form_of expr.now) ≡ true }
     requires well_formed { IsWellFormed (form_of expr.now) }
-    requires below { k < far }
-    requires stands { Stands (renamed (tokens_of prefixes.now) (version_text version.now)) (form_of expr.now) readers.old }
-    requires behind { start_at readers.old ≤ k }
-    ensures { result ≡ length (members_from (wide (version_text version.now) (form_of expr.now)) k) }
+    requires below { from < far }
+    requires at { IsAt (renamed (tokens_of prefixes.now) (version_text version.now)) (form_of expr.now) from cursor.old }
+    requires given { given + length (members_from (wide (version_text version.now) (form_of expr.now)) from) ≡
+        length (wide (version_text version.now) (form_of expr.now)) }
+    ensures value { result ≡ length (members_from (wide (version_text version.now) (form_of expr.now)) from) }
+    ensures at { (k : ℕ) → IsAt (renamed (tokens_of prefixes.now) (version_text version.now)) (form_of expr.now) k cursor.new }
+    ensures cost { steps.new +
+        left_of (renamed (tokens_of prefixes.now) (version_text version.now)) (wide_most version.now) (form_of expr.now) cursor.new ≤
+        steps.old +
+        allowed (renamed (tokens_of prefixes.now) (version_text version.now)) (wide_most version.now) (form_of expr.now) cursor.old
+        (length (wide (version_text version.now) (form_of expr.now))) }
 {
     let fingers = Fingers::<J>::of(version, expr);
     let leaves = PrefixLeaves::new(&fingers, prefixes);
-    read_number::<PrefixLeaves<'_, Fingers<'_, J>>, Brand>(readers, expr, &leaves, k, Blank::new(1))
+    cursor.count(expr, &leaves, from, given, steps)
 }

@@ -5,8 +5,9 @@
 //! its names (`is_apart`). So the evaluators answer it as it stands, and none of the many words of a prefix is asked by itself.
 //!
 //! The layer above asks once whether an expression is apart (`PrefixTerms::of`), and where it is, gathers the places of its prefix terms
-//! once (`PrefixTable::of`). Pages and numbers of members then come from the `wide_` calls, by leaping or by readers. `t* ^ or` is apart:
-//! from 0 on its first member is (1, 3). `t* ^ to` is not, since `to` is meant by both.
+//! once (`PrefixTable::of`). A cursor then finds its members page by page (`wide_page`), or how many are to come (`wide_number`): it leaps
+//! while it has look-ups left, and reads on after that. `t* ^ or` is apart: from 0 on its first member is (1, 3). `t* ^ to` is not, since
+//! `to` is meant by both.
 #![tactic(auto)]
 
 mod apart;
@@ -16,9 +17,8 @@ mod leaves;
 mod meant;
 mod table;
 mod terms;
-mod uncounted;
 
-pub use asking::{wide_count, wide_list_from, wide_read_count, wide_read_from};
+pub use asking::{wide_number, wide_page};
 pub use laws::names_that_are_apart_decide;
 pub use leaves::PrefixLeaves;
 pub use table::PrefixTable;

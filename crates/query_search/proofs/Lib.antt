@@ -2,5 +2,5 @@ pub mod PageLemmas
 pub mod SearchLemmas
 mod WayLemmas
 pub mod ReadingLemmas
-pub mod MergedLemmas
+pub mod QueryLemmas
 pub mod Crossings

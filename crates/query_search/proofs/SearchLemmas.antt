@@ -12,7 +12,7 @@ use Rattle.gcl_model.proofs.Covers.{Has, of_each}
 use Rattle.gcl_model.proofs.Meanings.{IsOf, each_of_text, concordance_rises}
 use Rattle.gcl_eval.specs.Members.{members_from}
 use Rattle.gcl_readers.specs.Reading.{behind_page}
-use Rattle.reader_pass.proofs.LeftLemmas.{from_later}
+use Rattle.gcl_cursor.proofs.LeftLemmas.{from_later}
 
 -- members that each have a property keep it
 kept : (P : Extent → Type 0) (k : ℕ) (list : List Extent) → AllByRecursion P list → AllByRecursion P (members_from list k)

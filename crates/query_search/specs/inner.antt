@@ -1,2 +1,2 @@
 pub mod Searches
-pub mod Merging
+pub mod Queries

@@ -7,10 +7,9 @@ ghost use Rattle.gcl_model.specs.WellFormed.{IsWellFormed};
 ghost use Rattle.gcl_model.specs.Wide.{wide};
 ghost use Rattle.live_version.specs.Contents.{version_text};
 ghost use Rattle.collection.specs.Engines.{last_of};
-ghost use Rattle.query_search.specs.inner.Merging.{left_from};
 
-use crate::merged::MergedQuery;
-use crate::merged_pages::MergedPages;
+use crate::query::Query;
+use crate::query_pages::QueryPages;
 use crate::shapes::is_wide;
 use gcl_model::Expr;
 use manifest_publish::Pass;
@@ -72,14 +71,15 @@ impl Merging {
     }
 
     /// All its members over the places of its prefix terms, which are gathered here. `Err` is out of memory.
-    pub fn pages(&self) -> Result<MergedPages, AllocError>
-        ensures members { IfOk result (λ pages. pages ≡ left_from self.now 0) }
+    pub fn pages(&self) -> Result<QueryPages, AllocError>
+        ensures all { IfOk result (λ pages. pages.all ≡ self.now) }
+        ensures to_come { IfOk result (λ pages. pages.to_come ≡ self.now) }
         ensures few { IfOk result (λ pages. length pages.all ≤ address_end) }
     {
         let pass = self.pass.again()?;
         let expr = Arc::try_clone(&self.expr)?;
-        let query = MergedQuery::of(self.alloc, pass, expr, &self.terms)?;
-        Ok(MergedPages::from(self.alloc, query, 0))
+        let query = Query::over_places(self.alloc, pass, expr, &self.terms)?;
+        Ok(QueryPages::of(self.alloc, query))
     }
 }
 

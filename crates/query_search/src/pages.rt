@@ -11,16 +11,13 @@ ghost use Rattle.collection.specs.Engines.{last_of};
 ghost use Rattle.query_search.specs.Pages.{IsAfter, IsWayOver, ended, leap_cost, left_of, pages_from, reads};
 ghost use Rattle.query_search.specs.inner.Searches.{members_over};
 
-use crate::questions::MemberCount;
-use crate::reading::{count_from, page_from, readers_of};
-use gcl_model::{Expr, IntervalList, Ledger, NoLedger, Steps, uncounted};
+use crate::reading::{page_from, readers_of};
+use gcl_model::{Expr, IntervalList, Ledger, Steps};
 use gcl_readers::Readers;
 use manifest_publish::Pass;
-use reader_pass::pass_listed_count;
 use std::alloc::{AllocError, Global};
-use std::marker::{Brand, Model};
-use std::sync::ledger::Blank;
-use std::sync::{Arc, ledger};
+use std::marker::Model;
+use std::sync::Arc;
 
 /// The members of an expression over a version that start at an address or later, page by page. Contracts see all members, those that are
 /// still to come, and how the next ones are found.
@@ -67,14 +64,6 @@ pub(crate) fn start_after(page: &IntervalList, most: u64, end: u64) -> u64
         [.., last] => last.start + 1,
         [] => end,
     }
-}
-
-/// The number of all members, where it is known by the lengths of lists.
-fn listed_count(pass: &Pass, expr: &Expr) -> Option<u64>
-    requires { EndsWith pass.now.history (last_of pass.now.history) }
-    ensures { IfSome result (λ count. count ≡ length (members_over pass.now.history (form_of expr.now))) }
-{
-    pass_listed_count(pass, expr)
 }
 
 impl Pages {
@@ -144,57 +133,4 @@ impl Pages {
         self.from = start_after(&page, most, self.end);
         Ok(page)
     }
-
-    /// The same for whoever has no counter of look-ups.
-    pub(crate) fn page_uncounted(
-        &mut self,
-        alloc: Global,
-        most: u64,
-    ) -> Result<IntervalList, AllocError>
-        ensures ok { IfOk result (λ page. page ≡ take most self.old.to_come) }
-        ensures rest { OnOk result (self.new.to_come ≡ drop most self.old.to_come) }
-        ensures all { self.new.all ≡ self.old.all }
-        ensures err { OnErr result (self.new.to_come ≡ self.old.to_come) }
-    {
-        next_page::<Brand>(self, alloc, most, Blank::new(1))
-    }
-
-    /// How many members are to come, where this many came. No list is made: it is read off the lengths of lists where it can be, and else
-    /// counted. Where readers count, they go to the end, and pages after that are found by leaping.
-    pub(crate) fn count(&mut self, given: u64) -> u64
-        requires { given + length self.old.to_come ≡ length self.old.all }
-        ensures value { result ≡ length self.old.to_come }
-        ensures to_come { self.new.to_come ≡ self.old.to_come }
-        ensures all { self.new.all ≡ self.old.all }
-    {
-        if let Some(all) = listed_count(&self.pass, &self.expr) {
-            return all - given;
-        }
-        let Some(mut readers) = self.readers.take() else {
-            let all = uncounted(&MemberCount {
-                pass: &self.pass,
-                expr: &self.expr,
-            });
-            return all - given;
-        };
-        count_from(&self.pass, &self.expr, &mut readers, self.from)
-    }
-}
-
-fn next_page<B: ledger::Ledger>(
-    pages: &mut Pages,
-    alloc: Global,
-    most: u64,
-    blank: Blank,
-) -> Result<IntervalList, AllocError>
-    requires name { blank.name ≡ B.name }
-    requires parts { blank.parts ≡ B.parts }
-    requires some { 0 < blank.parts }
-    ensures ok { IfOk result (λ page. page ≡ take most pages.old.to_come) }
-    ensures rest { OnOk result (pages.new.to_come ≡ drop most pages.old.to_come) }
-    ensures all { pages.new.all ≡ pages.old.all }
-    ensures err { OnErr result (pages.new.to_come ≡ pages.old.to_come) }
-{
-    let mut steps = Steps::<NoLedger<B>>::open(blank);
-    pages.page(alloc, most, &mut steps)
 }

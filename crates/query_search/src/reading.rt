@@ -1,27 +1,23 @@
 //! Members by readers.
-ghost use Rattle.std.specs.Prelude.{◌≡◌, ◌<◌, ◌≤◌, ℕ, List, length, IfOk, OnErr};
+ghost use Rattle.std.specs.Prelude.{◌≡◌, ◌<◌, ℕ, List, length, IfOk, OnErr};
 ghost use Rattle.gcl_model.specs.FormOf.{form_of};
 ghost use Rattle.gcl_model.specs.Limits.{far};
 ghost use Rattle.gcl_model.specs.WellFormed.{IsWellFormed};
-ghost use Rattle.gcl_eval.specs.Members.{members_from};
 ghost use Rattle.gcl_readers.specs.Reading.{behind_page};
 ghost use Rattle.live_version.specs.Contents.{VersionContent, version_text};
 ghost use Rattle.manifest_publish.specs.Accounts.{EndsWith};
 ghost use Rattle.reader_pass.specs.Members.{first_members_from};
 ghost use Rattle.collection.specs.Engines.{last_of};
 ghost use Rattle.query_search.specs.Pages.{IsAfter, IsWayOver};
-ghost use Rattle.query_search.specs.inner.Searches.{IsPaid, ReadFrom, StandFrom, members_over, way_by};
+ghost use Rattle.query_search.specs.inner.Searches.{IsPaid, ReadFrom, way_by};
 
 use crate::shapes::may_search_again;
-use gcl_model::{Expr, IntervalList, Ledger, NoLedger, Steps};
+use gcl_model::{Expr, IntervalList, Ledger, Steps};
 use gcl_readers::Readers;
 use live_version::Version;
 use manifest_publish::Pass;
-use reader_pass::{pass_list_from, pass_read_count, pass_read_from};
+use reader_pass::{pass_list_from, pass_read_from};
 use std::alloc::{AllocError, Global};
-use std::marker::Brand;
-use std::sync::ledger;
-use std::sync::ledger::Blank;
 
 /// Readers, where leaping may be slow and there is memory for them. They may begin at any address.
 pub fn readers_of(alloc: Global, version: &Version, expr: &Expr) -> Option<Readers>
@@ -72,35 +68,4 @@ pub fn page_from<S: Ledger>(
         *readers = Some(reading);
     }
     Ok(page)
-}
-
-/// How many members there are from an address on.
-pub fn count_from(pass: &Pass, expr: &Expr, readers: &mut Readers, from: u64) -> u64
-    requires last { EndsWith pass.now.history (last_of pass.now.history) }
-    requires well_formed { IsWellFormed (form_of expr.now) }
-    requires below { from < far }
-    requires readers { StandFrom pass.now.history (form_of expr.now) from readers.old }
-    ensures { result ≡ length (members_from (members_over pass.now.history (form_of expr.now)) from) }
-{
-    read_number::<Brand>(pass, expr, readers, from, Blank::new(1))
-}
-
-fn read_number<B: ledger::Ledger>(
-    pass: &Pass,
-    expr: &Expr,
-    readers: &mut Readers,
-    from: u64,
-    blank: Blank,
-) -> u64
-    requires last { EndsWith pass.now.history (last_of pass.now.history) }
-    requires well_formed { IsWellFormed (form_of expr.now) }
-    requires below { from < far }
-    requires readers { StandFrom pass.now.history (form_of expr.now) from readers.old }
-    requires name { blank.name ≡ B.name }
-    requires parts { blank.parts ≡ B.parts }
-    requires some { 0 < blank.parts }
-    ensures { result ≡ length (members_from (members_over pass.now.history (form_of expr.now)) from) }
-{
-    let mut steps = Steps::<NoLedger<B>>::open(blank);
-    pass_read_count(pass, readers, expr, from, &mut steps)
 }

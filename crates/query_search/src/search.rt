@@ -8,9 +8,9 @@ ghost use Rattle.live_version.specs.Contents.{version_text};
 ghost use Rattle.collection.specs.Engines.{last_of};
 
 use crate::expansion::expanded;
-use crate::merged_pages::MergedPages;
 use crate::merging::{Merging, merging_of, where_wide};
-use crate::pages::Pages;
+use crate::query::Query;
+use crate::query_pages::QueryPages;
 use gcl_model::{Expr, IntervalList};
 use manifest_publish::Pass;
 use std::alloc::{AllocError, Global};
@@ -24,11 +24,9 @@ const FEW: u64 = 256;
 /// Contracts see the members of its wide list that are still to come.
 #[derive(Drop)]
 pub struct Search {
-    pages: Pages,
+    pages: QueryPages,
     // What it takes to go over to the places of prefix terms for which many words stand; no member came yet where it is there.
     merging: Option<Merging>,
-    // These are in the place of `pages` once they are there.
-    merged: Option<MergedPages>,
     // How many members came.
     given: u64,
 }
@@ -36,13 +34,13 @@ pub struct Search {
 impl Model for Search {
     ghost use Rattle.std.specs.Prelude.{List};
     ghost use Rattle.gcl_model.specs.Extents.{Extent};
-    ghost use Rattle.query_search.specs.inner.Merging.{IsSearch, all_of, to_come_of};
+    ghost use Rattle.query_search.specs.inner.Queries.{IsSearch};
 
     ghost Value = { List Extent };
 
-    ghost view = { λ s. to_come_of s.merged s.pages.to_come };
+    ghost view = { λ s. s.pages.to_come };
 
-    ghost invariant = { λ s. IsSearch (all_of s.merged s.pages.all) (to_come_of s.merged s.pages.to_come) s.merging s.given };
+    ghost invariant = { λ s. IsSearch s.pages.all s.pages.to_come s.merging s.given };
 }
 
 impl Search {
@@ -79,16 +77,14 @@ impl Search {
         ensures few { length result ≤ address_end }
     {
         Search {
-            pages: Pages::from(alloc, pass, expr, 0),
+            pages: QueryPages::of(alloc, Query::over_words(pass, expr)),
             merging,
-            merged: None,
             given: 0,
         }
     }
 
-    /// The next `most` members, or all where fewer are to come. They are found from where the last page ended: by leaping, so that a page
-    /// takes the look-ups of its own members alone, or by readers, of which all pages together take those of one merge of whole lists.
-    /// `Err` is out of memory, and then the same page can be asked for again.
+    /// The next `most` members, or all where fewer are to come. They are found from where the last page ended, and all pages together take
+    /// no more look-ups than `query_cost` says. `Err` is out of memory, and then the same page can be asked for again.
     pub fn page(&mut self, alloc: Global, most: u64) -> Result<IntervalList, AllocError>
         ensures ok { IfOk result (λ page. page ≡ take most self.old) }
         ensures rest { OnOk result (self.new ≡ drop most self.old) }
@@ -96,11 +92,6 @@ impl Search {
     {
         self.go_over(most <= FEW);
         self.merging = None;
-        if let Some(merged) = &mut self.merged {
-            let page = merged.page(alloc, most)?;
-            self.given += page.len() as u64;
-            return Ok(page);
-        }
         let page = self.pages.page_uncounted(alloc, most)?;
         self.given += page.len() as u64;
         Ok(page)
@@ -108,16 +99,13 @@ impl Search {
 
     /// How many members are to come. No list of them is made: it is read off the lengths of lists where it can be, and else counted. It
     /// needs no memory, though the places of prefix terms may be gathered for it. Where readers count, they go to the end, and pages
-    /// after that are found by leaping.
+    /// after that are found by leaping without a limit.
     pub fn count(&mut self) -> u64
         ensures value { result ≡ length self.old }
         ensures same { self.new ≡ self.old }
     {
         self.go_over(true);
-        if let Some(merged) = &mut self.merged {
-            return merged.count(self.given);
-        }
-        self.pages.count(self.given)
+        self.pages.count_uncounted(self.given)
     }
 
     /// Goes over to the places of the prefix terms, where that pays and there is memory for them. They are gathered once, and after that a
@@ -133,8 +121,8 @@ impl Search {
             self.merging = Some(merging);
             return;
         }
-        if let Ok(merged) = merging.pages() {
-            self.merged = Some(merged);
+        if let Ok(pages) = merging.pages() {
+            self.pages = pages;
         }
     }
 }

@@ -1,4 +1,6 @@
-//! Which searches readers answer.
+//! Which searches readers answer, and how long the others leap.
+ghost use Rattle.std.specs.Prelude.{◌*◌, ◌-◌, ◌≤◌};
+
 use crate::rarest::leaps_well;
 use gcl_model::Expr;
 use live_version::Version;
@@ -9,8 +11,22 @@ const DEEP: u64 = 4;
 // So is "one of" more operands than these.
 const FEW: u64 = 3;
 
+// Leaping has so many look-ups for each address: what people ask takes far fewer, and readers need about as many.
+const LEAPS: u64 = 4;
+
 // The places of a prefix term are gathered where its expansion is "one of" more words than these.
 const WIDE: u64 = 16;
+
+/// How many look-ups leaping is given, before readers go on: none where it may ask again and again what it has asked before.
+pub fn leaps_of(version: &Version, expr: &Expr) -> u64
+    ensures { result ≤ 4 * (version.now.next - version.now.first) }
+{
+    if may_search_again(version, expr) {
+        return 0;
+    }
+    let addresses = version.next().saturating_sub(version.first());
+    addresses.saturating_mul(LEAPS)
+}
 
 /// Whether leaping may ask again and again what it has asked before.
 ///

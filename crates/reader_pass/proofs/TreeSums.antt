@@ -6,7 +6,7 @@ use Rattle.std.proofs.lemmas.List.{map-append, take_more}
 use Rattle.std.proofs.lemmas.Slice.Eq.{bytes_eq-Decides}
 use Rattle.gcl_model.specs.declared.expr.Expr.{Expr}
 use Rattle.gcl_model.specs.Extents.{Extent, all_extents}
-use Rattle.gcl_model.specs.Forms.{Form, term, one, no_forms}
+use Rattle.gcl_model.specs.Forms.{Form}
 use Rattle.gcl_model.specs.FormOf.{form_of, forms_from}
 use Rattle.gcl_model.specs.Meaning.{concordance, is_minimal, any_contains}
 use Rattle.gcl_model.specs.Texts.{Text, IsText, places}

@@ -9,12 +9,17 @@
 //! the version once, and has a finger. The number of a term's members, of one of a few terms, and of the words that a prefix stands for,
 //! takes no look-up: `pass_listed_count` tells it without an evaluation. Over one file `to be or not to be` from address 0 on, `"to be"`
 //! has the members (1, 2) and (5, 6), and two of them are found by at most three times its cost.
+//!
+//! Who asks for page after page keeps a cursor. `pass_page` finds its next page, and `pass_number` tells how many members are to come: both
+//! leap while the cursor has look-ups left, and read on after that. A cursor with none finds (1, 2) and (5, 6) by readers.
 #![tactic(auto)]
 
 mod answers;
 mod counted;
+mod cursors;
 mod fingered;
 mod reading;
 
 pub use answers::{pass_count, pass_list, pass_list_from, pass_listed_count};
-pub use reading::{pass_read_count, pass_read_from};
+pub use cursors::{pass_number, pass_page};
+pub use reading::pass_read_from;

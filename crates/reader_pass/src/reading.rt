@@ -1,11 +1,9 @@
-//! The same questions, answered by readers, which only go forward.
+//! The same pages, found by readers, which only go forward.
 
 ghost use Rattle.std.specs.Prelude.{◌≡◌, ◌+◌, ◌<◌, ◌≤◌, length, IfOk};
 ghost use Rattle.gcl_model.specs.FormOf.{form_of};
 ghost use Rattle.gcl_model.specs.Limits.{far};
-ghost use Rattle.gcl_model.specs.Meaning.{concordance};
 ghost use Rattle.gcl_model.specs.WellFormed.{IsWellFormed};
-ghost use Rattle.gcl_eval.specs.Members.{members_from};
 ghost use Rattle.gcl_readers.specs.MergeCost.{cost_left};
 ghost use Rattle.gcl_readers.specs.Reading.{behind_page};
 ghost use Rattle.gcl_readers.specs.Standing.{Stands, start_at};
@@ -14,7 +12,7 @@ ghost use Rattle.manifest_publish.specs.Histories.{IsLatest};
 ghost use Rattle.reader_pass.specs.Members.{access_most, first_members_from};
 
 use gcl_model::{Expr, IntervalList, Ledger, Steps};
-use gcl_readers::{Readers, read_count, read_list_from};
+use gcl_readers::{Readers, read_list_from};
 use live_version::Version;
 use manifest_publish::Pass;
 use std::alloc::{AllocError, Global};
@@ -46,28 +44,6 @@ fn read_from<J: Naming, S: Ledger>(
     read_list_from(alloc, readers, expr, &fingers, k, most, steps)
 }
 
-/// How many members start at or after `k`, by such readers.
-fn count_from<J: Naming, S: Ledger>(
-    readers: &mut Readers,
-    expr: &Expr,
-    version: &Version,
-    k: u64,
-    steps: &mut Steps<S>,
-) -> u64
-    requires named { version.now ≡ J.version }
-    requires well_formed { IsWellFormed (form_of expr.now) }
-    requires below { k < far }
-    requires stands { Stands (version_text version.now) (form_of expr.now) readers.old }
-    requires behind { start_at readers.old ≤ k }
-    ensures value { result ≡ length (members_from (concordance (version_text version.now) (form_of expr.now)) k) }
-    ensures stands { Stands (version_text version.now) (form_of expr.now) readers.new }
-    ensures cost { steps.new + cost_left (version_text version.now) (access_most version.now) (form_of expr.now) readers.new ≤
-        steps.old + cost_left (version_text version.now) (access_most version.now) (form_of expr.now) readers.old }
-{
-    let fingers = Fingers::<J>::of(version, expr);
-    read_count(readers, expr, &fingers, k, steps)
-}
-
 /// The first `most` of the members that start at or after `k`, or all of these where there are fewer, by readers that have passed none of
 /// them. All pages and counts by the same readers together make no more look-ups than the expression's merge cost over the version. Where
 /// a page is full, the next one begins behind the start of its last member. Of an `Err`, out of memory, no page can go on.
@@ -93,25 +69,4 @@ pub fn pass_read_from<S: Ledger>(
         steps.old + cost_left (version_text v) (access_most v) (form_of expr.now) readers.old }
 {
     read_from::<Brand, S>(alloc, readers, expr, pass.version(), k, most, steps)
-}
-
-/// How many members start at or after `k`, by readers that have passed none of them. It takes no memory.
-pub fn pass_read_count<S: Ledger>(
-    pass: &Pass,
-    readers: &mut Readers,
-    expr: &Expr,
-    k: u64,
-    steps: &mut Steps<S>,
-) -> u64
-    requires well_formed { IsWellFormed (form_of expr.now) }
-    requires below { k < far }
-    requires stands { (v : VersionContent) → IsLatest pass.now.history v → Stands (version_text v) (form_of expr.now) readers.old }
-    requires behind { start_at readers.old ≤ k }
-    ensures version { (v : VersionContent) → IsLatest pass.now.history v →
-        result ≡ length (members_from (concordance (version_text v) (form_of expr.now)) k) }
-    ensures cost { (v : VersionContent) → IsLatest pass.now.history v →
-        steps.new + cost_left (version_text v) (access_most v) (form_of expr.now) readers.new ≤
-        steps.old + cost_left (version_text v) (access_most v) (form_of expr.now) readers.old }
-{
-    count_from::<Brand, S>(readers, expr, pass.version(), k, steps)
 }

@@ -1,4 +1,4 @@
-use Rattle.std.proofs.Common.{◌≡◌, ◌+◌, ◌-◌, ◌*◌, ◌<◌, ◌≤◌, None, drop, length, min}
+use Rattle.std.proofs.Common.{◌≡◌, ℕ, ◌+◌, ◌-◌, ◌*◌, ◌<◌, ◌≤◌, None, drop, length, min}
 use denote.Param.Weighed.{most}
 use Rattle.gcl_model.specs.declared.expr.Expr.{size-Expr}
 use Rattle.gcl_model.specs.Limits.{address_end, far}
@@ -26,6 +26,7 @@ invariant-chains::farthest-loop-operand g l =
       below : l.side < far;
       counted : g.C.CountedLeaves.count l.fn.counter ≤ g.C.CountedLeaves.count l.counter;
       cost : g.C.CountedLeaves.count l.counter + operand_costs text bound rest ≤ g.C.CountedLeaves.count l.fn.counter + operand_costs text bound l.operands;
+      capped : (cap : ℕ) → g.C.CountedLeaves.Caps l.source cap → g.C.CountedLeaves.count l.fn.counter ≤ cap → g.C.CountedLeaves.count l.counter ≤ cap;
     }
 
 abbrev pub invariant-chains::one_of-loop-operand : goal.invariant-chains::one_of-loop-operand
@@ -38,6 +39,7 @@ invariant-chains::one_of-loop-operand g l =
       answer : best l.direction (operand_lists text rest) l.k l.best ≡ best l.direction (operand_lists text l.operands) l.k None;
       counted : g.C.CountedLeaves.count l.fn.counter ≤ g.C.CountedLeaves.count l.counter;
       cost : g.C.CountedLeaves.count l.counter + operand_costs text bound rest ≤ g.C.CountedLeaves.count l.fn.counter + operand_costs text bound l.operands;
+      capped : (cap : ℕ) → g.C.CountedLeaves.Caps l.source cap → g.C.CountedLeaves.count l.fn.counter ≤ cap → g.C.CountedLeaves.count l.counter ≤ cap;
     }
 
 abbrev pub invariant-chains::walk-loop-operand : goal.invariant-chains::walk-loop-operand
@@ -51,14 +53,15 @@ invariant-chains::walk-loop-operand g l =
       within : l.answer.end < address_end;
       counted : g.C.CountedLeaves.count l.fn.counter ≤ g.C.CountedLeaves.count l.counter;
       cost : g.C.CountedLeaves.count l.counter + operand_costs text bound l.rest ≤ g.C.CountedLeaves.count l.fn.counter + operand_costs text bound l.operands;
+      capped : (cap : ℕ) → g.C.CountedLeaves.Caps l.source cap → g.C.CountedLeaves.count l.fn.counter ≤ cap → g.C.CountedLeaves.count l.counter ≤ cap;
     }
 
 abbrev pub decreases-chains::walk-loop-operand : goal.decreases-chains::walk-loop-operand
 decreases-chains::walk-loop-operand g l = length l.rest
 
 -- what the loop gives from the member on is the answer; each turn so far cost two accesses at most
-abbrev pub invariant-containments::containment_access-loop-next : goal.invariant-containments::containment_access-loop-next
-invariant-containments::containment_access-loop-next g l =
+abbrev pub invariant-containments::containment_access-loop-answer : goal.invariant-containments::containment_access-loop-answer
+invariant-containments::containment_access-loop-answer g l =
     let text = g.C.CountedLeaves.text l.source in
     let bound = g.C.CountedLeaves.most l.source in
     let members = concordance text (form_of l.first) in
@@ -72,11 +75,12 @@ invariant-containments::containment_access-loop-next g l =
       known : IsKnown (asks l.direction l.containment) others l.known;
       counted : g.C.CountedLeaves.count l.fn.counter ≤ g.C.CountedLeaves.count l.counter;
       cost : g.C.CountedLeaves.count l.counter ≤ g.C.CountedLeaves.count l.fn.counter + (first + second) + turns l.direction l.containment members others l.member * (first + second);
+      capped : (cap : ℕ) → g.C.CountedLeaves.Caps l.source cap → g.C.CountedLeaves.count l.fn.counter ≤ cap → g.C.CountedLeaves.count l.counter ≤ cap;
     }
 
 -- the turns that are left
-abbrev pub decreases-containments::containment_access-loop-next : goal.decreases-containments::containment_access-loop-next
-decreases-containments::containment_access-loop-next g l =
+abbrev pub decreases-containments::containment_access-loop-answer : goal.decreases-containments::containment_access-loop-answer
+decreases-containments::containment_access-loop-answer g l =
     let members = concordance (g.C.CountedLeaves.text l.source) (form_of l.first) in
     let others = concordance (g.C.CountedLeaves.text l.source) (form_of l.second) in
     min (length members) (length others) - turns l.direction l.containment members others l.member

@@ -1,4 +1,4 @@
-use Rattle.std.proofs.Common.{◌≡◌, ◌+◌, Some, sym, subst, arith}
+use Rattle.std.proofs.Common.{◌≡◌, ◌+◌, Some, sym, ◌∙◌, subst, arith}
 use Rattle.gcl_model.specs.Elements.{IsElementUpTo}
 use Rattle.gcl_model.specs.Texts.{previous_place}
 use Rattle.gcl_eval.specs.declared.direction.Access.TheVariants.{LastEnd}
@@ -8,24 +8,24 @@ use Rattle.gcl_eval.proofs.elements.three_look_ups.Goals as goal
 -- the last first token before it lies within the addresses
 pub overflow_add-start : goal.overflow_add-start
 overflow_add-start g c =
-    let within = place_below LastEnd (g.C.CountedLeaves.text c.args.source.now) c.in_ok-found.ensures.sound c.args.first.now c.in_ok-behind.behind c.in_ok-start.start c.in_ok-start.ensures.answer in
+    let within = place_below LastEnd (g.C.CountedLeaves.text c.args.source.now) c.in_ok-found.ensures.sound c.args.first.now c.in-Some-checked_sub.behind c.in-Some-2.start (sym c.in-Some-2.is ∙ c.in_ok-start.ensures.answer) in
     omega arith
 
 -- the element ends after its start
 pub new-requires : goal.new-requires
 new-requires g c =
-    let above = end_above (g.C.CountedLeaves.text c.args.source.now) c.args.first.now c.args.second.now c.in_ok-found.ensures.sound (c.in_ok-start.start + 1) c.in_ok-end.end c.in_ok-end.ensures.answer in
+    let above = end_above (g.C.CountedLeaves.text c.args.source.now) c.args.first.now c.args.second.now c.in_ok-found.ensures.sound (c.in-Some-2.start + 1) c.in-Some-3.end (sym c.in-Some-3.is ∙ c.in_ok-end.ensures.answer) in
     omega arith
 
 pub returns-then-k-end-clause-answer : goal.returns-then-k-end-clause-answer
 returns-then-k-end-clause-answer g c =
     let text = g.C.CountedLeaves.text c.args.source.now in
-    let before = c.in_ok-behind.ensures in
+    let before = (rw c.in-Some-checked_sub.is at c.checked_sub.ensures) in
     subst (IsElementUpTo text.words c.args.first.now c.args.second.now c.args.k) (sym c.new.ensures) (record {
-      at = c.in_ok-found.found;
-      found = c.in_ok-found.ensures.answer;
+      at = c.in-Some.found;
+      found = sym c.in-Some.is ∙ c.in_ok-found.ensures.answer;
       behind = omega (arith, before.0);
-      back = subst (λ n. Some c.in_ok-start.start ≡ previous_place text.words c.args.first.now n) before.1 c.in_ok-start.ensures.answer;
-      on = c.in_ok-end.ensures.answer;
+      back = subst (λ n. Some c.in-Some-2.start ≡ previous_place text.words c.args.first.now n) before.1 (sym c.in-Some-2.is ∙ c.in_ok-start.ensures.answer);
+      on = (sym c.in-Some-3.is ∙ c.in_ok-end.ensures.answer);
       reaches = c.if-k-end.true;
     })

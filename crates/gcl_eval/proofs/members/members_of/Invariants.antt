@@ -1,4 +1,4 @@
-use Rattle.std.proofs.Common.{◌≡◌, ◌+◌, ◌*◌, ◌<◌, ◌≤◌, ◌++◌, length}
+use Rattle.std.proofs.Common.{◌≡◌, ℕ, ◌+◌, ◌*◌, ◌<◌, ◌≤◌, ◌++◌, length}
 use Rattle.gcl_model.specs.Limits.{far}
 use Rattle.gcl_model.specs.FormOf.{form_of}
 use Rattle.gcl_model.specs.Meaning.{concordance}
@@ -19,6 +19,7 @@ invariant-loop-page g l =
       known : KnowsOperands text (form_of l.expr) l.known;
       counted : g.C.CountedLeaves.count l.fn.counter ≤ g.C.CountedLeaves.count l.counter;
       cost : g.C.CountedLeaves.count l.counter ≤ g.C.CountedLeaves.count l.fn.counter + length l.members * near_cost text (g.C.CountedLeaves.most l.source) (form_of l.expr);
+      capped : (cap : ℕ) → g.C.CountedLeaves.Caps l.source cap → g.C.CountedLeaves.count l.fn.counter ≤ cap → g.C.CountedLeaves.count l.counter ≤ cap;
     }
 
 abbrev pub decreases-loop-page : goal.decreases-loop-page

@@ -12,8 +12,8 @@ use Rattle.gcl_eval.proofs.ChainSteps.{best_next, best_all}
 use Rattle.gcl_eval.proofs.KnownLemmas.{operand_list_at, known_kept, nearer_within}
 use Rattle.gcl_eval.proofs.onward.first_of_one.Goals as goal
 
-pub known_access-answer-requires-clause-known : goal.known_access-answer-requires-clause-known
-known_access-answer-requires-clause-known g c =
+pub known_access-requires-clause-known : goal.known_access-requires-clause-known
+known_access-requires-clause-known g c =
     let text = g.C.CountedLeaves.text c.args.source.now in
     let item = c.index-operands-number.result in
     let at = operand_list_at text c.args.operands.now c.loop-number.number item c.loop-number-test.true c.index-operands-number.is in
@@ -32,13 +32,14 @@ loop-number-preserved g c =
     let costs = costs_beside Forward text (g.C.CountedLeaves.most c.args.source.now) rest item others here in
     record {
       operands = (parts_beside Forward rest item others here c.loop-number.invariant.operands).rest;
-      answer = rw c.better-best.ensures (best_next Forward text rest others item here c.args.k c.loop-number.best (best Forward lists c.args.k None) c.loop-number.invariant.answer c.known_access-answer.result c.known_access-answer.ensures.answer);
-      within = rw c.better-best.ensures (nearer_within c.loop-number.best c.known_access-answer.result c.loop-number.invariant.within c.known_access-answer.ensures.within);
+      answer = rw c.better-best.ensures (best_next Forward text rest others item here c.args.k c.loop-number.best (best Forward lists c.args.k None) c.loop-number.invariant.answer c.in_ok-answer.answer c.in_ok-answer.ensures.answer);
+      within = rw c.better-best.ensures (nearer_within c.loop-number.best c.in_ok-answer.answer c.loop-number.invariant.within c.in_ok-answer.ensures.within);
       known = subst (λ known. AreKnown lists known) (sym c.keep.ensures)
-          (known_kept lists c.loop-number.known c.loop-number.invariant.known c.loop-number.number c.known_access-answer.new.known
-          (subst (λ list. IsKnown FirstStart list c.known_access-answer.new.known) (sym at) c.known_access-answer.ensures.known));
-      counted = omega (arith, c.loop-number.invariant.counted, c.known_access-answer.ensures.counted);
-      cost = omega (arith, c.known_access-answer.ensures.cost);
+          (known_kept lists c.loop-number.known c.loop-number.invariant.known c.loop-number.number c.known_access.new.known
+          (subst (λ list. IsKnown FirstStart list c.known_access.new.known) (sym at) c.in_ok-answer.ensures.known));
+      counted = omega (arith, c.loop-number.invariant.counted, c.known_access.ensures.counted);
+      cost = omega (arith, c.in_ok-answer.ensures.cost);
+      capped = λ cap caps old. c.known_access.ensures.capped cap caps (c.loop-number.invariant.capped cap caps old);
     }
 
 pub returns-clause-answer : goal.returns-clause-answer

@@ -1,4 +1,4 @@
-use Rattle.std.proofs.Common.{◌≡◌, ◌+◌, ◌<◌, ◌≤◌, None, IfSome, drop}
+use Rattle.std.proofs.Common.{◌≡◌, ℕ, ◌+◌, ◌<◌, ◌≤◌, None, IfSome, drop}
 use Rattle.gcl_model.specs.Limits.{address_end}
 use Rattle.gcl_model.specs.WellFormed.{AreWellFormed}
 use Rattle.gcl_eval.specs.Operands.{operand_forms, operand_lists, operand_costs}
@@ -20,4 +20,5 @@ invariant-loop-number g l =
       known : AreKnown (operand_lists text l.operands) l.known;
       counted : g.C.CountedLeaves.count l.fn.counter ≤ g.C.CountedLeaves.count l.counter;
       cost : g.C.CountedLeaves.count l.counter + operand_costs text bound rest ≤ g.C.CountedLeaves.count l.fn.counter + operand_costs text bound l.operands;
+      capped : (cap : ℕ) → g.C.CountedLeaves.Caps l.source cap → g.C.CountedLeaves.count l.fn.counter ≤ cap → g.C.CountedLeaves.count l.counter ≤ cap;
     }

@@ -1,4 +1,4 @@
-use Rattle.std.proofs.Common.{◌≡◌, ◌+◌, ◌-◌, ◌<◌, ◌≤◌, Some, length, ap, sym, subst, refl, ◌∙◌, inl, inr, arith}
+use Rattle.std.proofs.Common.{◌≡◌, ◌+◌, ◌-◌, ◌<◌, ◌≤◌, Some, None, length, ap, sym, subst, refl, ◌∙◌, inl, inr, arith}
 use Rattle.gcl_model.specs.Cost.{fewest_places}
 use Rattle.phrase_walk.specs.Starts.{IsInPlace}
 use Rattle.phrase_walk.proofs.Asked.{asked_turns, rounds_within}
@@ -12,31 +12,28 @@ returns-then-span-k-clause-answer g c =
     let past : c.span.result.next ≤ c.args.k = c.if-span-k.true in
     forward_past (g.C.CountedLeaves.text c.args.source.now) c.args.tokens.now c.span.ensures.sound c.requires c.args.k (omega (arith, next, past))
 
-pub returns-in_err-found-clause-answer : goal.returns-in_err-found-clause-answer
-returns-in_err-found-clause-answer g c =
+pub returns-in_default-clause-answer : goal.returns-in_default-clause-answer
+returns-in_default-clause-answer g c =
     let text = g.C.CountedLeaves.text c.args.source.now in
-    rw c.from_residual.ensures
-    (no_more text c.args.tokens.now c.span.ensures.sound c.requires c.args.k c.loop-agreed.start c.loop-agreed.invariant.before (c.in_err-found.ensures.none refl))
+    no_more text c.args.tokens.now c.span.ensures.sound c.requires c.args.k c.loop-agreed.start c.loop-agreed.invariant.before (c.in_ok-found.ensures.none (rw c.in_default.is refl))
 
-pub returns-in_err-found-clause-passed : goal.returns-in_err-found-clause-passed
-returns-in_err-found-clause-passed g c =
+pub returns-in_default-clause-passed : goal.returns-in_default-clause-passed
+returns-in_default-clause-passed g c =
     let kept = c.loop-agreed.invariant in
-    let found = c.from_residual.ensures in
-    rw found
-    (forward_none (g.C.CountedLeaves.text c.args.source.now) c.args.tokens.now c.span.ensures.sound c.requires c.args.k c.loop-agreed.turn c.loop-agreed.agreed c.loop-agreed.start (g.C.CountedLeaves.most c.args.source.now)
-    (g.C.CountedLeaves.count c.args.counter.now) (g.C.CountedLeaves.count c.loop-agreed.counter) (g.C.CountedLeaves.count c.next_token.new.counter) kept.turn kept.from kept.below c.in_err-found.ensures.cost kept.asked)
+    forward_none (g.C.CountedLeaves.text c.args.source.now) c.args.tokens.now c.span.ensures.sound c.requires c.args.k c.loop-agreed.turn c.loop-agreed.agreed c.loop-agreed.start (g.C.CountedLeaves.most c.args.source.now)
+    (g.C.CountedLeaves.count c.args.counter.now) (g.C.CountedLeaves.count c.loop-agreed.counter) (g.C.CountedLeaves.count c.next_token.new.counter) kept.turn kept.from kept.below c.in_ok-found.ensures.cost kept.asked
 
-pub returns-in_err-found-clause-rounds : goal.returns-in_err-found-clause-rounds
-returns-in_err-found-clause-rounds g c =
-    passed_rounds (g.C.CountedLeaves.text c.args.source.now) c.args.tokens.now c.span.ensures.sound c.requires c.args.k (g.C.CountedLeaves.most c.args.source.now) (g.C.CountedLeaves.count c.args.counter.now) (g.C.CountedLeaves.count c.next_token.new.counter) c.from_residual.result (returns-in_err-found-clause-passed g c)
+pub returns-in_default-clause-rounds : goal.returns-in_default-clause-rounds
+returns-in_default-clause-rounds g c =
+    passed_rounds (g.C.CountedLeaves.text c.args.source.now) c.args.tokens.now c.span.ensures.sound c.requires c.args.k (g.C.CountedLeaves.most c.args.source.now) (g.C.CountedLeaves.count c.args.counter.now) (g.C.CountedLeaves.count c.next_token.new.counter) None (returns-in_default-clause-passed g c)
 
-pub returns-in_err-found-clause-cost : goal.returns-in_err-found-clause-cost
-returns-in_err-found-clause-cost g c =
+pub returns-in_default-clause-cost : goal.returns-in_default-clause-cost
+returns-in_default-clause-cost g c =
     rounds_within (length c.args.tokens.now) (fewest_places (g.C.CountedLeaves.text c.args.source.now).words c.args.tokens.now) (g.C.CountedLeaves.most c.args.source.now)
-    (g.C.CountedLeaves.count c.args.counter.now) (g.C.CountedLeaves.count c.next_token.new.counter) (returns-in_err-found-clause-rounds g c)
+    (g.C.CountedLeaves.count c.args.counter.now) (g.C.CountedLeaves.count c.next_token.new.counter) (returns-in_default-clause-rounds g c)
 
 pub overflow_sub-earliest : goal.overflow_sub-earliest
-overflow_sub-earliest g c = let from = c.in_ok-found.ensures.found.from in omega (arith, from)
+overflow_sub-earliest g c = let told = rw c.in-Some.is at c.in_ok-found.ensures.found in let from = told.from in omega (arith, from)
 
 pub loop-agreed-smaller : goal.loop-agreed-smaller
 loop-agreed-smaller g c =
@@ -44,11 +41,11 @@ loop-agreed-smaller g c =
     let tokens = c.args.tokens.now in
     let start = c.loop-agreed.start in
     let turn = c.loop-agreed.turn in
-    let place = c.in_ok-found.found.place in
+    let place = c.in-Some.found.place in
     let agreed = c.if-earliest-start.agreed in
     let leads : Leads (place - turn) start c.loop-agreed.agreed agreed =
     elim c.if-earliest-start.branch [ then-earliest-start w ↦ inl (w.if-earliest-start.true, w.agreed-is) | else-earliest-start w ↦ inr (w.if-earliest-start.false, w.agreed-is) ] in
-    let told = c.in_ok-found.ensures.found in
+    let told = rw c.in-Some.is at c.in_ok-found.ensures.found in
     closer_on text.next start turn place (length tokens) c.loop-agreed.agreed agreed c.loop-agreed-test.true told.from told.within leads
 
 pub loop-agreed-preserved : goal.loop-agreed-preserved
@@ -58,11 +55,11 @@ loop-agreed-preserved g c =
     let start = c.loop-agreed.start in
     let turn = c.loop-agreed.turn in
     let kept = c.loop-agreed.invariant in
-    let place = c.in_ok-found.found.place in
+    let place = c.in-Some.found.place in
     let agreed = c.if-earliest-start.agreed in
     let leads : Leads (place - turn) start c.loop-agreed.agreed agreed =
     elim c.if-earliest-start.branch [ then-earliest-start w ↦ inl (w.if-earliest-start.true, w.agreed-is) | else-earliest-start w ↦ inr (w.if-earliest-start.false, w.agreed-is) ] in
-    let told = c.in_ok-found.ensures.found in
+    let told = rw c.in-Some.is at c.in_ok-found.ensures.found in
     let above : start + turn ≤ place = told.from in
     let within : place < text.next = told.within in
     let asked : IsAskedForward text tokens c.args.k (turn + 1) agreed (place - turn) (g.C.CountedLeaves.most c.args.source.now) (g.C.CountedLeaves.count c.args.counter.now) (g.C.CountedLeaves.count c.next_token.new.counter) =
@@ -79,9 +76,10 @@ loop-agreed-preserved g c =
       turn = turns.0;
       agreed = elim leads [ inl e ↦ omega (arith, e.1, c.loop-agreed-test.true) | inr e ↦ omega (arith, e.1, c.loop-agreed-test.true) ];
       stands = λ followed.
-          let next = c.in_ok-found.ensures.followed followed in
+          let next = (rw c.in-Some.is at c.in_ok-found.ensures.followed) followed in
           subst (IsInPlace text tokens (place - turn)) (sym (c.next_turn-turn.ensures.goes_on next.more)) next.behind;
       counted = omega (arith, kept.counted, c.in_ok-found.ensures.counted);
+      capped = λ cap caps old. c.in_ok-found.ensures.capped cap caps (kept.capped cap caps old);
     }
 
 pub returns-clause-answer : goal.returns-clause-answer

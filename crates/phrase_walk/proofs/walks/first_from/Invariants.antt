@@ -1,4 +1,4 @@
-use Rattle.std.proofs.Common.{◌+◌, ◌-◌, ◌*◌, ◌<◌, ◌≤◌, IsTrue, length}
+use Rattle.std.proofs.Common.{ℕ, ◌+◌, ◌-◌, ◌*◌, ◌<◌, ◌≤◌, IsTrue, length}
 use Rattle.phrase_walk.specs.Starts.{IsInPlace}
 use Rattle.phrase_walk.proofs.Steps.{NoneBefore, IsAskedForward}
 use Rattle.phrase_walk.proofs.walks.first_from.Given as goal
@@ -17,6 +17,7 @@ invariant-loop-agreed g l =
       agreed : l.agreed ≤ length l.tokens;
       stands : IsTrue l.stands → IsInPlace text l.tokens l.start l.turn;
       counted : g.C.CountedLeaves.count l.fn.counter ≤ g.C.CountedLeaves.count l.counter;
+      capped : (cap : ℕ) → g.C.CountedLeaves.Caps l.source cap → g.C.CountedLeaves.count l.fn.counter ≤ cap → g.C.CountedLeaves.count l.counter ≤ cap;
     }
 
 abbrev pub decreases-loop-agreed : goal.decreases-loop-agreed

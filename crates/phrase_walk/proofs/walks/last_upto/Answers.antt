@@ -7,18 +7,17 @@ use Rattle.phrase_walk.proofs.Steps.{Leads, NoneBehind, IsAskedBackward, passed_
 use Rattle.phrase_walk.proofs.walks.last_upto.Goals as goal
 use Rattle.phrase_walk.proofs.walks.last_upto.Goals.{then-latest-start, else-latest-start}
 
-pub returns-in_err-room-clause-answer : goal.returns-in_err-room-clause-answer
-returns-in_err-room-clause-answer g c =
+pub returns-in_default-clause-answer : goal.returns-in_default-clause-answer
+returns-in_default-clause-answer g c =
     let next : c.span.result.next ≡ (g.C.CountedLeaves.text c.args.source.now).next = c.span.ensures.next in
-    let short : length c.args.tokens.now ≤ c.span.result.next → ⊥ = c.in_err-room.ensures in
-    rw c.from_residual.ensures
-    (backward_short (g.C.CountedLeaves.text c.args.source.now) c.args.tokens.now c.span.ensures.sound c.requires c.args.k (omega arith))
+    let short : length c.args.tokens.now ≤ c.span.result.next → ⊥ = rw c.in_default.is at c.checked_sub.ensures in
+    backward_short (g.C.CountedLeaves.text c.args.source.now) c.args.tokens.now c.span.ensures.sound c.requires c.args.k (omega arith)
 
 pub loop-agreed-init : goal.loop-agreed-init
 loop-agreed-init g c =
     let text = g.C.CountedLeaves.text c.args.source.now in
     let next : c.span.result.next ≡ text.next = c.span.ensures.next in
-    let room = c.in_ok-room.ensures in
+    let room = rw c.in-Some.is at c.checked_sub.ensures in
     let start = c.min-start.ensures in
     let some : 1 ≤ length c.args.tokens.now = c.requires in
     record {
@@ -30,10 +29,11 @@ loop-agreed-init g c =
       turn = omega arith;
       agreed = omega arith;
       counted = omega arith;
+      capped = λ cap caps old. old;
     }
 
-pub returns-in_err-place-clause-answer : goal.returns-in_err-place-clause-answer
-returns-in_err-place-clause-answer g c =
+pub returns-in_default-2-clause-answer : goal.returns-in_default-2-clause-answer
+returns-in_default-2-clause-answer g c =
     let text = g.C.CountedLeaves.text c.args.source.now in
     let tokens = c.args.tokens.now in
     let start = c.loop-agreed.start in
@@ -41,44 +41,42 @@ returns-in_err-place-clause-answer g c =
     let at = length tokens - 1 - turn in
     let kept = c.loop-agreed.invariant in
     let token : c.as_slice.result.now ≡ token_at tokens at = token_is tokens at c.index-tokens-at.result c.as_slice.result.now (omega (arith, kept.turn)) (c.as_slice.ensures ∙ c.index-tokens-at.is) in
-    rw c.from_residual-in_err-place.ensures
-    (no_previous text tokens c.in_err-place.ensures.sound c.requires c.args.k start at (omega (arith, kept.turn)) (subst (λ t. None ≡ previous_place text.words t (start + at)) token c.in_err-place.ensures.answer) kept.behind)
+    no_previous text tokens c.in_ok-place.ensures.sound c.requires c.args.k start at (omega (arith, kept.turn)) (subst (λ t. None ≡ previous_place text.words t (start + at)) token (rw c.in_default-2.is at c.in_ok-place.ensures.answer)) kept.behind
 
-pub returns-in_err-place-clause-rounds : goal.returns-in_err-place-clause-rounds
-returns-in_err-place-clause-rounds g c =
-    let kept = c.loop-agreed.invariant in
-    backward_cost (g.C.CountedLeaves.text c.args.source.now) c.args.tokens.now c.span.ensures.sound c.requires c.loop-agreed.turn c.loop-agreed.agreed c.loop-agreed.start
-    (g.C.CountedLeaves.most c.args.source.now) (g.C.CountedLeaves.count c.args.counter.now) (g.C.CountedLeaves.count c.loop-agreed.counter) (g.C.CountedLeaves.count c.prev.new.counter) kept.turn c.in_err-place.ensures.cost kept.asked
-
-pub returns-in_err-place-clause-cost : goal.returns-in_err-place-clause-cost
-returns-in_err-place-clause-cost g c =
-    rounds_within (length c.args.tokens.now) (fewest_places (g.C.CountedLeaves.text c.args.source.now).words c.args.tokens.now) (g.C.CountedLeaves.most c.args.source.now)
-    (g.C.CountedLeaves.count c.args.counter.now) (g.C.CountedLeaves.count c.prev.new.counter) (returns-in_err-place-clause-rounds g c)
-
-pub returns-in_err-latest-clause-answer : goal.returns-in_err-latest-clause-answer
-returns-in_err-latest-clause-answer g c =
-    let text = g.C.CountedLeaves.text c.args.source.now in
-    let tokens = c.args.tokens.now in
-    let start = c.loop-agreed.start in
-    let turn = c.loop-agreed.turn in
-    let at = length tokens - 1 - turn in
-    let kept = c.loop-agreed.invariant in
-    let token : c.as_slice.result.now ≡ token_at tokens at = token_is tokens at c.index-tokens-at.result c.as_slice.result.now (omega (arith, kept.turn)) (c.as_slice.ensures ∙ c.index-tokens-at.is) in
-    let place = c.in_ok-place.place in
-    let is : Some place ≡ previous_place text.words (token_at tokens at) (start + at) = subst (λ t. Some place ≡ previous_place text.words t (start + at)) token c.in_ok-place.ensures.answer in
-    rw c.from_residual-in_err-latest.ensures
-    (no_room text tokens c.in_ok-place.ensures.sound c.requires c.args.k start at place (omega (arith, kept.turn)) is c.in_err-latest.ensures kept.behind)
-
-pub returns-in_err-latest-clause-rounds : goal.returns-in_err-latest-clause-rounds
-returns-in_err-latest-clause-rounds g c =
+pub returns-in_default-2-clause-rounds : goal.returns-in_default-2-clause-rounds
+returns-in_default-2-clause-rounds g c =
     let kept = c.loop-agreed.invariant in
     backward_cost (g.C.CountedLeaves.text c.args.source.now) c.args.tokens.now c.span.ensures.sound c.requires c.loop-agreed.turn c.loop-agreed.agreed c.loop-agreed.start
     (g.C.CountedLeaves.most c.args.source.now) (g.C.CountedLeaves.count c.args.counter.now) (g.C.CountedLeaves.count c.loop-agreed.counter) (g.C.CountedLeaves.count c.prev.new.counter) kept.turn c.in_ok-place.ensures.cost kept.asked
 
-pub returns-in_err-latest-clause-cost : goal.returns-in_err-latest-clause-cost
-returns-in_err-latest-clause-cost g c =
+pub returns-in_default-2-clause-cost : goal.returns-in_default-2-clause-cost
+returns-in_default-2-clause-cost g c =
     rounds_within (length c.args.tokens.now) (fewest_places (g.C.CountedLeaves.text c.args.source.now).words c.args.tokens.now) (g.C.CountedLeaves.most c.args.source.now)
-    (g.C.CountedLeaves.count c.args.counter.now) (g.C.CountedLeaves.count c.prev.new.counter) (returns-in_err-latest-clause-rounds g c)
+    (g.C.CountedLeaves.count c.args.counter.now) (g.C.CountedLeaves.count c.prev.new.counter) (returns-in_default-2-clause-rounds g c)
+
+pub returns-in_default-checked_sub-clause-answer : goal.returns-in_default-checked_sub-clause-answer
+returns-in_default-checked_sub-clause-answer g c =
+    let text = g.C.CountedLeaves.text c.args.source.now in
+    let tokens = c.args.tokens.now in
+    let start = c.loop-agreed.start in
+    let turn = c.loop-agreed.turn in
+    let at = length tokens - 1 - turn in
+    let kept = c.loop-agreed.invariant in
+    let token : c.as_slice.result.now ≡ token_at tokens at = token_is tokens at c.index-tokens-at.result c.as_slice.result.now (omega (arith, kept.turn)) (c.as_slice.ensures ∙ c.index-tokens-at.is) in
+    let place = c.in-Some-2.place in
+    let is : Some place ≡ previous_place text.words (token_at tokens at) (start + at) = subst (λ t. Some place ≡ previous_place text.words t (start + at)) token (sym c.in-Some-2.is ∙ c.in_ok-place.ensures.answer) in
+    no_room text tokens c.in_ok-place.ensures.sound c.requires c.args.k start at place (omega (arith, kept.turn)) is (rw c.in_default-checked_sub.is at c.checked_sub-in-loop-agreed.ensures) kept.behind
+
+pub returns-in_default-checked_sub-clause-rounds : goal.returns-in_default-checked_sub-clause-rounds
+returns-in_default-checked_sub-clause-rounds g c =
+    let kept = c.loop-agreed.invariant in
+    backward_cost (g.C.CountedLeaves.text c.args.source.now) c.args.tokens.now c.span.ensures.sound c.requires c.loop-agreed.turn c.loop-agreed.agreed c.loop-agreed.start
+    (g.C.CountedLeaves.most c.args.source.now) (g.C.CountedLeaves.count c.args.counter.now) (g.C.CountedLeaves.count c.loop-agreed.counter) (g.C.CountedLeaves.count c.prev.new.counter) kept.turn c.in_ok-place.ensures.cost kept.asked
+
+pub returns-in_default-checked_sub-clause-cost : goal.returns-in_default-checked_sub-clause-cost
+returns-in_default-checked_sub-clause-cost g c =
+    rounds_within (length c.args.tokens.now) (fewest_places (g.C.CountedLeaves.text c.args.source.now).words c.args.tokens.now) (g.C.CountedLeaves.most c.args.source.now)
+    (g.C.CountedLeaves.count c.args.counter.now) (g.C.CountedLeaves.count c.prev.new.counter) (returns-in_default-checked_sub-clause-rounds g c)
 
 pub loop-agreed-smaller : goal.loop-agreed-smaller
 loop-agreed-smaller g c =
@@ -89,10 +87,10 @@ loop-agreed-smaller g c =
     let at = length tokens - 1 - turn in
     let kept = c.loop-agreed.invariant in
     let token : c.as_slice.result.now ≡ token_at tokens at = token_is tokens at c.index-tokens-at.result c.as_slice.result.now (omega (arith, kept.turn)) (c.as_slice.ensures ∙ c.index-tokens-at.is) in
-    let place = c.in_ok-place.place in
-    let is : Some place ≡ previous_place text.words (token_at tokens at) (start + at) = subst (λ t. Some place ≡ previous_place text.words t (start + at)) token c.in_ok-place.ensures.answer in
-    let room = c.in_ok-latest.ensures in
-    let latest : c.in_ok-latest.latest ≡ place - at = omega (arith, room.0, room.1) in
+    let place = c.in-Some-2.place in
+    let is : Some place ≡ previous_place text.words (token_at tokens at) (start + at) = subst (λ t. Some place ≡ previous_place text.words t (start + at)) token (sym c.in-Some-2.is ∙ c.in_ok-place.ensures.answer) in
+    let room = rw c.in-Some-checked_sub.is at c.checked_sub-in-loop-agreed.ensures in
+    let latest : c.in-Some-checked_sub.latest ≡ place - at = omega (arith, room.0, room.1) in
     let following = c.if-latest-start.agreed in
     let leads : Leads (place - at) start c.loop-agreed.agreed following =
     subst (λ n. Leads n start c.loop-agreed.agreed following) latest
@@ -110,20 +108,20 @@ loop-agreed-preserved g c =
     let at = length tokens - 1 - turn in
     let kept = c.loop-agreed.invariant in
     let token : c.as_slice.result.now ≡ token_at tokens at = token_is tokens at c.index-tokens-at.result c.as_slice.result.now (omega (arith, kept.turn)) (c.as_slice.ensures ∙ c.index-tokens-at.is) in
-    let place = c.in_ok-place.place in
-    let is : Some place ≡ previous_place text.words (token_at tokens at) (start + at) = subst (λ t. Some place ≡ previous_place text.words t (start + at)) token c.in_ok-place.ensures.answer in
-    let room = c.in_ok-latest.ensures in
-    let latest : c.in_ok-latest.latest ≡ place - at = omega (arith, room.0, room.1) in
+    let place = c.in-Some-2.place in
+    let is : Some place ≡ previous_place text.words (token_at tokens at) (start + at) = subst (λ t. Some place ≡ previous_place text.words t (start + at)) token (sym c.in-Some-2.is ∙ c.in_ok-place.ensures.answer) in
+    let room = rw c.in-Some-checked_sub.is at c.checked_sub-in-loop-agreed.ensures in
+    let latest : c.in-Some-checked_sub.latest ≡ place - at = omega (arith, room.0, room.1) in
     let following = c.if-latest-start.agreed in
     let leads : Leads (place - at) start c.loop-agreed.agreed following =
     subst (λ n. Leads n start c.loop-agreed.agreed following) latest
     (elim c.if-latest-start.branch [ then-latest-start w ↦ inl (w.if-latest-start.true, w.agreed-is) | else-latest-start w ↦ inr (w.if-latest-start.false, w.agreed-is) ]) in
     let upto = previous_within text tokens c.in_ok-place.ensures.sound c.requires at start place is in
-    let asked : IsAskedBackward text tokens (turn + 1) following c.in_ok-latest.latest (g.C.CountedLeaves.most c.args.source.now) (g.C.CountedLeaves.count c.args.counter.now) (g.C.CountedLeaves.count c.prev.new.counter) =
+    let asked : IsAskedBackward text tokens (turn + 1) following c.in-Some-checked_sub.latest (g.C.CountedLeaves.most c.args.source.now) (g.C.CountedLeaves.count c.args.counter.now) (g.C.CountedLeaves.count c.prev.new.counter) =
     subst (λ n. IsAskedBackward text tokens (turn + 1) following n (g.C.CountedLeaves.most c.args.source.now) (g.C.CountedLeaves.count c.args.counter.now) (g.C.CountedLeaves.count c.prev.new.counter)) (sym latest)
     (backward_on text tokens c.in_ok-place.ensures.sound c.requires turn c.loop-agreed.agreed following start (g.C.CountedLeaves.most c.args.source.now) (g.C.CountedLeaves.count c.args.counter.now) (g.C.CountedLeaves.count c.loop-agreed.counter) (g.C.CountedLeaves.count c.prev.new.counter) place
     c.loop-agreed-test.true c.in_ok-place.ensures.cost is room.0 leads kept.asked) in
-    let turns = asked_turns (length tokens) turn c.next_turn-turn.result following (passed_downto text tokens c.in_ok-latest.latest) (λ i. IsInPlace text tokens c.in_ok-latest.latest (from_last tokens i))
+    let turns = asked_turns (length tokens) turn c.next_turn-turn.result following (passed_downto text tokens c.in-Some-checked_sub.latest) (λ i. IsInPlace text tokens c.in-Some-checked_sub.latest (from_last tokens i))
     (g.C.CountedLeaves.most c.args.source.now) (g.C.CountedLeaves.count c.args.counter.now) (g.C.CountedLeaves.count c.prev.new.counter) kept.turn c.next_turn-turn.ensures.wraps c.next_turn-turn.ensures.goes_on asked in
     record {
       asked = turns.1;
@@ -133,6 +131,7 @@ loop-agreed-preserved g c =
       turn = turns.0;
       agreed = elim leads [ inl e ↦ omega (arith, e.1, c.loop-agreed-test.true) | inr e ↦ omega (arith, e.1, c.loop-agreed-test.true) ];
       counted = omega (arith, kept.counted, c.in_ok-place.ensures.counted);
+      capped = λ cap caps old. c.in_ok-place.ensures.capped cap caps (kept.capped cap caps old);
     }
 
 pub returns-clause-answer : goal.returns-clause-answer

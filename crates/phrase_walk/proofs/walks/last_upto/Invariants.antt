@@ -1,4 +1,4 @@
-use Rattle.std.proofs.Common.{◌+◌, ◌-◌, ◌*◌, ◌<◌, ◌≤◌, length}
+use Rattle.std.proofs.Common.{ℕ, ◌+◌, ◌-◌, ◌*◌, ◌<◌, ◌≤◌, length}
 use Rattle.phrase_walk.proofs.Steps.{NoneBehind, IsAskedBackward}
 use Rattle.phrase_walk.proofs.walks.last_upto.Given as goal
 
@@ -15,6 +15,7 @@ invariant-loop-agreed g l =
       turn : l.turn < length l.tokens;
       agreed : l.agreed ≤ length l.tokens;
       counted : g.C.CountedLeaves.count l.fn.counter ≤ g.C.CountedLeaves.count l.counter;
+      capped : (cap : ℕ) → g.C.CountedLeaves.Caps l.source cap → g.C.CountedLeaves.count l.fn.counter ≤ cap → g.C.CountedLeaves.count l.counter ≤ cap;
     }
 
 abbrev pub decreases-loop-agreed : goal.decreases-loop-agreed

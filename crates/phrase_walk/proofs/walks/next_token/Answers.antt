@@ -27,8 +27,8 @@ returns-then-pair-clause-found g c =
 pub returns-then-pair-clause-followed : goal.returns-then-pair-clause-followed
 returns-then-pair-clause-followed g c = λ followed. (c.earliest_start-pair.ensures.found c.if-pair.true).2
 
-pub returns-in_err-place-clause-none : goal.returns-in_err-place-clause-none
-returns-in_err-place-clause-none g c =
+pub returns-in_default-clause-none : goal.returns-in_default-clause-none
+returns-in_default-clause-none g c =
     let text = g.C.CountedLeaves.text c.args.source.now in
     let tokens = c.args.tokens.now in
     let turn = c.args.turn in
@@ -36,7 +36,7 @@ returns-in_err-place-clause-none g c =
     let token : c.as_slice.result.now ≡ token_at tokens turn = token_is tokens turn c.index-tokens-turn.result c.as_slice.result.now c.requires.turn (c.as_slice.ensures ∙ c.index-tokens-turn.is) in
     λ nothing.
     none_from_next text tokens c.requires.sound (omega (arith, c.requires.turn)) c.args.start from turn c.requires.turn c.earliest_start-pair.ensures.none
-    (subst (λ t. None ≡ next_place text.words t (from + turn)) token c.in_err-place.ensures.answer)
+    (subst (λ t. None ≡ next_place text.words t (from + turn)) token (sym c.in_default.is ∙ c.in_ok-place.ensures.answer))
 
 pub returns-clause-found : goal.returns-clause-found
 returns-clause-found g c =
@@ -44,7 +44,7 @@ returns-clause-found g c =
     let tokens = c.args.tokens.now in
     let turn = c.args.turn in
     let from = c.earliest_start-pair.result.at in
-    let place = c.in_ok-place.place in
+    let place = c.in-Some.place in
     let token : c.as_slice.result.now ≡ token_at tokens turn = token_is tokens turn c.index-tokens-turn.result c.as_slice.result.now c.requires.turn (c.as_slice.ensures ∙ c.index-tokens-turn.is) in
     leads_to_next text tokens c.requires.sound (omega (arith, c.requires.turn)) c.args.start from turn place c.requires.turn c.earliest_start-pair.ensures.from c.earliest_start-pair.ensures.none
-    (subst (λ t. Some place ≡ next_place text.words t (from + turn)) token c.in_ok-place.ensures.answer)
+    (subst (λ t. Some place ≡ next_place text.words t (from + turn)) token (sym c.in-Some.is ∙ c.in_ok-place.ensures.answer))

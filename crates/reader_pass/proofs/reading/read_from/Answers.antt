@@ -5,7 +5,7 @@ use Rattle.gcl_model.specs.Meaning.{concordance}
 use Rattle.gcl_readers.specs.Standing.{start_at}
 use Rattle.live_version.specs.Contents.{VersionContent, version_text}
 use Rattle.reader_pass.specs.Members.{first_members_from}
-use Rattle.reader_pass.proofs.LeftLemmas.{from_later}
+use Rattle.gcl_cursor.proofs.LeftLemmas.{from_later}
 use Rattle.reader_pass.proofs.reading.read_from.Goals as goal
 
 pub returns-clause-ok : goal.returns-clause-ok

@@ -11,7 +11,7 @@ use Rattle.live_version.specs.Contents.{VersionContent, version_text}
 use Rattle.collection.specs.Engines.{last_of}
 use Rattle.collection.proofs.EngineLemmas.{last_is}
 use Rattle.reader_pass.specs.Members.{access_most}
-use Rattle.reader_pass.proofs.LeftLemmas.{from_later}
+use Rattle.gcl_cursor.proofs.LeftLemmas.{from_later}
 use Rattle.text_window.specs.Within.{within}
 use Rattle.near_search.specs.inner.Windows.{list_of_part}
 use Rattle.near_search.proofs.WindowLemmas.{over_part, page_below}

@@ -1,5 +1,0 @@
-use Rattle.query_search.proofs.pages.Pages.page_uncounted.Given as goal
-
--- the counter is the one that the call makes
-abbrev pub ghosts-next_page : goal.ghosts-next_page
-ghosts-next_page a = record { name = a.blank.name; parts = a.blank.parts }
