@@ -1,5 +1,6 @@
 -- How what was read grows, token by token.
-use Rattle.std.proofs.Common.{◌≡◌, ℕ, ◌+◌, ◌<◌, ◌≤◌, true, false, List, [], ◌∷◌, ◌++◌, map, length, None, refl, sym, ap, subst, ◌∙◌, arith}
+use Rattle.std.proofs.Common.{◌≡◌, ℕ, ◌+◌, ◌<◌, ◌≤◌, true, false, List, [], ◌∷◌, ◌++◌, map, length, None, Result, Ok, Err, IfOk, refl, sym, ap, subst, ◌∙◌, arith}
+use Rattle.std.specs.Result.{IsErrAnd}
 use Rattle.gcl_model.specs.Limits.{most_operands, most_brackets}
 use Rattle.gcl_model.specs.declared.expr.Expr.{Expr}
 use Rattle.gcl_model.specs.Forms.{Form, no_forms, more_forms}
@@ -314,3 +315,8 @@ whole_query text whole none parsed =
       brackets = omega arith;
       size = omega arith;
     }
+
+-- what is asked of an Ok, at an Err
+pub no_value : {T E : Type 0} (P : T → Type 0) (result : Result T E) (Q : E → Type 0) → IsErrAnd result Q → IfOk result P
+no_value P (Ok value) Q is = absurd is
+no_value P (Err fault) Q is = tt

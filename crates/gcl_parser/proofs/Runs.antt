@@ -118,3 +118,13 @@ width_behind text from size n is same starts =
       piece = closed 93 (width_token (digits_value 10 digits)) BadWidth digits bytes size len (ap (λ xs. starts_with_byte 93 xs) (drop-drop size from text) ∙ starts)
           ∙ ap (λ xs. one_token (width_token (digits_value 10 xs)) (size + 2)) taken;
     }
+
+-- and without that bracket none
+pub no_width : (text : List ℕ) (from size : ℕ) → size ≡ length (take_while is_ascii_digit (take (length text - from) (drop from text))) →
+    starts_with_byte 93 (drop (from + size) text) ≡ false → width_piece (drop from text) ≡ broken_piece BadWidth
+no_width text from size is starts =
+    let bytes = drop from text in
+    let digits = take_while is_ascii_digit bytes in
+    let len : length digits ≡ size = sym (is ∙ ap (λ xs. length (take_while is_ascii_digit xs)) (take_rest text from)) in
+    cond-false (starts_with_byte 93 (drop (length digits) bytes)) (one_token (width_token (digits_value 10 digits)) (length digits + 2)) (broken_piece BadWidth)
+    (ap (λ n. starts_with_byte 93 (drop n bytes)) len ∙ ap (λ xs. starts_with_byte 93 xs) (drop-drop size from text) ∙ starts)

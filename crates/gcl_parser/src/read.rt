@@ -1,4 +1,5 @@
 ghost use Rattle.std.specs.Prelude.{◌≡◌, ◌<◌, ◌≤◌, ◌∷◌, length, IfOk, IfNone, IfSome};
+ghost use Rattle.gcl_model.specs.FormOf.{form_of, containment_form};
 ghost use Rattle.gcl_parser.specs.declared.token.Joint.TheVariants.{OneOf};
 ghost use Rattle.gcl_parser.specs.Grammar.{single, joined as joined_level, below};
 ghost use Rattle.gcl_parser.specs.QueryTokens.{joint as joint_token, containment as containment_token};
@@ -10,7 +11,7 @@ use crate::node::{chain_node, containment_node, prefix_node, quoted_node, width_
 use crate::parsed::Parsed;
 use crate::scan::next_placed;
 use crate::token::{Joint, Token};
-use gcl_model::Containment;
+use gcl_model::{Containment, Expr};
 use std::alloc::{AllocError, Global};
 
 /// The query at a place of a text that is not refused.
@@ -23,12 +24,25 @@ pub fn query(alloc: Global, text: &[u8], at: usize) -> Result<Parsed, AllocError
     let mut whole = chain(alloc, text, at, Joint::OneOf)?;
     while let Some((containment, next)) = compared(text, whole.end) {
         let part = right_side(alloc, text, next)?;
-        whole = Parsed {
-            expr: containment_node(alloc, containment, whole.expr, part.expr)?,
-            end: part.end,
-        };
+        whole = contained(alloc, containment, whole.expr, part)?;
     }
     Ok(whole)
+}
+
+/// A containment of what stands on both sides of it, which ends where the right one does.
+fn contained(
+    alloc: Global,
+    containment: Containment,
+    left: Expr,
+    right: Parsed,
+) -> Result<Parsed, AllocError>
+    ensures form { IfOk result (λ parsed. form_of parsed.expr ≡ containment_form containment (form_of left) (form_of right.expr)) }
+    ensures end { IfOk result (λ parsed. parsed.end ≡ right.end) }
+{
+    Ok(Parsed {
+        expr: containment_node(alloc, containment, left, right.expr)?,
+        end: right.end,
+    })
 }
 
 /// What a containment takes on its right: one chain, so that containments group from the left.

@@ -1,9 +1,10 @@
 -- The steps of a save, put together.
-use Rattle.std.proofs.Common.{◌≡◌, ℕ, ◌+◌, ◌-◌, List, [], ◌∷◌, ◌++◌, length, take, drop, Option, None, Some, refl, sym, ap, subst, ◌∙◌, inl, inr}
+use Rattle.std.proofs.Common.{◌≡◌, ℕ, ◌+◌, ◌-◌, List, [], ◌∷◌, ◌++◌, length, take, drop, Option, None, Some, refl, sym, ap, subst, ◌∙◌, inl, inr, Result, Ok, Err, IfOk, OnOk, OnErr}
 use Rattle.std.proofs.lemmas.List.{append_assoc, append-nil, map-append, take_rest}
 use Rattle.std.proofs.lemmas.List.Folds.{concat-append}
 use Rattle.std.proofs.Math.Seq.{take-add}
 use Rattle.std.specs.List.{concat}
+use Rattle.std.specs.Result.{IsErrAnd}
 use Rattle.outside_std.specs.declared.step.Step.{Step}
 use Rattle.outside_std.specs.declared.step.Step.TheVariants.{Creates, Writes, Syncs, Renames, Removes, SyncsFolder}
 use Rattle.outside_std.specs.Saving.{Adds, written, Fills, FillsSome, Stores, Saves, Renamed, Cleared}
@@ -98,3 +99,21 @@ folder_synced a b c path bytes renamed synced =
 pub folder_unsynced : (a b c : Option (List Step)) (path bytes : List ℕ) → Renamed a b path bytes → Adds b c [] → Renamed a c path bytes
 folder_unsynced a b c path bytes renamed same =
     record { name = renamed.name; pieces = renamed.pieces; whole = renamed.whole; is = Adds-kept a b c (Creates renamed.name ∷ (written renamed.pieces ++ (Syncs ∷ (Renames renamed.name path ∷ [])))) renamed.is same }
+
+-- what is asked of an Ok, at an Err
+pub no_ok : {T E : Type 0} (P : Type 0) (result : Result T E) (Q : E → Type 0) → IsErrAnd result Q → OnOk result P
+no_ok P (Ok value) Q is = absurd is
+no_ok P (Err fault) Q is = tt
+
+pub no_value : {T E : Type 0} (P : T → Type 0) (result : Result T E) (Q : E → Type 0) → IsErrAnd result Q → IfOk result P
+no_value P (Ok value) Q is = absurd is
+no_value P (Err fault) Q is = tt
+
+-- what holds anyhow holds after an Err
+pub on_err : {T E : Type 0} (P : Type 0) (result : Result T E) → P → OnErr result P
+on_err P (Ok value) p = tt
+on_err P (Err fault) p = p
+
+-- steps after none
+pub Adds-behind : (a b c : Option (List Step)) (s : List Step) → Adds a b [] → Adds b c s → Adds a c s
+Adds-behind a b c s p q = Adds-trans a b c [] s p q

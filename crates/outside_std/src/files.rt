@@ -134,8 +134,22 @@ impl<'a, R: rt::Files + AllocGlobal> StdFiles<'a, R> {
         ensures unkept { self.new.unkept ≡ self.old.unkept }
     {
         self.take_piece()?;
-        load_from(&SystemDisk::new(self.rt), name, &mut self.piece, most, out)
+        load_named(self.rt, name, &mut self.piece, most, out)
     }
+}
+
+/// The same from the system's disk, by way of a piece that has room.
+fn load_named<R: rt::Files>(
+    rt: &R,
+    name: &[u8],
+    piece: &mut [u8],
+    most: u64,
+    out: &mut Vec<u8>,
+) -> Result<Loaded, FileFault>
+    requires { 0 < length piece.old }
+    ensures { Loads None name.now most result out.new.items }
+{
+    load_from(&SystemDisk::new(rt), name, piece, most, out)
 }
 
 /// Empties a buffer and puts the content of a name there, or its first `most + 1` bytes, by way of a piece that has room.
@@ -165,7 +179,11 @@ fn save<R: rt::Files + AllocGlobal>(rt: &R, name: &[u8], bytes: &[u8]) -> Result
         return Err(FileFault::Failed(FileCause::NotText));
     };
     let place = followed(rt, path)?;
-    let place = place.as_str();
+    save_at(rt, place.as_str(), bytes)
+}
+
+/// The same at a path that is no link.
+fn save_at<R: rt::Files + AllocGlobal>(rt: &R, place: &str, bytes: &[u8]) -> Result<(), FileFault> {
     let mode = mode_at(rt, place)?;
     replace(rt.alloc(), &mut SystemDisk::new(rt), place, mode, bytes)
 }

@@ -18,21 +18,28 @@ fn target_of(alloc: Global, link: &str, text: &str) -> Result<String, AllocError
     }
 }
 
+/// The path that a symbolic link leads to, None where the path is no link.
+fn next_place<R: rt::Files + AllocGlobal>(
+    rt: &R,
+    place: &str,
+) -> Result<Option<String>, FileFault> {
+    match fs::read_link(rt, place) {
+        Ok(text) => match text.to_str() {
+            Some(text) => Ok(Some(target_of(rt.alloc(), place, text)?)),
+            None => Err(FileFault::Failed(FileCause::NotText)),
+        },
+        Err(fault) if fault.kind() == ErrorKind::OutOfMemory => Err(FileFault::NoMemory),
+        Err(_) => Ok(None),
+    }
+}
+
 /// The path behind all symbolic links, the same one where it is none. Nothing needs to be there.
 pub fn followed<R: rt::Files + AllocGlobal>(rt: &R, path: &str) -> Result<String, FileFault> {
     let mut place = String::from_str(rt.alloc(), path)?;
     for _ in 0..LINKS_MOST {
-        match fs::read_link(rt, place.as_str()) {
-            Ok(text) => {
-                let Some(text) = text.to_str() else {
-                    return Err(FileFault::Failed(FileCause::NotText));
-                };
-                place = target_of(rt.alloc(), place.as_str(), text)?;
-            }
-            Err(fault) if fault.kind() == ErrorKind::OutOfMemory => {
-                return Err(FileFault::NoMemory);
-            }
-            Err(_) => return Ok(place),
+        match next_place(rt, place.as_str())? {
+            Some(next) => place = next,
+            None => return Ok(place),
         }
     }
     Err(FileFault::Failed(FileCause::Links))

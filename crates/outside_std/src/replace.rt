@@ -1,6 +1,7 @@
-ghost use Rattle.std.specs.Prelude.{OnOk, OnErr, [], ◌∷◌};
+ghost use Rattle.std.specs.Prelude.{List, Option, OnOk, OnErr, [], ◌∷◌};
 ghost use Rattle.outside_std.specs.Saving.{Adds, Fills, FillsSome, Stores, Saves, GivesUp};
-ghost use Rattle.outside_std.specs.declared.step.Step.TheVariants.{Removes};
+ghost use Rattle.outside_std.specs.declared.step.Step.{Step};
+ghost use Rattle.outside_std.specs.declared.step.Step.TheVariants.{Creates, Removes};
 
 use crate::beside::create_beside;
 use crate::cause::{FileCause, FileFault};
@@ -23,6 +24,16 @@ fn write_whole<D: Disk>(disk: &mut D, file: &mut D::File, text: &[u8]) -> Result
     Ok(())
 }
 
+/// Gives a file these permission bits, if there are any.
+fn allow_some<D: Disk>(disk: &mut D, file: &mut D::File, mode: Option<u32>) -> Result<(), FileCause>
+    ensures { Adds (D.steps disk.old) (D.steps disk.new) [] }
+{
+    match mode {
+        Some(mode) => disk.allow(file, mode),
+        None => Ok(()),
+    }
+}
+
 /// Gives a new file its permission bits and its text, and waits until it is on the disk.
 fn store<D: Disk>(
     disk: &mut D,
@@ -33,9 +44,7 @@ fn store<D: Disk>(
     ensures ok { OnOk result (Stores (D.steps disk.old) (D.steps disk.new) text.now) }
     ensures err { OnErr result (FillsSome (D.steps disk.old) (D.steps disk.new)) }
 {
-    if let Some(mode) = mode {
-        disk.allow(file, mode)?;
-    }
+    allow_some(disk, file, mode)?;
     write_whole(disk, file, text)?;
     disk.sync(file)
 }
@@ -61,11 +70,28 @@ pub fn replace<D: Disk>(
     ensures err { OnErr result (GivesUp (D.steps disk.old) (D.steps disk.new) path.now bytes.now) }
 {
     let (beside, mut file) = create_beside(alloc, disk, path, mode)?;
-    if let Err(cause) = store(disk, &mut file, mode, bytes) {
-        return Err(given_up(disk, beside.as_str(), cause));
+    take_path(disk, &mut file, beside.as_str(), path, mode, bytes)
+}
+
+/// The same from where the new file was created.
+fn take_path<D: Disk>(
+    disk: &mut D,
+    file: &mut D::File,
+    beside: &str,
+    path: &str,
+    mode: Option<u32>,
+    bytes: &[u8],
+) -> Result<(), FileFault>
+    ensures ok { (before : Option (List Step)) → Adds before (D.steps disk.old) (Creates beside.now ∷ []) →
+        OnOk result (Saves before (D.steps disk.new) path.now bytes.now) }
+    ensures err { (before : Option (List Step)) → Adds before (D.steps disk.old) (Creates beside.now ∷ []) →
+        OnErr result (GivesUp before (D.steps disk.new) path.now bytes.now) }
+{
+    if let Err(cause) = store(disk, file, mode, bytes) {
+        return Err(given_up(disk, beside, cause));
     }
-    if let Err(cause) = disk.rename(beside.as_str(), path) {
-        return Err(given_up(disk, beside.as_str(), cause));
+    if let Err(cause) = disk.rename(beside, path) {
+        return Err(given_up(disk, beside, cause));
     }
     match disk.sync_folder(path) {
         Ok(()) => Ok(()),

@@ -4,7 +4,7 @@ use crate::cause::FileCause;
 use crate::disk::Disk;
 use crate::sink::write_again;
 use std::fs::{OpenFile, OpenOptions, Permissions};
-use std::io::ErrorKind;
+use std::io::{Error, ErrorKind};
 use std::os::unix::fs::{OpenOptionsExt, PermissionsExt};
 use std::{fs, rt};
 
@@ -33,6 +33,22 @@ fn folder_of(path: &str) -> &str {
     }
 }
 
+/// Why a file was not created: the name may be taken.
+fn cause_of_create(fault: Error) -> FileCause {
+    if fault.kind() == ErrorKind::AlreadyExists {
+        return FileCause::Leftovers;
+    }
+    FileCause::from(fault)
+}
+
+/// What it means that a folder was not synced: some file systems sync none.
+fn sync_failed(fault: Error) -> Result<(), FileCause> {
+    if fault.kind() == ErrorKind::InvalidInput {
+        return Ok(());
+    }
+    Err(FileCause::from(fault))
+}
+
 impl<'a, R: rt::Files> Disk for SystemDisk<'a, R> {
     type Opened = R::File;
 
@@ -50,11 +66,7 @@ impl<'a, R: rt::Files> Disk for SystemDisk<'a, R> {
         let mut how = OpenOptions::new();
         how.write(true).create_new(true);
         how.mode(mode.unwrap_or(MODE_OF_NEW));
-        match how.open(self.rt, name) {
-            Ok(file) => Ok(file),
-            Err(fault) if fault.kind() == ErrorKind::AlreadyExists => Err(FileCause::Leftovers),
-            Err(fault) => Err(FileCause::from(fault)),
-        }
+        how.open(self.rt, name).map_err(cause_of_create)
     }
 
     fn allow(&mut self, file: &mut R::File, mode: u32) -> Result<(), FileCause> {
@@ -79,13 +91,13 @@ impl<'a, R: rt::Files> Disk for SystemDisk<'a, R> {
     }
 
     fn sync_folder(&mut self, name: &str) -> Result<(), FileCause> {
-        // a folder that may not be read can be written all the same, and some file systems sync no folders
+        // a folder that may not be read can be written all the same
         let Ok(folder) = fs::open(self.rt, folder_of(name)) else {
             return Ok(());
         };
         match folder.sync_all() {
-            Err(fault) if fault.kind() != ErrorKind::InvalidInput => Err(FileCause::from(fault)),
-            _ => Ok(()),
+            Ok(()) => Ok(()),
+            Err(fault) => sync_failed(fault),
         }
     }
 }

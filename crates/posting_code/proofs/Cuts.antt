@@ -119,7 +119,7 @@ lend_stretch list packed place steps count from to rising stands end counted few
     (omega (arith, counted_is, few)) counted_is (sym (ap (λ l. get_or l 0 0) mine)) (sym s.last ∙ ap last_of (sym mine)) (s.bytes ∙ ap packed_of (sym mine))
 
 -- the first member stands at the front of the bytes
-first_stands : (list : List ℕ) (count first : ℕ) (packed : List ℕ) (heads : List Head) → kept count first packed ≡ list → IsKept count first packed heads → 0 < length list → StandsAt list packed 0 record { first = first; at = 0 }
+pub first_stands : (list : List ℕ) (count first : ℕ) (packed : List ℕ) (heads : List Head) → kept count first packed ≡ list → IsKept count first packed heads → 0 < length list → StandsAt list packed 0 record { first = first; at = 0 }
 first_stands list count first packed heads is k some = block_stands_at list count first packed packed heads heads 0 record { first = first; at = 0 } is k (omega (arith, some)) refl refl refl
 
 -- the members up to a cut
@@ -236,3 +236,39 @@ lend_whole list last count first packed heads is k few =
         end = k.end;
       };
     }
+
+-- from a first member on that is no less than a number, all are
+pub from_first : (k : ℕ) (list : List ℕ) (count first : ℕ) (packed : List ℕ) (heads : List Head) → kept count first packed ≡ list → IsKept count first packed heads → k ≤ first → RiseWithin k (2 ^ 56) list
+from_first k list zero first packed heads is parts le = subst (RiseWithin k (2 ^ 56)) is tt
+from_first k list (suc n) first packed heads is parts le = subst (RiseWithin k (2 ^ 56)) is (le, parts.rising.1, parts.rising.2)
+
+pub from_none : (k : ℕ) (list : List ℕ) (count first : ℕ) (packed : List ℕ) → kept count first packed ≡ list → count ≡ 0 → RiseWithin k (2 ^ 56) list
+from_none k list count first packed is none = subst (RiseWithin k (2 ^ 56)) (ap (λ n. kept n first packed) (sym none) ∙ is) tt
+
+-- what a walk over all members behind the first needs
+pub walk_on : (list : List ℕ) (count first : ℕ) (packed : List ℕ) (heads : List Head) → kept count first packed ≡ list → IsKept count first packed heads → (count ≡ 0 → ⊥) →
+    CanUnpack packed first 0 × (count - 1 ≤ length (members_behind packed first 0))
+walk_on list count first packed heads is parts some =
+    let counted = parts.counted ∙ ap length is in
+    let at = first_stands list count first packed heads is parts (omega (arith, counted, some)) in
+    let long = ap length at.is in
+    (at.can, omega (arith, counted, long))
+
+-- where the last of all members is below a number, all are
+pub walked_below : (k : ℕ) (list : List ℕ) (count first : ℕ) (packed : List ℕ) (heads : List Head) → kept count first packed ≡ list → IsKept count first packed heads → (count ≡ 0 → ⊥) →
+    last_of (first ∷ take (count - 1) (members_behind packed first 0)) < k → RiseWithin 0 k list
+walked_below k list count first packed heads is parts some below =
+    let counted = parts.counted ∙ ap length is in
+    let at = first_stands list count first packed heads is parts (omega (arith, counted, some)) in
+    let long = ap length at.is in
+    let ms = members_behind packed first 0 in
+    let all : take (count - 1) ms ≡ ms = take_all (count - 1) ms (omega (arith, counted, long)) in
+    let end = ap last_of at.is in
+    let same = ap (λ xs. last_of (first ∷ xs)) all in
+    all_below k list (subst ArePostings is parts.rising) (omega (arith, below, end, same))
+
+-- the members after a cut are no less than their first one
+pub behind_from : (k : ℕ) (list packed : List ℕ) (cut : Cut) → ArePostings list → IsCut list packed cut → k ≤ cut.behind.first → RiseWithin k (2 ^ 56) (drop (cut.steps + 1) list)
+behind_from k list packed cut rising at le =
+    let rest = subst ArePostings at.behind.is (rise_drop 0 (2 ^ 56) list (cut.steps + 1) rising) in
+    subst (RiseWithin k (2 ^ 56)) (sym at.behind.is) (le, rest.1, rest.2)

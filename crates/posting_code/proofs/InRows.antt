@@ -216,3 +216,11 @@ packed_within before (x ∷ xs) =
 pub on_err : {T E : Type 0} (P : Type 0) (result : Result T E) → P → OnErr result P
 on_err P (Ok value) p = tt
 on_err P (Err fault) p = p
+
+-- rows whose members are the same
+pub same_rows : (packed packed' : List ℕ) (heads heads' : List Head) (lists lists' : List RowList) → packed' ≡ packed → heads' ≡ heads → lists' ≡ lists → AreListsIn packed heads lists → AreListsIn packed' heads' lists'
+same_rows packed packed' heads heads' lists lists' p h l are =
+    subst (λ bytes. AreListsIn bytes heads' lists') (sym p) (subst (λ marks. AreListsIn packed marks lists') (sym h) (subst (λ rows. AreListsIn packed heads rows) (sym l) are))
+
+pub same_lists : (packed packed' : List ℕ) (lists lists' : List RowList) → packed' ≡ packed → lists' ≡ lists → lists_in packed' lists' ≡ lists_in packed lists
+same_lists packed packed' lists lists' p l = ap (λ bytes. lists_in bytes lists') p ∙ ap (lists_in packed) l

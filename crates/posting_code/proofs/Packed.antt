@@ -257,3 +257,12 @@ none_kept first = record {
   parts = record { rising = tt; counted = refl; differences = refl; marked = refl; blocks = λ b d lt. absurd (omega (arith, lt)) };
   end = refl;
 }
+
+-- the first member of all
+pub first_put : (list : List ℕ) (count first y : ℕ) (packed : List ℕ) (heads : List Head) → kept count first packed ≡ list → IsKept count first packed heads → count ≡ 0 → ArePostings (list ++ y ∷ []) →
+    (kept 1 y packed ≡ list ++ y ∷ []) × IsKeptTo y 1 y packed []
+first_put list zero first y packed [] is parts none rising =
+    let both = first_kept first y packed [] parts (subst (λ l. ArePostings (l ++ y ∷ [])) (sym is) rising) in
+    (both.0 ∙ ap (λ l. l ++ y ∷ []) is, both.1)
+first_put list zero first y packed (h ∷ hs) is parts none rising = let marked = parts.marked in absurd (omega (arith, marked))
+first_put list (suc count) first y packed heads is parts none rising = absurd (omega (arith, none))

@@ -231,3 +231,12 @@ pass_byte packed before at i member byte r lt is small =
 pub first_or_below : (packed : List ℕ) (before at k i member after : ℕ) → drop i (before ∷ members_behind packed before at) ≡ member ∷ members_behind packed member after → (0 < i → member < k) → before < k → member < k
 first_or_below packed before at k zero member after rest below first = let same : before ≡ member = ap (λ xs. get_or xs 0 0) rest in omega (arith, same, first)
 first_or_below packed before at k (suc i) member after rest below first = below (omega arith)
+
+-- a difference of at most two bytes is small
+mixed_part : (more second : ℕ) → more ≤ 1 → second < 256 → more * (128 * second) < 32768
+mixed_part zero second le lt = omega arith
+mixed_part (suc zero) second le lt = omega arith
+mixed_part (suc (suc more)) second le lt = absurd (omega (arith, le))
+
+pub mixed_small : (first second : ℕ) → first < 256 → second < 256 → (first / 128) * (128 * second) < 32768
+mixed_small first second small lt = mixed_part (first / 128) second (omega (arith, small)) lt

@@ -1,6 +1,7 @@
 -- Lists that are put one after another, one list more.
-use Rattle.std.proofs.Common.{◌≡◌, ℕ, ◌+◌, ◌<◌, ◌^◌, List, [], ◌∷◌, ◌++◌, length, take, drop, get_or, Option, Some, IfSome, refl, sym, ap, ◌∙◌, subst, arith}
+use Rattle.std.proofs.Common.{◌≡◌, ℕ, ◌+◌, ◌<◌, ◌^◌, List, [], ◌∷◌, ◌++◌, length, take, drop, get_or, Option, Some, IfSome, Result, Ok, Err, IfOk, OnOk, refl, sym, ap, ◌∙◌, subst, arith}
 use Rattle.std.specs.List.{concat}
+use Rattle.std.specs.Result.{IsErrAnd}
 use Rattle.std.proofs.Math.Seq.{take-append_seam}
 use Rattle.std.proofs.lemmas.List.{append-nil, append_assoc, take-append-drop, take_more}
 use Rattle.std.proofs.lemmas.List.Folds.{concat-append}
@@ -67,3 +68,22 @@ still_before old more mid new is kept =
     let rest = drop (length mid) new in
     let whole : new ≡ old ++ (more ++ rest) = sym (take-append-drop (length mid) new) ∙ ap (λ m. m ++ rest) (kept ∙ is) ∙ append_assoc old more rest in
     ap (take (length old)) whole ∙ take-append_seam old (more ++ rest)
+
+-- what is asked of an Ok, at an Err
+pub no_ok : {T E : Type 0} (P : Type 0) (result : Result T E) (Q : E → Type 0) → IsErrAnd result Q → OnOk result P
+no_ok P (Ok value) Q is = absurd is
+no_ok P (Err fault) Q is = tt
+
+pub no_value : {T E : Type 0} (P : T → Type 0) (result : Result T E) (Q : E → Type 0) → IsErrAnd result Q → IfOk result P
+no_value P (Ok value) Q is = absurd is
+no_value P (Err fault) Q is = tt
+
+-- an empty list more
+pub nothing_more : (front list : List ℕ) → length list ≡ 0 → front ≡ front ++ list
+nothing_more front [] none = sym (append-nil front)
+nothing_more front (x ∷ xs) none = absurd (omega (arith, none))
+
+-- what stood first still does, behind two pieces more
+pub begins_with : (old step mid bytes new : List ℕ) → mid ≡ old ++ step → new ≡ mid ++ bytes → take (length old) new ≡ old
+begins_with old step mid bytes new mid_is new_is =
+    ap (take (length old)) (new_is ∙ ap (λ bs. bs ++ bytes) mid_is ∙ append_assoc old step bytes) ∙ take-append_seam old (step ++ bytes)

@@ -157,15 +157,19 @@ impl PostingRows {
     pub fn fit(&mut self)
         ensures { self.new ≡ self.old }
     {
-        if is_roomy(self.packed.capacity(), self.packed.len()) {
-            self.packed.shrink_to_fit();
-        }
-        if is_roomy(self.heads.capacity(), self.heads.len()) {
-            self.heads.shrink_to_fit();
-        }
-        if is_roomy(self.lists.capacity(), self.lists.len()) {
-            self.lists.shrink_to_fit();
-        }
+        fit_row(&mut self.packed);
+        fit_row(&mut self.heads);
+        fit_row(&mut self.lists);
+    }
+}
+
+/// Gives back the memory of a row that growing took and no member needs, where that is much.
+#[inline]
+fn fit_row<T: Drop>(row: &mut Vec<T>)
+    ensures { row.new.items ≡ row.old.items }
+{
+    if is_roomy(row.capacity(), row.len()) {
+        row.shrink_to_fit();
     }
 }
 

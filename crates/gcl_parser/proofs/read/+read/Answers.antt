@@ -4,7 +4,7 @@ use Rattle.gcl_model.specs.Forms.{width}
 use Rattle.gcl_parser.specs.Scanned.{shown}
 use Rattle.gcl_parser.specs.Parsed.{IsParsed, IsBracketParsed}
 use Rattle.gcl_parser.specs.Grammar.{single}
-use Rattle.gcl_parser.proofs.Growing.{Chained, chain_starts, chain_goes_on, chain_ends, chain_of_one, query_starts, query_goes_on, query_can, single_read, bracket_read, bracket_closed, not_at_end, bracket_ends}
+use Rattle.gcl_parser.proofs.Growing.{no_value, Chained, chain_starts, chain_goes_on, chain_ends, chain_of_one, query_starts, query_goes_on, query_can, single_read, bracket_read, bracket_closed, not_at_end, bracket_ends}
 use Rattle.gcl_parser.proofs.read.+read.Goals as goal
 
 pub bracketed-unreachable-requires : goal.bracketed-unreachable-requires
@@ -83,8 +83,8 @@ query-right_side-requires t c =
 pub query-loop-containment-preserved : goal.query-loop-containment-preserved
 query-loop-containment-preserved t c =
     let part = c.in_ok-part.part in
-    query_goes_on c.args.text.now c.args.at c.in-Some.next c.in-Some.containment c.loop-containment.whole part record { expr = c.in_ok-containment_node.field-0; end = part.end }
-    c.loop-containment.invariant c.in-Some.ensures.next c.in-Some.ensures.later c.in_ok-part.ensures c.in_ok-containment_node.ensures refl
+    query_goes_on c.args.text.now c.args.at c.in-Some.next c.in-Some.containment c.loop-containment.whole part c.in_ok-whole-2.whole
+    c.loop-containment.invariant c.in-Some.ensures.next c.in-Some.ensures.later c.in_ok-part.ensures c.in_ok-whole-2.ensures.form c.in_ok-whole-2.ensures.end
 
 pub operand-returns-in_ok-prefix_node-in-Prefix : goal.operand-returns-in_ok-prefix_node-in-Prefix
 operand-returns-in_ok-prefix_node-in-Prefix t c =
@@ -92,3 +92,35 @@ operand-returns-in_ok-prefix_node-in-Prefix t c =
     let placed = c.in-Some.placed in
     single_read text c.args.at placed _ record { expr = c.in_ok-prefix_node-in-Prefix.field-0; end = placed.end } c.in-Some.ensures.some (ap (λ token. shown text token) c.in-Prefix.is)
     c.in_ok-prefix_node-in-Prefix.ensures refl
+
+pub query-loop-containment-smaller : goal.query-loop-containment-smaller
+query-loop-containment-smaller t c =
+    let end = c.in_ok-whole-2.ensures.end in
+    let later = c.in_ok-part.ensures.later in
+    let within = c.in_ok-part.ensures.within in
+    let next = c.in-Some.ensures.later in
+    omega (arith, end, later, within, next)
+
+pub query-returns-in_err-whole : goal.query-returns-in_err-whole
+query-returns-in_err-whole t c = no_value _ c.from_residual.result _ c.from_residual.ensures.1
+
+pub query-returns-in_err-part : goal.query-returns-in_err-part
+query-returns-in_err-part t c = no_value _ c.from_residual-in_err-part.result _ c.from_residual-in_err-part.ensures.1
+
+pub query-returns-in_err-whole-2 : goal.query-returns-in_err-whole-2
+query-returns-in_err-whole-2 t c = no_value _ c.from_residual-in_err-whole-2.result _ c.from_residual-in_err-whole-2.ensures.1
+
+pub chain-returns-in_err-first : goal.chain-returns-in_err-first
+chain-returns-in_err-first t c = no_value _ c.from_residual.result _ c.from_residual.ensures.1
+
+pub chain-returns-in_err-push : goal.chain-returns-in_err-push
+chain-returns-in_err-push t c = no_value _ c.from_residual-in_err-push.result _ c.from_residual-in_err-push.ensures.1
+
+pub chain-returns-in_err-member : goal.chain-returns-in_err-member
+chain-returns-in_err-member t c = no_value _ c.from_residual-in_err-member.result _ c.from_residual-in_err-member.ensures.1
+
+pub chain-returns-in_err-push-2 : goal.chain-returns-in_err-push-2
+chain-returns-in_err-push-2 t c = no_value _ c.from_residual-in_err-push-2.result _ c.from_residual-in_err-push-2.ensures.1
+
+pub bracketed-returns-in_err-inside : goal.bracketed-returns-in_err-inside
+bracketed-returns-in_err-inside t c = no_value _ c.from_residual.result _ c.from_residual.ensures.1

@@ -1,9 +1,10 @@
-use Rattle.std.proofs.Common.{◌++◌, sym, ap, ◌∙◌, take}
+use Rattle.std.proofs.Common.{◌++◌, length, sym, ap, ◌∙◌, take}
 use Rattle.std.specs.List.{concat}
+use Rattle.std.proofs.Math.Seq.{take-append_seam}
 use Rattle.std.proofs.lemmas.List.{take_all}
 use Rattle.posting_code.specs.Joined.{last_in}
 use Rattle.posting_code.specs.Packed.{packed_of}
-use Rattle.posting_code.proofs.Steps.{concat_more, front_rises, still_before}
+use Rattle.posting_code.proofs.Steps.{concat_more, front_rises, no_ok, still_before}
 use Rattle.posting_code.proofs.row.put_joined.Goals as goal
 
 pub put_next-requires : goal.put_next-requires
@@ -28,3 +29,17 @@ returns-clause-ok c = c.loop-list.invariant.put ∙ ap (λ l. c.args.packed.now.
 pub returns-in_err-last-clause-before : goal.returns-in_err-last-clause-before
 returns-in_err-last-clause-before c =
     still_before c.args.packed.now.items (packed_of (concat (take c.loop-list.list-index c.args.lists.now))) c.loop-list.packed.items c.put_next.new.packed.items c.loop-list.invariant.put c.in_err-last.ensures.before
+
+pub returns-in_err-extend_from_slice-clause-ok : goal.returns-in_err-extend_from_slice-clause-ok
+returns-in_err-extend_from_slice-clause-ok c = no_ok _ c.from_residual.result _ c.from_residual.ensures.1
+
+pub returns-in_err-last-clause-ok : goal.returns-in_err-last-clause-ok
+returns-in_err-last-clause-ok c = no_ok _ c.from_residual-in_err-last.result _ c.from_residual-in_err-last.ensures.1
+
+pub returns-in-len1-clause-before : goal.returns-in-len1-clause-before
+returns-in-len1-clause-before c =
+    ap (take (length c.args.packed.now.items)) c.in_ok-extend_from_slice.ensures.items ∙ take-append_seam c.args.packed.now.items c.packed.result.now
+
+pub returns-clause-before : goal.returns-clause-before
+returns-clause-before c =
+    ap (take (length c.args.packed.now.items)) c.loop-list.invariant.put ∙ take-append_seam c.args.packed.now.items (packed_of (concat (take c.loop-list.list-index c.args.lists.now)))

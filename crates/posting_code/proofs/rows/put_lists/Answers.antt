@@ -1,11 +1,12 @@
 use Rattle.std.proofs.Common.{◌++◌, ◌^◌, drop, length, length-append, take, sym, ap, ◌∙◌, subst, arith}
 use Rattle.std.proofs.Math.Seq.{take-append_seam}
+use Rattle.std.proofs.lemmas.List.{take_all}
 use Rattle.std.specs.List.{concat}
 use Rattle.posting_code.specs.Joined.{last_in}
 use Rattle.posting_code.specs.Packed.{packed_of}
 use Rattle.posting_code.specs.Rows.{HasHeads}
 use Rattle.posting_code.proofs.Rising.{rise_length}
-use Rattle.posting_code.proofs.Steps.{concat_more, front_rises, still_before}
+use Rattle.posting_code.proofs.Steps.{concat_more, front_rises, no_ok, still_before}
 use Rattle.posting_code.proofs.InRows.{no_shorter, packed_within, still_begins}
 use Rattle.posting_code.proofs.rows.put_lists.Goals as goal
 
@@ -91,3 +92,36 @@ returns-in_err-put_heads-clause-heads_before c =
 pub returns-clause-packed_before : goal.returns-clause-packed_before
 returns-clause-packed_before c =
     ap (take (length c.args.packed.now.items)) c.loop-list.invariant.put ∙ take-append_seam c.args.packed.now.items (packed_of (concat (take c.loop-list.list-index c.args.lists.now)))
+
+pub returns-in_err-last-clause-packed : goal.returns-in_err-last-clause-packed
+returns-in_err-last-clause-packed c = no_ok _ c.from_residual.result _ c.from_residual.ensures.1
+
+pub returns-in_err-last-clause-heads : goal.returns-in_err-last-clause-heads
+returns-in_err-last-clause-heads c = no_ok _ c.from_residual.result _ c.from_residual.ensures.1
+
+pub returns-in_err-last-clause-heads_before : goal.returns-in_err-last-clause-heads_before
+returns-in_err-last-clause-heads_before c = c.loop-list.invariant.begins
+
+pub returns-in_err-put_heads-clause-packed : goal.returns-in_err-put_heads-clause-packed
+returns-in_err-put_heads-clause-packed c = no_ok _ c.from_residual-in_err-put_heads.result _ c.from_residual-in_err-put_heads.ensures.1
+
+pub returns-in_err-put_heads-clause-heads : goal.returns-in_err-put_heads-clause-heads
+returns-in_err-put_heads-clause-heads c = no_ok _ c.from_residual-in_err-put_heads.result _ c.from_residual-in_err-put_heads.ensures.1
+
+pub overflow_sub-shift : goal.overflow_sub-shift
+overflow_sub-shift c =
+    let front = concat (take c.loop-list.list-index c.args.lists.now) in
+    let put = c.in_ok-last.ensures.put front c.args.packed.now.items c.loop-list.invariant.last c.loop-list.invariant.put in
+    let long = ap length put ∙ length-append c.args.packed.now.items (packed_of (front ++ c.list-item.result)) in
+    omega (arith, long, c.len.ensures, c.len-start.ensures)
+
+pub returns-clause-packed : goal.returns-clause-packed
+returns-clause-packed c =
+    c.loop-list.invariant.put ∙ ap (λ ls. c.args.packed.now.items ++ packed_of (concat ls)) (take_all c.loop-list.list-index c.args.lists.now c.loop-list-test.false)
+
+pub returns-clause-heads : goal.returns-clause-heads
+returns-clause-heads c =
+    subst (λ ls. HasHeads (concat ls) (drop (length c.args.heads.now.items) c.loop-list.heads.items)) (take_all c.loop-list.list-index c.args.lists.now c.loop-list-test.false) c.loop-list.invariant.marks
+
+pub returns-clause-heads_before : goal.returns-clause-heads_before
+returns-clause-heads_before c = c.loop-list.invariant.begins
