@@ -93,9 +93,13 @@ module _ (text : Text) (most : ℕ) (a b : Form) where
   ahead_le containment LastEnd = spared 2 (omega arith)
   ahead_le containment LastStart = spared 4 (omega arith)
 
-pub begins_within : (containment : Containment) (text : Text) (e a b : Form) → e ≡ containment_form containment a b → (wanted : Access) (most entry ahead new : ℕ) →
-    ahead ≤ entry + ahead_cost wanted text most e → new ≤ ahead + cost_in (rounds wanted) text most a → new ≤ entry + (cost text most a + cost text most b)
-begins_within containment text e a b is wanted most entry ahead new first last =
+pub begins_within : (containment : Containment) (text : Text) (e a b : Form) → e ≡ containment_form containment a b → (wanted : Access) (most entry new : ℕ) →
+    new ≤ entry + cost_in (rounds wanted) text most a → new + ahead_cost wanted text most e ≤ entry + (cost text most a + cost text most b)
+begins_within containment text e a b is wanted most entry new first =
     let le = ahead_le text most a b containment wanted in
     let same = ap (ahead_cost wanted text most) is in
     omega arith
+
+-- what was spared counts along
+pub and_spared : (new before n spared : ℕ) → new ≤ before + n → new + spared ≤ before + spared + n
+and_spared new before n spared le = omega arith

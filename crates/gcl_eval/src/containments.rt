@@ -42,10 +42,39 @@ pub(crate) fn containment_access<C: CountedLeaves>(
         C.count counter.old + cost (C.text source.now) (C.most source.now) (form_of expr.now)) }
     ensures capped { (cap : ℕ) → C.Caps source.now cap → C.count counter.old ≤ cap → C.count counter.new ≤ cap }
 {
+    let ahead = element_ahead(expr, wanted, source, k, known, counter)?;
+    access_from_ahead(expr, wanted, source, k, ahead, known, counter)
+}
+
+/// The same where the element ahead is known, if there is one.
+#[inline(always)]
+#[cycle(access)]
+fn access_from_ahead<C: CountedLeaves>(
+    expr: &Expr,
+    wanted: Access,
+    source: &C,
+    k: u64,
+    ahead: Option<Interval>,
+    known: &mut Option<Known>,
+    counter: &mut C::Counter,
+) -> Result<Option<Interval>, C::Stop>
+    requires containment { IsContainment (form_of expr.now) }
+    requires well_formed { IsWellFormed (form_of expr.now) }
+    requires below { k < far }
+    requires begins { IfSome ahead (MayBegin wanted (C.text source.now) (form_of expr.now) k) }
+    requires within { IfSome ahead (λ a. a.end < address_end) }
+    requires known { KnowsSecond (direction_of wanted) (C.text source.now) (form_of expr.now) known.old }
+    ensures answer { IfOk result (λ found. found ≡ access_of wanted (concordance (C.text source.now) (form_of expr.now)) k) }
+    ensures within { IfOk result (λ found. IfSome found (λ a. a.end < address_end)) }
+    ensures known { IfOk result (λ _. KnowsSecond (direction_of wanted) (C.text source.now) (form_of expr.now) known.new) }
+    ensures counted { C.count counter.old ≤ C.count counter.new }
+    ensures cost { IfOk result (λ _. C.count counter.new + ahead_cost wanted (C.text source.now) (C.most source.now) (form_of expr.now) ≤
+        C.count counter.old + cost (C.text source.now) (C.most source.now) (form_of expr.now)) }
+    ensures capped { (cap : ℕ) → C.Caps source.now cap → C.count counter.old ≤ cap → C.count counter.new ≤ cap }
+{
     let (containment, first, second) = operands(expr);
     let direction = wanted.direction();
     let onward = goes_by(containment, direction);
-    let ahead = element_ahead(expr, wanted, source, k, known, counter)?;
     let Some(mut member) = first_member(ahead, first, wanted, source, k, counter)? else {
         return Ok(None);
     };

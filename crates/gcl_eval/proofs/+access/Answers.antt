@@ -2,8 +2,10 @@ use Rattle.std.proofs.Common.{◌+◌, ◌≤◌, Some, None, drop, refl, ap, sy
 use Rattle.gcl_model.specs.Forms.{term, phrase, width, both, one, seq}
 use Rattle.gcl_model.specs.FormOf.{form_of}
 use Rattle.gcl_model.specs.Meaning.{concordance}
+use Rattle.gcl_model.specs.Cost.{cost}
 use Rattle.gcl_model.specs.Extents.{Extent}
 use Rattle.gcl_model.specs.Access.{first_end}
+use Rattle.gcl_eval.specs.Costs.{ahead_cost}
 use Rattle.gcl_eval.specs.Operands.{operand_forms, operand_lists}
 use Rattle.gcl_combine.specs.Directions.{farthest, best}
 use Rattle.gcl_eval.specs.Directions.{access_of, walk, join}
@@ -18,7 +20,7 @@ use Rattle.gcl_eval.proofs.KnownLemmas.{told_is, asked_second, kept_second}
 use Rattle.gcl_eval.proofs.ContainLoops.{goes_below}
 use Rattle.gcl_eval.proofs.ContainForms.{both_operands, access_spans, spans_below}
 use Rattle.gcl_eval.proofs.ContainSteps.{node_accepts, node_finishes, node_ends, node_goes_on, node_more_turns, fewer_left, none_within, starts_within, stops_within, ends_within, goes_within}
-use Rattle.gcl_eval.proofs.Beginnings.{element_begins, node_begins, node_begins_none, begins_within}
+use Rattle.gcl_eval.proofs.Beginnings.{element_begins, node_begins, node_begins_none, begins_within, and_spared}
 use Rattle.std.proofs.lemmas.Result.{IfOk-weaker}
 use Rattle.gcl_eval.proofs.+access.Goals as goal
 
@@ -259,106 +261,116 @@ chains::walk-loop-operand-preserved g t c =
     }
 
 -- a containment: in, one turn more, and out
-pub containments::containment_access-first_member-requires : goal.containments::containment_access-first_member-requires
-containments::containment_access-first_member-requires g t c =
+pub containments::containment_access-returns-clause-cost : goal.containments::containment_access-returns-clause-cost
+containments::containment_access-returns-clause-cost g t c =
+    IfOk-weaker c.access_from_ahead.result _ _ (λ found at. omega (arith, c.in_ok-ahead.ensures.cost, at)) c.access_from_ahead.ensures.cost
+
+pub containments::access_from_ahead-first_member-requires : goal.containments::access_from_ahead-first_member-requires
+containments::access_from_ahead-first_member-requires g t c =
     let parts = both_operands c.operands-containment.result.0 (form_of c.args.expr.now) (form_of c.operands-containment.result.1.now) (form_of c.operands-containment.result.2.now) c.operands-containment.ensures.form c.requires.well_formed in
-    let within = c.in_ok-ahead.ensures.within in
+    let within = c.requires.within in
     search rules
 
-pub containments::containment_access-returns-in_default-clause-answer : goal.containments::containment_access-returns-in_default-clause-answer
-containments::containment_access-returns-in_default-clause-answer g t c =
-    node_begins_none c.operands-containment.result.0 (g.C.CountedLeaves.text c.args.source.now) (form_of c.args.expr.now) (form_of c.operands-containment.result.1.now) (form_of c.operands-containment.result.2.now) c.operands-containment.ensures.form c.args.wanted c.args.k c.in_ok-ahead.ahead (rw c.in_default.is at c.in_ok-member.ensures.answer)
+pub containments::access_from_ahead-returns-in_default-clause-answer : goal.containments::access_from_ahead-returns-in_default-clause-answer
+containments::access_from_ahead-returns-in_default-clause-answer g t c =
+    node_begins_none c.operands-containment.result.0 (g.C.CountedLeaves.text c.args.source.now) (form_of c.args.expr.now) (form_of c.operands-containment.result.1.now) (form_of c.operands-containment.result.2.now) c.operands-containment.ensures.form c.args.wanted c.args.k c.args.ahead (rw c.in_default.is at c.in_ok-member.ensures.answer)
 
-pub containments::containment_access-returns-in_default-clause-cost : goal.containments::containment_access-returns-in_default-clause-cost
-containments::containment_access-returns-in_default-clause-cost g t c =
-    let begins = begins_within c.operands-containment.result.0 (g.C.CountedLeaves.text c.args.source.now) (form_of c.args.expr.now) (form_of c.operands-containment.result.1.now) (form_of c.operands-containment.result.2.now) c.operands-containment.ensures.form c.args.wanted (g.C.CountedLeaves.most c.args.source.now) (g.C.CountedLeaves.count c.args.counter.now) (g.C.CountedLeaves.count c.element_ahead.new.counter) (g.C.CountedLeaves.count c.first_member.new.counter) c.in_ok-ahead.ensures.cost c.in_ok-member.ensures.cost in
-    none_within c.operands-containment.result.0 (g.C.CountedLeaves.text c.args.source.now) (form_of c.args.expr.now) (form_of c.operands-containment.result.1.now) (form_of c.operands-containment.result.2.now) c.operands-containment.ensures.form (g.C.CountedLeaves.most c.args.source.now) (g.C.CountedLeaves.count c.args.counter.now) (g.C.CountedLeaves.count c.first_member.new.counter) begins
+pub containments::access_from_ahead-returns-in_default-clause-cost : goal.containments::access_from_ahead-returns-in_default-clause-cost
+containments::access_from_ahead-returns-in_default-clause-cost g t c =
+    let spared = ahead_cost c.args.wanted (g.C.CountedLeaves.text c.args.source.now) (g.C.CountedLeaves.most c.args.source.now) (form_of c.args.expr.now) in
+    let begins = begins_within c.operands-containment.result.0 (g.C.CountedLeaves.text c.args.source.now) (form_of c.args.expr.now) (form_of c.operands-containment.result.1.now) (form_of c.operands-containment.result.2.now) c.operands-containment.ensures.form c.args.wanted (g.C.CountedLeaves.most c.args.source.now) (g.C.CountedLeaves.count c.args.counter.now) (g.C.CountedLeaves.count c.first_member.new.counter) c.in_ok-member.ensures.cost in
+    none_within c.operands-containment.result.0 (g.C.CountedLeaves.text c.args.source.now) (form_of c.args.expr.now) (form_of c.operands-containment.result.1.now) (form_of c.operands-containment.result.2.now) c.operands-containment.ensures.form (g.C.CountedLeaves.most c.args.source.now) (g.C.CountedLeaves.count c.args.counter.now) (g.C.CountedLeaves.count c.first_member.new.counter + spared) begins
 
-pub containments::containment_access-loop-answer-init : goal.containments::containment_access-loop-answer-init
-containments::containment_access-loop-answer-init g t c =
-    let begins = begins_within c.operands-containment.result.0 (g.C.CountedLeaves.text c.args.source.now) (form_of c.args.expr.now) (form_of c.operands-containment.result.1.now) (form_of c.operands-containment.result.2.now) c.operands-containment.ensures.form c.args.wanted (g.C.CountedLeaves.most c.args.source.now) (g.C.CountedLeaves.count c.args.counter.now) (g.C.CountedLeaves.count c.element_ahead.new.counter) (g.C.CountedLeaves.count c.first_member.new.counter) c.in_ok-ahead.ensures.cost c.in_ok-member.ensures.cost in
+pub containments::access_from_ahead-loop-answer-init : goal.containments::access_from_ahead-loop-answer-init
+containments::access_from_ahead-loop-answer-init g t c =
+    let spared = ahead_cost c.args.wanted (g.C.CountedLeaves.text c.args.source.now) (g.C.CountedLeaves.most c.args.source.now) (form_of c.args.expr.now) in
+    let begins = begins_within c.operands-containment.result.0 (g.C.CountedLeaves.text c.args.source.now) (form_of c.args.expr.now) (form_of c.operands-containment.result.1.now) (form_of c.operands-containment.result.2.now) c.operands-containment.ensures.form c.args.wanted (g.C.CountedLeaves.most c.args.source.now) (g.C.CountedLeaves.count c.args.counter.now) (g.C.CountedLeaves.count c.first_member.new.counter) c.in_ok-member.ensures.cost in
     record {
-      reached = node_begins c.operands-containment.result.0 (g.C.CountedLeaves.text c.args.source.now) (form_of c.args.expr.now) (form_of c.operands-containment.result.1.now) (form_of c.operands-containment.result.2.now) c.operands-containment.ensures.form c.args.wanted c.args.k c.direction-direction.result c.direction-direction.ensures c.in_ok-ahead.ahead c.in_ok-ahead.ensures.begins c.in-Some.member (rw c.in-Some.is at c.in_ok-member.ensures.answer);
+      reached = node_begins c.operands-containment.result.0 (g.C.CountedLeaves.text c.args.source.now) (form_of c.args.expr.now) (form_of c.operands-containment.result.1.now) (form_of c.operands-containment.result.2.now) c.operands-containment.ensures.form c.args.wanted c.args.k c.direction-direction.result c.direction-direction.ensures c.args.ahead c.requires.begins c.in-Some.member (rw c.in-Some.is at c.in_ok-member.ensures.answer);
       within = (rw c.in-Some.is at c.in_ok-member.ensures.within);
-      known = asked_second c.direction-direction.result c.args.wanted c.direction-direction.ensures c.operands-containment.result.0 (g.C.CountedLeaves.text c.args.source.now) (form_of c.args.expr.now) (form_of c.operands-containment.result.1.now) (form_of c.operands-containment.result.2.now) c.operands-containment.ensures.form c.element_ahead.new.known c.in_ok-ahead.ensures.known;
-      counted = omega (arith, c.element_ahead.ensures.counted, c.first_member.ensures.counted);
-      cost = starts_within c.operands-containment.result.0 (g.C.CountedLeaves.text c.args.source.now) (form_of c.args.expr.now) (form_of c.operands-containment.result.1.now) (form_of c.operands-containment.result.2.now) c.operands-containment.ensures.form (g.C.CountedLeaves.most c.args.source.now) (g.C.CountedLeaves.count c.args.counter.now) c.direction-direction.result c.in-Some.member (g.C.CountedLeaves.count c.first_member.new.counter) begins;
-      capped = λ cap caps old. c.first_member.ensures.capped cap caps (c.element_ahead.ensures.capped cap caps old);
+      known = asked_second c.direction-direction.result c.args.wanted c.direction-direction.ensures c.operands-containment.result.0 (g.C.CountedLeaves.text c.args.source.now) (form_of c.args.expr.now) (form_of c.operands-containment.result.1.now) (form_of c.operands-containment.result.2.now) c.operands-containment.ensures.form c.args.known.now c.requires.known;
+      counted = c.first_member.ensures.counted;
+      cost = starts_within c.operands-containment.result.0 (g.C.CountedLeaves.text c.args.source.now) (form_of c.args.expr.now) (form_of c.operands-containment.result.1.now) (form_of c.operands-containment.result.2.now) c.operands-containment.ensures.form (g.C.CountedLeaves.most c.args.source.now) (g.C.CountedLeaves.count c.args.counter.now) c.direction-direction.result c.in-Some.member (g.C.CountedLeaves.count c.first_member.new.counter + spared) begins;
+      capped = λ cap caps old. c.first_member.ensures.capped cap caps old;
     }
 
-pub containments::containment_access-known_access-requires : goal.containments::containment_access-known_access-requires
-containments::containment_access-known_access-requires g t c =
+pub containments::access_from_ahead-known_access-requires : goal.containments::access_from_ahead-known_access-requires
+containments::access_from_ahead-known_access-requires g t c =
     let parts = both_operands c.operands-containment.result.0 (form_of c.args.expr.now) (form_of c.operands-containment.result.1.now) (form_of c.operands-containment.result.2.now) c.operands-containment.ensures.form c.requires.well_formed in
     let below = c.question-asked.ensures.below in
     search rules
 
-pub containments::containment_access-turn-requires : goal.containments::containment_access-turn-requires
-containments::containment_access-turn-requires g t c =
+pub containments::access_from_ahead-turn-requires : goal.containments::access_from_ahead-turn-requires
+containments::access_from_ahead-turn-requires g t c =
     record {
       member_below = let within = c.loop-answer.invariant.within in omega arith;
       answer_below = spans_below c.in_ok-answer.answer (access_spans c.question-asked.result.0 (g.C.CountedLeaves.text c.args.source.now) (form_of c.operands-containment.result.2.now) c.question-asked.result.1 c.in_ok-answer.answer c.in_ok-answer.ensures.within c.in_ok-answer.ensures.answer);
     }
 
-pub containments::containment_access-returns-in-Accept-clause-answer : goal.containments::containment_access-returns-in-Accept-clause-answer
-containments::containment_access-returns-in-Accept-clause-answer g t c =
+pub containments::access_from_ahead-returns-in-Accept-clause-answer : goal.containments::access_from_ahead-returns-in-Accept-clause-answer
+containments::access_from_ahead-returns-in-Accept-clause-answer g t c =
     node_accepts c.operands-containment.result.0 (g.C.CountedLeaves.text c.args.source.now) (form_of c.args.expr.now) (form_of c.operands-containment.result.1.now) (form_of c.operands-containment.result.2.now) c.operands-containment.ensures.form c.direction-direction.result (access_of c.args.wanted (concordance (g.C.CountedLeaves.text c.args.source.now) (form_of c.args.expr.now)) c.args.k) c.loop-answer.member c.loop-answer.invariant.reached c.question-asked.result.0 c.question-asked.result.1 c.question-asked.ensures.asks c.in_ok-answer.answer c.in_ok-answer.ensures.answer c.in-Accept.ensures
 
-pub containments::containment_access-returns-in-Accept-clause-cost : goal.containments::containment_access-returns-in-Accept-clause-cost
-containments::containment_access-returns-in-Accept-clause-cost g t c =
-    stops_within c.operands-containment.result.0 (g.C.CountedLeaves.text c.args.source.now) (form_of c.args.expr.now) (form_of c.operands-containment.result.1.now) (form_of c.operands-containment.result.2.now) c.operands-containment.ensures.form (g.C.CountedLeaves.most c.args.source.now) (g.C.CountedLeaves.count c.args.counter.now) c.direction-direction.result c.loop-answer.member (g.C.CountedLeaves.count c.loop-answer.counter) c.loop-answer.invariant.cost (g.C.CountedLeaves.count c.known_access.new.counter) c.in_ok-answer.ensures.cost
+pub containments::access_from_ahead-returns-in-Accept-clause-cost : goal.containments::access_from_ahead-returns-in-Accept-clause-cost
+containments::access_from_ahead-returns-in-Accept-clause-cost g t c =
+    let spared = ahead_cost c.args.wanted (g.C.CountedLeaves.text c.args.source.now) (g.C.CountedLeaves.most c.args.source.now) (form_of c.args.expr.now) in
+    stops_within c.operands-containment.result.0 (g.C.CountedLeaves.text c.args.source.now) (form_of c.args.expr.now) (form_of c.operands-containment.result.1.now) (form_of c.operands-containment.result.2.now) c.operands-containment.ensures.form (g.C.CountedLeaves.most c.args.source.now) (g.C.CountedLeaves.count c.args.counter.now) c.direction-direction.result c.loop-answer.member (g.C.CountedLeaves.count c.loop-answer.counter + spared) c.loop-answer.invariant.cost (g.C.CountedLeaves.count c.known_access.new.counter + spared) (and_spared (g.C.CountedLeaves.count c.known_access.new.counter) (g.C.CountedLeaves.count c.loop-answer.counter) (cost (g.C.CountedLeaves.text c.args.source.now) (g.C.CountedLeaves.most c.args.source.now) (form_of c.operands-containment.result.2.now)) spared c.in_ok-answer.ensures.cost)
 
-pub containments::containment_access-returns-in-Finish-clause-answer : goal.containments::containment_access-returns-in-Finish-clause-answer
-containments::containment_access-returns-in-Finish-clause-answer g t c =
+pub containments::access_from_ahead-returns-in-Finish-clause-answer : goal.containments::access_from_ahead-returns-in-Finish-clause-answer
+containments::access_from_ahead-returns-in-Finish-clause-answer g t c =
     node_finishes c.operands-containment.result.0 (g.C.CountedLeaves.text c.args.source.now) (form_of c.args.expr.now) (form_of c.operands-containment.result.1.now) (form_of c.operands-containment.result.2.now) c.operands-containment.ensures.form c.direction-direction.result (access_of c.args.wanted (concordance (g.C.CountedLeaves.text c.args.source.now) (form_of c.args.expr.now)) c.args.k) c.loop-answer.member c.loop-answer.invariant.reached c.question-asked.result.0 c.question-asked.result.1 c.question-asked.ensures.asks c.in_ok-answer.answer c.in_ok-answer.ensures.answer c.in-Finish.ensures
 
-pub containments::containment_access-returns-in-Finish-clause-cost : goal.containments::containment_access-returns-in-Finish-clause-cost
-containments::containment_access-returns-in-Finish-clause-cost g t c =
-    stops_within c.operands-containment.result.0 (g.C.CountedLeaves.text c.args.source.now) (form_of c.args.expr.now) (form_of c.operands-containment.result.1.now) (form_of c.operands-containment.result.2.now) c.operands-containment.ensures.form (g.C.CountedLeaves.most c.args.source.now) (g.C.CountedLeaves.count c.args.counter.now) c.direction-direction.result c.loop-answer.member (g.C.CountedLeaves.count c.loop-answer.counter) c.loop-answer.invariant.cost (g.C.CountedLeaves.count c.known_access.new.counter) c.in_ok-answer.ensures.cost
+pub containments::access_from_ahead-returns-in-Finish-clause-cost : goal.containments::access_from_ahead-returns-in-Finish-clause-cost
+containments::access_from_ahead-returns-in-Finish-clause-cost g t c =
+    let spared = ahead_cost c.args.wanted (g.C.CountedLeaves.text c.args.source.now) (g.C.CountedLeaves.most c.args.source.now) (form_of c.args.expr.now) in
+    stops_within c.operands-containment.result.0 (g.C.CountedLeaves.text c.args.source.now) (form_of c.args.expr.now) (form_of c.operands-containment.result.1.now) (form_of c.operands-containment.result.2.now) c.operands-containment.ensures.form (g.C.CountedLeaves.most c.args.source.now) (g.C.CountedLeaves.count c.args.counter.now) c.direction-direction.result c.loop-answer.member (g.C.CountedLeaves.count c.loop-answer.counter + spared) c.loop-answer.invariant.cost (g.C.CountedLeaves.count c.known_access.new.counter + spared) (and_spared (g.C.CountedLeaves.count c.known_access.new.counter) (g.C.CountedLeaves.count c.loop-answer.counter) (cost (g.C.CountedLeaves.text c.args.source.now) (g.C.CountedLeaves.most c.args.source.now) (form_of c.operands-containment.result.2.now)) spared c.in_ok-answer.ensures.cost)
 
-pub containments::containment_access-access-requires : goal.containments::containment_access-access-requires
-containments::containment_access-access-requires g t c =
+pub containments::access_from_ahead-access-requires : goal.containments::access_from_ahead-access-requires
+containments::access_from_ahead-access-requires g t c =
     let parts = both_operands c.operands-containment.result.0 (form_of c.args.expr.now) (form_of c.operands-containment.result.1.now) (form_of c.operands-containment.result.2.now) c.operands-containment.ensures.form c.requires.well_formed in
     let spans = access_spans c.question-asked.result.0 (g.C.CountedLeaves.text c.args.source.now) (form_of c.operands-containment.result.2.now) c.question-asked.result.1 c.in_ok-answer.answer c.in_ok-answer.ensures.within c.in_ok-answer.ensures.answer in
     let below = goes_below c.direction-direction.result c.operands-containment.result.0 c.loop-answer.member c.in_ok-answer.answer c.in-GoTo.next spans c.in-GoTo.ensures in
     search rules
 
-pub containments::containment_access-returns-in_default-2-clause-answer : goal.containments::containment_access-returns-in_default-2-clause-answer
-containments::containment_access-returns-in_default-2-clause-answer g t c =
+pub containments::access_from_ahead-returns-in_default-2-clause-answer : goal.containments::access_from_ahead-returns-in_default-2-clause-answer
+containments::access_from_ahead-returns-in_default-2-clause-answer g t c =
     let from = rw c.goes_by-onward.ensures at (sym c.in_default-2.is ∙ c.in_ok-later-in-GoTo.ensures.answer) in
     node_ends c.operands-containment.result.0 (g.C.CountedLeaves.text c.args.source.now) (form_of c.args.expr.now) (form_of c.operands-containment.result.1.now) (form_of c.operands-containment.result.2.now) c.operands-containment.ensures.form c.direction-direction.result (access_of c.args.wanted (concordance (g.C.CountedLeaves.text c.args.source.now) (form_of c.args.expr.now)) c.args.k) c.loop-answer.member c.loop-answer.invariant.reached c.question-asked.result.0 c.question-asked.result.1 c.question-asked.ensures.asks c.in_ok-answer.answer c.in_ok-answer.ensures.answer c.in-GoTo.next c.in-GoTo.ensures from
 
-pub containments::containment_access-returns-in_default-2-clause-cost : goal.containments::containment_access-returns-in_default-2-clause-cost
-containments::containment_access-returns-in_default-2-clause-cost g t c =
-    ends_within c.operands-containment.result.0 (g.C.CountedLeaves.text c.args.source.now) (form_of c.args.expr.now) (form_of c.operands-containment.result.1.now) (form_of c.operands-containment.result.2.now) c.operands-containment.ensures.form (g.C.CountedLeaves.most c.args.source.now) (g.C.CountedLeaves.count c.args.counter.now) c.direction-direction.result c.loop-answer.member (g.C.CountedLeaves.count c.loop-answer.counter) c.loop-answer.invariant.cost (g.C.CountedLeaves.count c.known_access.new.counter) (g.C.CountedLeaves.count c.access.new.counter) c.in_ok-answer.ensures.cost c.in_ok-later-in-GoTo.ensures.cost
+pub containments::access_from_ahead-returns-in_default-2-clause-cost : goal.containments::access_from_ahead-returns-in_default-2-clause-cost
+containments::access_from_ahead-returns-in_default-2-clause-cost g t c =
+    let spared = ahead_cost c.args.wanted (g.C.CountedLeaves.text c.args.source.now) (g.C.CountedLeaves.most c.args.source.now) (form_of c.args.expr.now) in
+    ends_within c.operands-containment.result.0 (g.C.CountedLeaves.text c.args.source.now) (form_of c.args.expr.now) (form_of c.operands-containment.result.1.now) (form_of c.operands-containment.result.2.now) c.operands-containment.ensures.form (g.C.CountedLeaves.most c.args.source.now) (g.C.CountedLeaves.count c.args.counter.now) c.direction-direction.result c.loop-answer.member (g.C.CountedLeaves.count c.loop-answer.counter + spared) c.loop-answer.invariant.cost (g.C.CountedLeaves.count c.known_access.new.counter + spared) (g.C.CountedLeaves.count c.access.new.counter + spared) (and_spared (g.C.CountedLeaves.count c.known_access.new.counter) (g.C.CountedLeaves.count c.loop-answer.counter) (cost (g.C.CountedLeaves.text c.args.source.now) (g.C.CountedLeaves.most c.args.source.now) (form_of c.operands-containment.result.2.now)) spared c.in_ok-answer.ensures.cost) (and_spared (g.C.CountedLeaves.count c.access.new.counter) (g.C.CountedLeaves.count c.known_access.new.counter) (cost (g.C.CountedLeaves.text c.args.source.now) (g.C.CountedLeaves.most c.args.source.now) (form_of c.operands-containment.result.1.now)) spared c.in_ok-later-in-GoTo.ensures.cost)
 
-pub containments::containment_access-loop-answer-smaller : goal.containments::containment_access-loop-answer-smaller
-containments::containment_access-loop-answer-smaller g t c =
+pub containments::access_from_ahead-loop-answer-smaller : goal.containments::access_from_ahead-loop-answer-smaller
+containments::access_from_ahead-loop-answer-smaller g t c =
     let from = rw c.goes_by-onward.ensures at (sym c.in-Some-2.is ∙ c.in_ok-later-in-GoTo.ensures.answer) in
     fewer_left c.operands-containment.result.0 (g.C.CountedLeaves.text c.args.source.now) (form_of c.args.expr.now) (form_of c.operands-containment.result.1.now) (form_of c.operands-containment.result.2.now) c.operands-containment.ensures.form c.direction-direction.result (access_of c.args.wanted (concordance (g.C.CountedLeaves.text c.args.source.now) (form_of c.args.expr.now)) c.args.k) c.loop-answer.member c.loop-answer.invariant.reached c.question-asked.result.0 c.question-asked.result.1 c.question-asked.ensures.asks c.in_ok-answer.answer c.in_ok-answer.ensures.answer c.in-GoTo.next c.in-GoTo.ensures c.in-Some-2.later from
 
-pub containments::containment_access-loop-answer-preserved : goal.containments::containment_access-loop-answer-preserved
-containments::containment_access-loop-answer-preserved g t c =
+pub containments::access_from_ahead-loop-answer-preserved : goal.containments::access_from_ahead-loop-answer-preserved
+containments::access_from_ahead-loop-answer-preserved g t c =
+    let spared = ahead_cost c.args.wanted (g.C.CountedLeaves.text c.args.source.now) (g.C.CountedLeaves.most c.args.source.now) (form_of c.args.expr.now) in
     let from = rw c.goes_by-onward.ensures at (sym c.in-Some-2.is ∙ c.in_ok-later-in-GoTo.ensures.answer) in
     record {
       reached = node_goes_on c.operands-containment.result.0 (g.C.CountedLeaves.text c.args.source.now) (form_of c.args.expr.now) (form_of c.operands-containment.result.1.now) (form_of c.operands-containment.result.2.now) c.operands-containment.ensures.form c.direction-direction.result (access_of c.args.wanted (concordance (g.C.CountedLeaves.text c.args.source.now) (form_of c.args.expr.now)) c.args.k) c.loop-answer.member c.loop-answer.invariant.reached c.question-asked.result.0 c.question-asked.result.1 c.question-asked.ensures.asks c.in_ok-answer.answer c.in_ok-answer.ensures.answer c.in-GoTo.next c.in-GoTo.ensures c.in-Some-2.later from;
       within = (rw c.in-Some-2.is at c.in_ok-later-in-GoTo.ensures.within);
       known = subst (λ asked. IsKnown asked (concordance (g.C.CountedLeaves.text c.args.source.now) (form_of c.operands-containment.result.2.now)) c.known_access.new.known) c.question-asked.ensures.access c.in_ok-answer.ensures.known;
       counted = omega (arith, c.loop-answer.invariant.counted, c.known_access.ensures.counted, c.access.ensures.counted);
-      cost = goes_within c.operands-containment.result.0 (g.C.CountedLeaves.text c.args.source.now) (form_of c.args.expr.now) (form_of c.operands-containment.result.1.now) (form_of c.operands-containment.result.2.now) c.operands-containment.ensures.form (g.C.CountedLeaves.most c.args.source.now) (g.C.CountedLeaves.count c.args.counter.now) c.direction-direction.result c.loop-answer.member (g.C.CountedLeaves.count c.loop-answer.counter) c.loop-answer.invariant.cost c.in-Some-2.later (node_more_turns c.operands-containment.result.0 (g.C.CountedLeaves.text c.args.source.now) (form_of c.args.expr.now) (form_of c.operands-containment.result.1.now) (form_of c.operands-containment.result.2.now) c.operands-containment.ensures.form c.direction-direction.result (access_of c.args.wanted (concordance (g.C.CountedLeaves.text c.args.source.now) (form_of c.args.expr.now)) c.args.k) c.loop-answer.member c.loop-answer.invariant.reached c.question-asked.result.0 c.question-asked.result.1 c.question-asked.ensures.asks c.in_ok-answer.answer c.in_ok-answer.ensures.answer c.in-GoTo.next c.in-GoTo.ensures c.in-Some-2.later from) (g.C.CountedLeaves.count c.known_access.new.counter) (g.C.CountedLeaves.count c.access.new.counter) c.in_ok-answer.ensures.cost c.in_ok-later-in-GoTo.ensures.cost;
+      cost = goes_within c.operands-containment.result.0 (g.C.CountedLeaves.text c.args.source.now) (form_of c.args.expr.now) (form_of c.operands-containment.result.1.now) (form_of c.operands-containment.result.2.now) c.operands-containment.ensures.form (g.C.CountedLeaves.most c.args.source.now) (g.C.CountedLeaves.count c.args.counter.now) c.direction-direction.result c.loop-answer.member (g.C.CountedLeaves.count c.loop-answer.counter + spared) c.loop-answer.invariant.cost c.in-Some-2.later (node_more_turns c.operands-containment.result.0 (g.C.CountedLeaves.text c.args.source.now) (form_of c.args.expr.now) (form_of c.operands-containment.result.1.now) (form_of c.operands-containment.result.2.now) c.operands-containment.ensures.form c.direction-direction.result (access_of c.args.wanted (concordance (g.C.CountedLeaves.text c.args.source.now) (form_of c.args.expr.now)) c.args.k) c.loop-answer.member c.loop-answer.invariant.reached c.question-asked.result.0 c.question-asked.result.1 c.question-asked.ensures.asks c.in_ok-answer.answer c.in_ok-answer.ensures.answer c.in-GoTo.next c.in-GoTo.ensures c.in-Some-2.later from) (g.C.CountedLeaves.count c.known_access.new.counter + spared) (g.C.CountedLeaves.count c.access.new.counter + spared) (and_spared (g.C.CountedLeaves.count c.known_access.new.counter) (g.C.CountedLeaves.count c.loop-answer.counter) (cost (g.C.CountedLeaves.text c.args.source.now) (g.C.CountedLeaves.most c.args.source.now) (form_of c.operands-containment.result.2.now)) spared c.in_ok-answer.ensures.cost) (and_spared (g.C.CountedLeaves.count c.access.new.counter) (g.C.CountedLeaves.count c.known_access.new.counter) (cost (g.C.CountedLeaves.text c.args.source.now) (g.C.CountedLeaves.most c.args.source.now) (form_of c.operands-containment.result.1.now)) spared c.in_ok-later-in-GoTo.ensures.cost);
       capped = λ cap caps old. c.access.ensures.capped cap caps (c.known_access.ensures.capped cap caps (c.loop-answer.invariant.capped cap caps old));
     }
 
 -- what is known of the second operand
-pub containments::containment_access-returns-in-Accept-clause-known : goal.containments::containment_access-returns-in-Accept-clause-known
-containments::containment_access-returns-in-Accept-clause-known g t c =
+pub containments::access_from_ahead-returns-in-Accept-clause-known : goal.containments::access_from_ahead-returns-in-Accept-clause-known
+containments::access_from_ahead-returns-in-Accept-clause-known g t c =
     kept_second c.direction-direction.result c.args.wanted c.direction-direction.ensures c.operands-containment.result.0 (g.C.CountedLeaves.text c.args.source.now) (form_of c.args.expr.now) (form_of c.operands-containment.result.1.now) (form_of c.operands-containment.result.2.now) c.operands-containment.ensures.form c.known_access.new.known c.question-asked.result.0 c.question-asked.ensures.access c.in_ok-answer.ensures.known
 
-pub containments::containment_access-returns-in-Finish-clause-known : goal.containments::containment_access-returns-in-Finish-clause-known
-containments::containment_access-returns-in-Finish-clause-known g t c =
+pub containments::access_from_ahead-returns-in-Finish-clause-known : goal.containments::access_from_ahead-returns-in-Finish-clause-known
+containments::access_from_ahead-returns-in-Finish-clause-known g t c =
     kept_second c.direction-direction.result c.args.wanted c.direction-direction.ensures c.operands-containment.result.0 (g.C.CountedLeaves.text c.args.source.now) (form_of c.args.expr.now) (form_of c.operands-containment.result.1.now) (form_of c.operands-containment.result.2.now) c.operands-containment.ensures.form c.known_access.new.known c.question-asked.result.0 c.question-asked.ensures.access c.in_ok-answer.ensures.known
 
-pub containments::containment_access-returns-in_default-2-clause-known : goal.containments::containment_access-returns-in_default-2-clause-known
-containments::containment_access-returns-in_default-2-clause-known g t c =
+pub containments::access_from_ahead-returns-in_default-2-clause-known : goal.containments::access_from_ahead-returns-in_default-2-clause-known
+containments::access_from_ahead-returns-in_default-2-clause-known g t c =
     kept_second c.direction-direction.result c.args.wanted c.direction-direction.ensures c.operands-containment.result.0 (g.C.CountedLeaves.text c.args.source.now) (form_of c.args.expr.now) (form_of c.operands-containment.result.1.now) (form_of c.operands-containment.result.2.now) c.operands-containment.ensures.form c.known_access.new.known c.question-asked.result.0 c.question-asked.ensures.access c.in_ok-answer.ensures.known
 
 -- followed by, by the far sides: back, and on again

@@ -6,6 +6,7 @@ use Rattle.gcl_model.specs.FormOf.{form_of}
 use Rattle.gcl_model.specs.Meaning.{concordance}
 use Rattle.gcl_model.specs.Cost.{cost}
 use Rattle.gcl_model.specs.WellFormed.{AreWellFormed}
+use Rattle.gcl_eval.specs.Costs.{ahead_cost}
 use Rattle.gcl_eval.specs.Operands.{operand_forms, operand_lists, operand_costs}
 use Rattle.gcl_combine.specs.Directions.{farthest, best}
 use Rattle.gcl_eval.specs.Directions.{access_of, walk}
@@ -60,8 +61,8 @@ abbrev pub decreases-chains::walk-loop-operand : goal.decreases-chains::walk-loo
 decreases-chains::walk-loop-operand g l = length l.rest
 
 -- what the loop gives from the member on is the answer; each turn so far cost two accesses at most
-abbrev pub invariant-containments::containment_access-loop-answer : goal.invariant-containments::containment_access-loop-answer
-invariant-containments::containment_access-loop-answer g l =
+abbrev pub invariant-containments::access_from_ahead-loop-answer : goal.invariant-containments::access_from_ahead-loop-answer
+invariant-containments::access_from_ahead-loop-answer g l =
     let text = g.C.CountedLeaves.text l.source in
     let bound = g.C.CountedLeaves.most l.source in
     let members = concordance text (form_of l.first) in
@@ -74,13 +75,13 @@ invariant-containments::containment_access-loop-answer g l =
       within : l.member.end < address_end;
       known : IsKnown (asks l.direction l.containment) others l.known;
       counted : g.C.CountedLeaves.count l.fn.counter ≤ g.C.CountedLeaves.count l.counter;
-      cost : g.C.CountedLeaves.count l.counter ≤ g.C.CountedLeaves.count l.fn.counter + (first + second) + turns l.direction l.containment members others l.member * (first + second);
+      cost : g.C.CountedLeaves.count l.counter + ahead_cost l.fn.wanted text bound (form_of l.expr) ≤ g.C.CountedLeaves.count l.fn.counter + (first + second) + turns l.direction l.containment members others l.member * (first + second);
       capped : (cap : ℕ) → g.C.CountedLeaves.Caps l.source cap → g.C.CountedLeaves.count l.fn.counter ≤ cap → g.C.CountedLeaves.count l.counter ≤ cap;
     }
 
 -- the turns that are left
-abbrev pub decreases-containments::containment_access-loop-answer : goal.decreases-containments::containment_access-loop-answer
-decreases-containments::containment_access-loop-answer g l =
+abbrev pub decreases-containments::access_from_ahead-loop-answer : goal.decreases-containments::access_from_ahead-loop-answer
+decreases-containments::access_from_ahead-loop-answer g l =
     let members = concordance (g.C.CountedLeaves.text l.source) (form_of l.first) in
     let others = concordance (g.C.CountedLeaves.text l.source) (form_of l.second) in
     min (length members) (length others) - turns l.direction l.containment members others l.member
@@ -97,6 +98,9 @@ decreases-known::known_access g l = 16 * size-Expr l.expr.now + 14
 
 abbrev pub decreases-containments::containment_access : goal.decreases-containments::containment_access
 decreases-containments::containment_access g l = 16 * size-Expr l.expr.now + 5
+
+abbrev pub decreases-containments::access_from_ahead : goal.decreases-containments::access_from_ahead
+decreases-containments::access_from_ahead g l = 16 * size-Expr l.expr.now + 4
 
 abbrev pub decreases-containments::element_ahead : goal.decreases-containments::element_ahead
 decreases-containments::element_ahead g l = 16 * size-Expr l.expr.now + 4
