@@ -8,6 +8,7 @@ mod EndLemmas
 mod TellLemmas
 mod ContainRules
 mod OperandRules
+mod Exits
 mod FormRules
 mod NewStands
 mod ListingLemmas

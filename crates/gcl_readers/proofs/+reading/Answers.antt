@@ -1,13 +1,17 @@
-use Rattle.std.proofs.Common.{◌≡◌, ◌+◌, ◌-◌, ◌*◌, ◌<◌, ◌≤◌, ◌++◌, ◌∷◌, length, take, drop, Some, None, IfSome, refl, ap, sym, ◌∙◌, subst, arith, rules, le_refl}
+use Rattle.std.proofs.Common.{◌≡◌, ◌+◌, ◌-◌, ◌*◌, ◌<◌, ◌≤◌, ◌++◌, [], ◌∷◌, length, take, drop, Some, None, IfSome, refl, ap, sym, ◌∙◌, subst, arith, le_refl}
+use Rattle.std.proofs.lemmas.List.{nil_from_length}
+use Rattle.std.proofs.lemmas.Option.{IfSome_then}
 use Rattle.gcl_model.specs.Extents.{Extent}
 use Rattle.gcl_model.specs.Forms.{width, both, one, seq, forms_count}
 use Rattle.gcl_model.specs.FormOf.{form_of}
 use Rattle.gcl_model.specs.Meaning.{concordance}
-use Rattle.gcl_model.specs.WellFormed.{IsWellFormed}
+use Rattle.gcl_model.specs.WellFormed.{AreWellFormed, IsWellFormed}
 use Rattle.gcl_model.specs.Access.{first_start, first_end, last_end}
 use Rattle.gcl_model.specs.declared.direction.Direction.TheVariants.{Forward}
 use Rattle.gcl_model.proofs.Covers.{Has}
 use Rattle.gcl_model.proofs.Meanings.{concordance_rises}
+use Rattle.gcl_combine.specs.Better.{best_forward}
+use Rattle.gcl_combine.specs.Farthest.{end_so_far, start_so_far}
 use Rattle.gcl_combine.proofs.OneOf.{first_start-one}
 use Rattle.gcl_order.specs.Walks.{joined}
 use Rattle.gcl_contain.specs.Kinds.{first_from}
@@ -21,9 +25,9 @@ use Rattle.gcl_eval.proofs.ContainLoops.{accepts, finishes, ends, goes_on, more_
 use Rattle.gcl_eval.proofs.OperandLemmas.{form-Both, form-One, form-Seq}
 use Rattle.gcl_readers.specs.declared.front.Front.TheVariants.{On}
 use Rattle.gcl_readers.specs.Fronts.{IsFrontOf, IsTold, IsUnknown, asked_of, start_left, start_or_end, member_of, front_at}
-use Rattle.gcl_readers.specs.Agreement.{AllAnswerOrEnd, AllAnswerInOrder, all_left}
+use Rattle.gcl_readers.specs.Agreement.{AllAnswerFrom, AllAnswerOrEnd, AllAnswerInOrder, HaveMoved, HaveMovedBack, all_left}
 use Rattle.gcl_readers.specs.Standing.{nodes, Stands, StandBelow, Tell, TellsFrom, front_of, with_front, start_at, starts_at, left_to}
-use Rattle.gcl_readers.specs.MergeCost.{find_cost, cost_below, costs_left, cost_left}
+use Rattle.gcl_readers.specs.MergeCost.{find_cost, member_cost, cost_below, costs_left, cost_left}
 use Rattle.gcl_readers.proofs.CostLemmas.{told_cost, look_cost, contain_costs, chain_cost, chain_cost_more, chain_cost_spare, chain_cost_tail, chain_cost_back, le-add, more_left, find_by, without}
 use Rattle.gcl_readers.proofs.Members.{agrees_at, first_member, first_itself, last_of_left}
 use Rattle.gcl_readers.proofs.Answers.{moved_answers}
@@ -35,6 +39,7 @@ use Rattle.gcl_readers.proofs.EndLemmas.{first_left, first_found, ends_from_firs
 use Rattle.gcl_readers.proofs.TellLemmas.{tells_from, unknown_from}
 use Rattle.gcl_readers.proofs.ContainRules.{second_asked, second_moved, node_begins, node_begins_none, go_agrees, go_later, contain_split, contain_joined, contain_tell}
 use Rattle.gcl_readers.proofs.OperandRules.{others_stand, stands_joined, joined_length, operand_at, answers_joined, first_answers, in_order_joined, first_in_order}
+use Rattle.gcl_readers.proofs.Exits.{none_if, both_asks_none, contain_none}
 use Rattle.gcl_readers.proofs.FormRules.{form-Width, form-Term, width_left, term_ends, one_tell}
 use Rattle.gcl_readers.proofs.+reading.Goals as goal
 use Rattle.gcl_readers.proofs.+reading.Goals.{reading::node_back-in-Some+then-k-next, reading::node_back-in_default}
@@ -42,19 +47,19 @@ use Rattle.gcl_readers.proofs.+reading.Goals.{reading::node_back-in-Some+then-k-
 pub chains::both_ends-start-requires : goal.chains::both_ends-start-requires
 chains::both_ends-start-requires g t c =
     let here = operand_at (g.C.CountedLeaves.text c.args.source.now) c.args.operands.now c.in-Some.others.now c.in-Some.operand.now c.in-Some.ensures.cases.0 c.args.places.now c.split_at_mut-mine.result.0.now c.split_at_mut-mine.result.1.now c.size_of-size.result c.requires.well_formed c.requires.stands c.size_of-size.ensures c.split_at_mut-mine.ensures.front c.split_at_mut-mine.ensures.back in
-    search rules
+    let fewer = here.fewer in
+    let some = here.some in
+    λ κs l. (omega arith, (l.0, (l.1, (here.well_formed, (c.requires.below, (c.requires.sound, here.stands))))))
 
 pub chains::both_find-returns-in_err-end-clause-answer : goal.chains::both_find-returns-in_err-end-clause-answer
 chains::both_find-returns-in_err-end-clause-answer g t c =
     let some : 1 ≤ forms_count (operand_forms c.args.operands.now) = omega (arith, c.requires.operands.several) in
-    let r = both_none (g.C.CountedLeaves.text c.args.source.now) (operand_forms c.args.operands.now) some (starts_at (operand_forms c.args.operands.now) c.args.places.now) c.args.k c.requires.tells c.in_err-end.ensures.answer in
-    search rules
+    c.from_residual.ensures ∙ both_none (g.C.CountedLeaves.text c.args.source.now) (operand_forms c.args.operands.now) some (starts_at (operand_forms c.args.operands.now) c.args.places.now) c.args.k c.requires.tells c.in_err-end.ensures.answer
 
 pub chains::both_find-returns-in_err-start-clause-answer : goal.chains::both_find-returns-in_err-start-clause-answer
 chains::both_find-returns-in_err-start-clause-answer g t c =
     let some : 1 ≤ forms_count (operand_forms c.args.operands.now) = omega (arith, c.requires.operands.several) in
-    let r = both_some (g.C.CountedLeaves.text c.args.source.now) (operand_forms c.args.operands.now) some (starts_at (operand_forms c.args.operands.now) c.args.places.now) c.args.k c.requires.tells c.in_ok-end.end c.in_ok-end.ensures.answer (starts_at (operand_forms c.args.operands.now) c.both_ends.new.places) c.in_ok-end.ensures.moved None c.in_err-start.ensures.answer in
-    search rules
+    c.from_residual-in_err-start.ensures ∙ both_some (g.C.CountedLeaves.text c.args.source.now) (operand_forms c.args.operands.now) some (starts_at (operand_forms c.args.operands.now) c.args.places.now) c.args.k c.requires.tells c.in_ok-end.end c.in_ok-end.ensures.answer (starts_at (operand_forms c.args.operands.now) c.both_ends.new.places) c.in_ok-end.ensures.moved None c.in_err-start.ensures.answer
 
 pub chains::both_find-new-requires : goal.chains::both_find-new-requires
 chains::both_find-new-requires g t c =
@@ -74,12 +79,16 @@ chains::both_find-returns-clause-tells g t c =
 pub chains::both_starts-back-requires : goal.chains::both_starts-back-requires
 chains::both_starts-back-requires g t c =
     let here = operand_at (g.C.CountedLeaves.text c.args.source.now) c.args.operands.now c.in-Some.others.now c.in-Some.operand.now c.in-Some.ensures.cases.0 c.args.places.now c.split_at_mut-mine.result.0.now c.split_at_mut-mine.result.1.now c.size_of-size.result c.requires.well_formed c.requires.stands c.size_of-size.ensures c.split_at_mut-mine.ensures.front c.split_at_mut-mine.ensures.back in
-    search rules
+    let fewer = here.fewer in
+    let some = here.some in
+    λ κs l. (omega arith, (l.0, (l.1, (here.well_formed, (c.requires.below, (c.requires.sound, here.stands))))))
 
 pub chains::one_find-start-answer-requires : goal.chains::one_find-start-answer-requires
 chains::one_find-start-answer-requires g t c =
     let here = operand_at (g.C.CountedLeaves.text c.args.source.now) c.args.operands.now c.in-Some.others.now c.in-Some.operand.now c.in-Some.ensures.cases.0 c.args.places.now c.split_at_mut-mine.result.0.now c.split_at_mut-mine.result.1.now c.size_of-size.result c.requires.well_formed c.requires.stands c.size_of-size.ensures c.split_at_mut-mine.ensures.front c.split_at_mut-mine.ensures.back in
-    search rules
+    let fewer = here.fewer in
+    let some = here.some in
+    λ κs l. (omega arith, (l.0, (l.1, (here.well_formed, (c.requires.below, (c.requires.sound, here.stands))))))
 
 pub chains::one_find-returns-clause-tells : goal.chains::one_find-returns-clause-tells
 chains::one_find-returns-clause-tells g t c =
@@ -93,15 +102,16 @@ chains::one_find-returns-clause-tells g t c =
 pub chains::seq_find-start-requires : goal.chains::seq_find-start-requires
 chains::seq_find-start-requires g t c =
     let here = operand_at (g.C.CountedLeaves.text c.args.source.now) c.args.operands.now c.in_ok-operand.others.now c.in_ok-operand.operand.now c.in_ok-operand.ensures.cases.0 c.args.places.now c.split_at_mut-mine.result.0.now c.split_at_mut-mine.result.1.now c.size_of-size.result c.requires.well_formed c.requires.stands c.size_of-size.ensures c.split_at_mut-mine.ensures.front c.split_at_mut-mine.ensures.back in
-    search rules
+    let fewer = here.fewer in
+    let some = here.some in
+    λ κs l. (omega arith, (l.0, (l.1, (here.well_formed, (c.requires.below, (c.requires.sound, here.stands))))))
 
 pub chains::seq_find-returns-in_err-first-clause-answer : goal.chains::seq_find-returns-in_err-first-clause-answer
 chains::seq_find-returns-in_err-first-clause-answer g t c =
     let here = operand_at (g.C.CountedLeaves.text c.args.source.now) c.args.operands.now c.in_ok-operand.others.now c.in_ok-operand.operand.now c.in_ok-operand.ensures.cases.0 c.args.places.now c.split_at_mut-mine.result.0.now c.split_at_mut-mine.result.1.now c.size_of-size.result c.requires.well_formed c.requires.stands c.size_of-size.ensures c.split_at_mut-mine.ensures.front c.split_at_mut-mine.ensures.back in
     let tells = first_in_order (g.C.CountedLeaves.text c.args.source.now) c.args.operands.now c.in_ok-operand.others.now c.in_ok-operand.operand.now c.in_ok-operand.ensures.cases.0 c.args.places.now c.split_at_mut-mine.result.0.now c.split_at_mut-mine.result.1.now c.args.k here.starts c.requires.tells in
     let agree : first_start (members_from (concordance (g.C.CountedLeaves.text c.args.source.now) (form_of c.in_ok-operand.operand.now)) (start_at c.split_at_mut-mine.result.0.now)) c.args.k ≡ first_start (concordance (g.C.CountedLeaves.text c.args.source.now) (form_of c.in_ok-operand.operand.now)) c.args.k = tells.0 c.args.k (le_refl c.args.k) in
-    let r = subst (λ es. None ≡ first_start (concordance (g.C.CountedLeaves.text c.args.source.now) (seq (operand_forms es))) c.args.k) (sym c.in_ok-operand.ensures.cases.0) (seq_none (g.C.CountedLeaves.text c.args.source.now) (form_of c.in_ok-operand.operand.now) (operand_forms c.in_ok-operand.others.now) c.args.k (c.in_err-first.ensures.answer ∙ agree)) in
-    search rules
+    c.from_residual-in_err-first.ensures ∙ subst (λ es. None ≡ first_start (concordance (g.C.CountedLeaves.text c.args.source.now) (seq (operand_forms es))) c.args.k) (sym c.in_ok-operand.ensures.cases.0) (seq_none (g.C.CountedLeaves.text c.args.source.now) (form_of c.in_ok-operand.operand.now) (operand_forms c.in_ok-operand.others.now) c.args.k (c.in_err-first.ensures.answer ∙ agree))
 
 pub chains::seq_find-returns-then-is_empty-clause-answer : goal.chains::seq_find-returns-then-is_empty-clause-answer
 chains::seq_find-returns-then-is_empty-clause-answer g t c =
@@ -127,8 +137,7 @@ chains::seq_find-returns-in_err-tail-clause-answer g t c =
     let found : first_start (concordance (g.C.CountedLeaves.text c.args.source.now) (form_of c.in_ok-operand.operand.now)) c.args.k ≡ Some c.in_ok-first.first = sym (c.in_ok-first.ensures.answer ∙ agree) in
     let some = some_others c.is_empty.result c.in_ok-operand.others.now c.is_empty.ensures c.if-is_empty.false in
     let no_tail : None ≡ first_start (concordance (g.C.CountedLeaves.text c.args.source.now) (seq (operand_forms c.in_ok-operand.others.now))) (c.in_ok-first.first.end + 1) = rw c.after.ensures at c.in_err-tail.ensures.answer in
-    let r = subst (λ es. None ≡ first_start (concordance (g.C.CountedLeaves.text c.args.source.now) (seq (operand_forms es))) c.args.k) (sym c.in_ok-operand.ensures.cases.0) (seq_no_tail (g.C.CountedLeaves.text c.args.source.now) (form_of c.in_ok-operand.operand.now) (operand_forms c.in_ok-operand.others.now) c.args.k c.in_ok-first.first found some no_tail) in
-    search rules
+    c.from_residual-in_err-tail.ensures ∙ subst (λ es. None ≡ first_start (concordance (g.C.CountedLeaves.text c.args.source.now) (seq (operand_forms es))) c.args.k) (sym c.in_ok-operand.ensures.cases.0) (seq_no_tail (g.C.CountedLeaves.text c.args.source.now) (form_of c.in_ok-operand.operand.now) (operand_forms c.in_ok-operand.others.now) c.args.k c.in_ok-first.first found some no_tail)
 
 pub chains::seq_find-overflow_sub-tail-inside : goal.chains::seq_find-overflow_sub-tail-inside
 chains::seq_find-overflow_sub-tail-inside g t c =
@@ -201,13 +210,12 @@ containments::containment_find-start-requires g t c =
     let here = contain_split c.operands-containment.result.0 (g.C.CountedLeaves.text c.args.source.now) (form_of c.args.expr.now) (form_of c.operands-containment.result.1.now) (form_of c.operands-containment.result.2.now) c.operands-containment.ensures c.args.places.now c.split_at_mut-first_places.result.0.now c.split_at_mut-first_places.result.1.now c.args.k c.size_of-size.result c.requires.stands c.requires.tells c.size_of-size.ensures c.split_at_mut-first_places.ensures.front c.split_at_mut-first_places.ensures.back in
     let fewer = here.fewer in
     let firsts = here.firsts in
-    search rules
+    λ κs l. (omega arith, (l.0, (l.1, (parts.first, (c.requires.below, (c.requires.sound, firsts))))))
 
 pub containments::containment_find-returns-in_err-member-clause-answer : goal.containments::containment_find-returns-in_err-member-clause-answer
 containments::containment_find-returns-in_err-member-clause-answer g t c =
     let here = contain_split c.operands-containment.result.0 (g.C.CountedLeaves.text c.args.source.now) (form_of c.args.expr.now) (form_of c.operands-containment.result.1.now) (form_of c.operands-containment.result.2.now) c.operands-containment.ensures c.args.places.now c.split_at_mut-first_places.result.0.now c.split_at_mut-first_places.result.1.now c.args.k c.size_of-size.result c.requires.stands c.requires.tells c.size_of-size.ensures c.split_at_mut-first_places.ensures.front c.split_at_mut-first_places.ensures.back in
-    let r = node_begins_none c.operands-containment.result.0 (g.C.CountedLeaves.text c.args.source.now) (form_of c.args.expr.now) (form_of c.operands-containment.result.1.now) (form_of c.operands-containment.result.2.now) c.operands-containment.ensures c.args.k (c.in_err-member.ensures.answer ∙ here.answers c.args.k (le_refl c.args.k)) in
-    search rules
+    c.from_residual.ensures ∙ node_begins_none c.operands-containment.result.0 (g.C.CountedLeaves.text c.args.source.now) (form_of c.args.expr.now) (form_of c.operands-containment.result.1.now) (form_of c.operands-containment.result.2.now) c.operands-containment.ensures c.args.k (c.in_err-member.ensures.answer ∙ here.answers c.args.k (le_refl c.args.k))
 
 pub containments::containment_find-loop-next-init : goal.containments::containment_find-loop-next-init
 containments::containment_find-loop-next-init g t c =
@@ -243,8 +251,7 @@ containments::containment_find-returns-in-Finish-clause-answer g t c =
 pub containments::containment_find-returns-in_err-member-in-GoTo-clause-answer : goal.containments::containment_find-returns-in_err-member-in-GoTo-clause-answer
 containments::containment_find-returns-in_err-member-in-GoTo-clause-answer g t c =
     let asked : c.ask-answer.result ≡ (loop_of Forward c.operands-containment.result.0).ask (concordance (g.C.CountedLeaves.text c.args.source.now) (form_of c.operands-containment.result.2.now)) c.loop-next.member = c.ask-answer.ensures.answer ∙ second_asked c.operands-containment.result.0 (concordance (g.C.CountedLeaves.text c.args.source.now) (form_of c.operands-containment.result.2.now)) (start_at c.loop-next.second_places) c.loop-next.member c.loop-next.invariant.tells in
-    let r = ends c.operands-containment.result.0 (concordance (g.C.CountedLeaves.text c.args.source.now) (form_of c.operands-containment.result.1.now)) (concordance (g.C.CountedLeaves.text c.args.source.now) (form_of c.operands-containment.result.2.now)) (concordance (g.C.CountedLeaves.text c.args.source.now) (form_of c.args.expr.now)) (concordance_rises (g.C.CountedLeaves.text c.args.source.now) (form_of c.operands-containment.result.1.now)) (concordance_rises (g.C.CountedLeaves.text c.args.source.now) (form_of c.operands-containment.result.2.now)) (contain_kept c.operands-containment.result.0 (form_of c.args.expr.now) (form_of c.operands-containment.result.1.now) (form_of c.operands-containment.result.2.now) c.operands-containment.ensures (g.C.CountedLeaves.text c.args.source.now)) (first_start (concordance (g.C.CountedLeaves.text c.args.source.now) (form_of c.args.expr.now)) c.args.k) c.loop-next.member c.ask-answer.result c.in-GoTo.next Forward c.loop-next.invariant.reached asked c.in-GoTo.ensures (c.in_err-member-in-GoTo.ensures.answer ∙ go_agrees c.operands-containment.result.0 (g.C.CountedLeaves.text c.args.source.now) (form_of c.args.expr.now) (form_of c.operands-containment.result.1.now) (form_of c.operands-containment.result.2.now) c.operands-containment.ensures c.loop-next.member c.loop-next.invariant.reached.found c.ask-answer.result asked c.in-GoTo.next c.in-GoTo.ensures (start_at c.loop-next.first_places) c.loop-next.invariant.at) in
-    search rules
+    c.from_residual-in_err-member-in-GoTo.ensures ∙ ends c.operands-containment.result.0 (concordance (g.C.CountedLeaves.text c.args.source.now) (form_of c.operands-containment.result.1.now)) (concordance (g.C.CountedLeaves.text c.args.source.now) (form_of c.operands-containment.result.2.now)) (concordance (g.C.CountedLeaves.text c.args.source.now) (form_of c.args.expr.now)) (concordance_rises (g.C.CountedLeaves.text c.args.source.now) (form_of c.operands-containment.result.1.now)) (concordance_rises (g.C.CountedLeaves.text c.args.source.now) (form_of c.operands-containment.result.2.now)) (contain_kept c.operands-containment.result.0 (form_of c.args.expr.now) (form_of c.operands-containment.result.1.now) (form_of c.operands-containment.result.2.now) c.operands-containment.ensures (g.C.CountedLeaves.text c.args.source.now)) (first_start (concordance (g.C.CountedLeaves.text c.args.source.now) (form_of c.args.expr.now)) c.args.k) c.loop-next.member c.ask-answer.result c.in-GoTo.next Forward c.loop-next.invariant.reached asked c.in-GoTo.ensures (c.in_err-member-in-GoTo.ensures.answer ∙ go_agrees c.operands-containment.result.0 (g.C.CountedLeaves.text c.args.source.now) (form_of c.args.expr.now) (form_of c.operands-containment.result.1.now) (form_of c.operands-containment.result.2.now) c.operands-containment.ensures c.loop-next.member c.loop-next.invariant.reached.found c.ask-answer.result asked c.in-GoTo.next c.in-GoTo.ensures (start_at c.loop-next.first_places) c.loop-next.invariant.at)
 
 pub containments::containment_find-loop-next-smaller : goal.containments::containment_find-loop-next-smaller
 containments::containment_find-loop-next-smaller g t c =
@@ -315,7 +322,7 @@ reading::find-both_find-requires g t c =
     let tells = subst (λ f. TellsFrom (g.C.CountedLeaves.text c.args.source.now) f c.args.places.now c.args.k) form c.requires.tells in
     let fewer = ap nodes form in
     let operands : AreOperands (operand_forms c.deref.result.now) = record { several = several; each = each } in
-    search rules
+    λ κs l. (omega arith, (l.0, (l.1, (operands, (c.requires.below, (c.requires.sound, (below, tells)))))))
 
 pub reading::find-returns-in-Both-clause-answer : goal.reading::find-returns-in-Both-clause-answer
 reading::find-returns-in-Both-clause-answer g t c =
@@ -342,7 +349,7 @@ pub reading::look-find-found-requires : goal.reading::look-find-found-requires
 reading::look-find-found-requires g t c =
     let below = subst (StandBelow (g.C.CountedLeaves.text c.args.source.now) (form_of c.args.expr.now)) (sym c.split_at_mut-below.ensures.back) c.requires.stands.below in
     let tells = subst (λ p. TellsFrom (g.C.CountedLeaves.text c.args.source.now) (form_of c.args.expr.now) p c.args.k) (sym c.split_at_mut-below.ensures.back) (tells_from (g.C.CountedLeaves.text c.args.source.now) (form_of c.args.expr.now) (front_of c.args.places.now) (drop 1 c.args.places.now) c.args.k c.requires.stands.front c.requires.unknown c.requires.stands.tells) in
-    search rules
+    λ κs l. (omega arith, (l.0, (l.1, (c.requires.well_formed, (c.requires.below, (c.requires.sound, (c.requires.kept, (below, tells))))))))
 
 pub reading::look-returns-clause-stands : goal.reading::look-returns-clause-stands
 reading::look-returns-clause-stands g t c =
@@ -363,8 +370,7 @@ reading::look-returns-clause-cost g t c =
 
 pub reading::node_back-returns-in_err-member-clause-answer : goal.reading::node_back-returns-in_err-member-clause-answer
 reading::node_back-returns-in_err-member-clause-answer g t c =
-    let r = sym (backs_none (concordance (g.C.CountedLeaves.text c.args.source.now) (form_of c.args.expr.now)) (concordance_rises (g.C.CountedLeaves.text c.args.source.now) (form_of c.args.expr.now)) (start_at c.args.places.now) c.args.k (sym c.in_err-member.ensures.answer)) in
-    search rules
+    c.from_residual.ensures ∙ sym (backs_none (concordance (g.C.CountedLeaves.text c.args.source.now) (form_of c.args.expr.now)) (concordance_rises (g.C.CountedLeaves.text c.args.source.now) (form_of c.args.expr.now)) (start_at c.args.places.now) c.args.k (sym c.in_err-member.ensures.answer))
 
 pub reading::node_back-returns-then-k-member-clause-answer : goal.reading::node_back-returns-then-k-member-clause-answer
 reading::node_back-returns-then-k-member-clause-answer g t c =
@@ -438,8 +444,7 @@ reading::node_back-returns-clause-answer g t c =
 
 pub reading::node_end-returns-in_err-member-clause-answer : goal.reading::node_end-returns-in_err-member-clause-answer
 reading::node_end-returns-in_err-member-clause-answer g t c =
-    let r = sym (ends_none (concordance (g.C.CountedLeaves.text c.args.source.now) (form_of c.args.expr.now)) (concordance_rises (g.C.CountedLeaves.text c.args.source.now) (form_of c.args.expr.now)) (start_at c.args.places.now) c.args.k (sym c.in_err-member.ensures.answer)) in
-    search rules
+    c.from_residual.ensures ∙ sym (ends_none (concordance (g.C.CountedLeaves.text c.args.source.now) (form_of c.args.expr.now)) (concordance_rises (g.C.CountedLeaves.text c.args.source.now) (form_of c.args.expr.now)) (start_at c.args.places.now) c.args.k (sym c.in_err-member.ensures.answer))
 
 pub reading::node_end-loop-member-init : goal.reading::node_end-loop-member-init
 reading::node_end-loop-member-init g t c =
@@ -900,3 +905,585 @@ reading::onward-returns-in_default-clause-onward g t c =
     let is : c.start.result ≡ first_start (concordance (g.C.CountedLeaves.text c.args.source.now) (form_of c.args.expr.now)) (c.args.member.start + 1)
     = subst (λ n. c.start.result ≡ first_start (left_to (g.C.CountedLeaves.text c.args.source.now) (form_of c.args.expr.now) c.args.places.now) (n + 1)) (sym starts) c.start.ensures.answer ∙ agrees_at (concordance (g.C.CountedLeaves.text c.args.source.now) (form_of c.args.expr.now)) (start_at c.args.places.now) (c.args.member.start + 1) (omega (arith, behind)) in
     goes_to_next (concordance (g.C.CountedLeaves.text c.args.source.now) (form_of c.args.expr.now)) (concordance_rises (g.C.CountedLeaves.text c.args.source.now) (form_of c.args.expr.now)) c.args.k c.args.member has c.requires.short c.start.result is
+
+-- where nothing was found
+pub chains::both_ends-returns-in_err-answer-clause-below : goal.chains::both_ends-returns-in_err-answer-clause-below
+chains::both_ends-returns-in_err-answer-clause-below g t c = none_if _ c.from_residual.result c.from_residual.ensures
+
+pub chains::both_ends-returns-in_err-answer-clause-moved : goal.chains::both_ends-returns-in_err-answer-clause-moved
+chains::both_ends-returns-in_err-answer-clause-moved g t c = none_if _ c.from_residual.result c.from_residual.ensures
+
+pub chains::both_starts-returns-in_err-answer-clause-moved : goal.chains::both_starts-returns-in_err-answer-clause-moved
+chains::both_starts-returns-in_err-answer-clause-moved g t c = none_if _ c.from_residual.result c.from_residual.ensures
+
+pub chains::seq_find-returns-in_err-operand-clause-within : goal.chains::seq_find-returns-in_err-operand-clause-within
+chains::seq_find-returns-in_err-operand-clause-within g t c = none_if _ c.from_residual.result c.from_residual.ensures
+
+pub chains::seq_find-returns-in_err-operand-clause-tells : goal.chains::seq_find-returns-in_err-operand-clause-tells
+chains::seq_find-returns-in_err-operand-clause-tells g t c = none_if _ c.from_residual.result c.from_residual.ensures
+
+pub chains::seq_find-returns-in_err-first-clause-within : goal.chains::seq_find-returns-in_err-first-clause-within
+chains::seq_find-returns-in_err-first-clause-within g t c = none_if _ c.from_residual-in_err-first.result c.from_residual-in_err-first.ensures
+
+pub chains::seq_find-returns-in_err-first-clause-tells : goal.chains::seq_find-returns-in_err-first-clause-tells
+chains::seq_find-returns-in_err-first-clause-tells g t c = none_if _ c.from_residual-in_err-first.result c.from_residual-in_err-first.ensures
+
+pub chains::seq_find-returns-in_err-tail-clause-within : goal.chains::seq_find-returns-in_err-tail-clause-within
+chains::seq_find-returns-in_err-tail-clause-within g t c = none_if _ c.from_residual-in_err-tail.result c.from_residual-in_err-tail.ensures
+
+pub chains::seq_find-returns-in_err-tail-clause-tells : goal.chains::seq_find-returns-in_err-tail-clause-tells
+chains::seq_find-returns-in_err-tail-clause-tells g t c = none_if _ c.from_residual-in_err-tail.result c.from_residual-in_err-tail.ensures
+
+pub chains::seq_find-returns-in_err-head-clause-within : goal.chains::seq_find-returns-in_err-head-clause-within
+chains::seq_find-returns-in_err-head-clause-within g t c = none_if _ c.from_residual-in_err-head.result c.from_residual-in_err-head.ensures
+
+pub chains::seq_find-returns-in_err-head-clause-tells : goal.chains::seq_find-returns-in_err-head-clause-tells
+chains::seq_find-returns-in_err-head-clause-tells g t c = none_if _ c.from_residual-in_err-head.result c.from_residual-in_err-head.ensures
+
+pub reading::node_back-returns-in_err-member-clause-moved : goal.reading::node_back-returns-in_err-member-clause-moved
+reading::node_back-returns-in_err-member-clause-moved g t c = none_if _ c.from_residual.result c.from_residual.ensures
+
+pub reading::node_back-returns-in_err-member-clause-within : goal.reading::node_back-returns-in_err-member-clause-within
+reading::node_back-returns-in_err-member-clause-within g t c = none_if _ c.from_residual.result c.from_residual.ensures
+
+pub reading::node_end-returns-in_err-member-clause-within : goal.reading::node_end-returns-in_err-member-clause-within
+reading::node_end-returns-in_err-member-clause-within g t c = none_if _ c.from_residual.result c.from_residual.ensures
+
+pub reading::node_end-returns-in_err-member-2-clause-within : goal.reading::node_end-returns-in_err-member-2-clause-within
+reading::node_end-returns-in_err-member-2-clause-within g t c = none_if _ c.from_residual-in_err-member-2.result c.from_residual-in_err-member-2.ensures
+
+pub reading::node_end-returns-in_err-member-clause-moved : goal.reading::node_end-returns-in_err-member-clause-moved
+reading::node_end-returns-in_err-member-clause-moved g t c = subst (λ o. start_at c.start.new.places ≤ start_or_end o) (sym c.from_residual.ensures) c.in_err-member.ensures.moved
+
+pub chains::both_find-returns-in_err-end-clause-tells : goal.chains::both_find-returns-in_err-end-clause-tells
+chains::both_find-returns-in_err-end-clause-tells g t c = both_asks_none (g.C.CountedLeaves.text c.args.source.now) (operand_forms c.args.operands.now) c.both_ends.new.places c.from_residual.result c.from_residual.ensures
+
+pub chains::both_find-returns-in_err-start-clause-tells : goal.chains::both_find-returns-in_err-start-clause-tells
+chains::both_find-returns-in_err-start-clause-tells g t c = both_asks_none (g.C.CountedLeaves.text c.args.source.now) (operand_forms c.args.operands.now) c.both_starts.new.places c.from_residual-in_err-start.result c.from_residual-in_err-start.ensures
+
+pub containments::containment_find-returns-in-Finish-clause-tells : goal.containments::containment_find-returns-in-Finish-clause-tells
+containments::containment_find-returns-in-Finish-clause-tells g t c = contain_none c.operands-containment.result.0 (g.C.CountedLeaves.text c.args.source.now) (form_of c.args.expr.now) (form_of c.operands-containment.result.1.now) (form_of c.operands-containment.result.2.now) c.operands-containment.ensures (c.loop-next.first_places ++ c.ask-answer.new.places) None refl
+
+pub containments::containment_find-returns-in_err-member-clause-tells : goal.containments::containment_find-returns-in_err-member-clause-tells
+containments::containment_find-returns-in_err-member-clause-tells g t c = contain_none c.operands-containment.result.0 (g.C.CountedLeaves.text c.args.source.now) (form_of c.args.expr.now) (form_of c.operands-containment.result.1.now) (form_of c.operands-containment.result.2.now) c.operands-containment.ensures (c.start.new.places ++ c.split_at_mut-first_places.result.1.now) c.from_residual.result c.from_residual.ensures
+
+pub containments::containment_find-returns-in_err-member-in-GoTo-clause-tells : goal.containments::containment_find-returns-in_err-member-in-GoTo-clause-tells
+containments::containment_find-returns-in_err-member-in-GoTo-clause-tells g t c = contain_none c.operands-containment.result.0 (g.C.CountedLeaves.text c.args.source.now) (form_of c.args.expr.now) (form_of c.operands-containment.result.1.now) (form_of c.operands-containment.result.2.now) c.operands-containment.ensures (c.go_on.new.places ++ c.ask-answer.new.places) c.from_residual-in_err-member-in-GoTo.result c.from_residual-in_err-member-in-GoTo.ensures
+
+pub reading::find-returns-in-Both-clause-tells : goal.reading::find-returns-in-Both-clause-tells
+reading::find-returns-in-Both-clause-tells g t c =
+    let form = form-Both c.args.expr.now c.in-Both.operands c.deref.result.now c.in-Both.is c.deref.ensures.value in
+    subst (λ f. Tell (g.C.CountedLeaves.text c.args.source.now) f (front_at c.both_find.result) c.both_find.new.places) (sym form) c.both_find.ensures.tells
+
+-- what the calls require
+pub chains::both_ends-both_ends-requires : goal.chains::both_ends-both_ends-requires
+chains::both_ends-both_ends-requires g t c =
+    let here = operand_at (g.C.CountedLeaves.text c.args.source.now) c.args.operands.now c.in-Some.others.now c.in-Some.operand.now c.in-Some.ensures.cases.0 c.args.places.now c.split_at_mut-mine.result.0.now c.split_at_mut-mine.result.1.now c.size_of-size.result c.requires.well_formed c.requires.stands c.size_of-size.ensures c.split_at_mut-mine.ensures.front c.split_at_mut-mine.ensures.back in
+    let fewer = here.fewer in
+    let some = here.some in
+    λ κs l. (omega arith, (l.0, (l.1, ((subst (λ es. AreWellFormed (operand_forms es)) c.in-Some.ensures.cases.0 c.requires.well_formed).1, (c.requires.below, (c.requires.sound, (others_stand (g.C.CountedLeaves.text c.args.source.now) c.args.operands.now c.in-Some.others.now c.in-Some.operand.now c.in-Some.ensures.cases.0 c.args.places.now c.split_at_mut-mine.result.1.now c.size_of-size.result c.requires.stands c.size_of-size.ensures c.split_at_mut-mine.ensures.back, omega (arith, c.both_forward_end-so_far.ensures, c.requires.so_far, c.in_ok-answer.ensures.within))))))))
+
+pub chains::both_starts-both_starts-requires : goal.chains::both_starts-both_starts-requires
+chains::both_starts-both_starts-requires g t c =
+    let here = operand_at (g.C.CountedLeaves.text c.args.source.now) c.args.operands.now c.in-Some.others.now c.in-Some.operand.now c.in-Some.ensures.cases.0 c.args.places.now c.split_at_mut-mine.result.0.now c.split_at_mut-mine.result.1.now c.size_of-size.result c.requires.well_formed c.requires.stands c.size_of-size.ensures c.split_at_mut-mine.ensures.front c.split_at_mut-mine.ensures.back in
+    let fewer = here.fewer in
+    let some = here.some in
+    λ κs l. (omega arith, (l.0, (l.1, ((subst (λ es. AreWellFormed (operand_forms es)) c.in-Some.ensures.cases.0 c.requires.well_formed).1, (c.requires.below, (c.requires.sound, others_stand (g.C.CountedLeaves.text c.args.source.now) c.args.operands.now c.in-Some.others.now c.in-Some.operand.now c.in-Some.ensures.cases.0 c.args.places.now c.split_at_mut-mine.result.1.now c.size_of-size.result c.requires.stands c.size_of-size.ensures c.split_at_mut-mine.ensures.back))))))
+
+pub chains::one_find-one_find-requires : goal.chains::one_find-one_find-requires
+chains::one_find-one_find-requires g t c =
+    let here = operand_at (g.C.CountedLeaves.text c.args.source.now) c.args.operands.now c.in-Some.others.now c.in-Some.operand.now c.in-Some.ensures.cases.0 c.args.places.now c.split_at_mut-mine.result.0.now c.split_at_mut-mine.result.1.now c.size_of-size.result c.requires.well_formed c.requires.stands c.size_of-size.ensures c.split_at_mut-mine.ensures.front c.split_at_mut-mine.ensures.back in
+    let fewer = here.fewer in
+    let some = here.some in
+    λ κs l. (omega arith, (l.0, (l.1, ((subst (λ es. AreWellFormed (operand_forms es)) c.in-Some.ensures.cases.0 c.requires.well_formed).1, (c.requires.below, (c.requires.sound, (others_stand (g.C.CountedLeaves.text c.args.source.now) c.args.operands.now c.in-Some.others.now c.in-Some.operand.now c.in-Some.ensures.cases.0 c.args.places.now c.split_at_mut-mine.result.1.now c.size_of-size.result c.requires.stands c.size_of-size.ensures c.split_at_mut-mine.ensures.back, (subst (λ es. AllAnswerFrom (operand_lists (g.C.CountedLeaves.text c.args.source.now) es) (start_at c.split_at_mut-mine.result.0.now ∷ starts_at (operand_forms c.in-Some.others.now) c.split_at_mut-mine.result.1.now) c.args.k) c.in-Some.ensures.cases.0 (subst (λ xs. AllAnswerFrom (operand_lists (g.C.CountedLeaves.text c.args.source.now) c.args.operands.now) xs c.args.k) here.starts c.requires.tells)).1)))))))
+
+pub chains::both_find-both_ends-requires : goal.chains::both_find-both_ends-requires
+chains::both_find-both_ends-requires g t c =
+    λ κs l. (omega arith, (l.0, (l.1, (c.requires.operands.each, (c.requires.below, (c.requires.sound, (c.requires.stands, c.requires.below)))))))
+
+pub chains::both_find-both_starts-requires : goal.chains::both_find-both_starts-requires
+chains::both_find-both_starts-requires g t c =
+    λ κs l. (omega arith, (l.0, (l.1, (c.requires.operands.each, (c.in_ok-end.ensures.below, (c.requires.sound, c.both_ends.ensures.stands))))))
+
+pub reading::end-start-requires : goal.reading::end-start-requires
+reading::end-start-requires g t c =
+    λ κs l. (omega arith, (l.0, (l.1, (c.requires.well_formed, (c.requires.below, (c.requires.sound, c.requires.stands))))))
+
+pub reading::node_end-start-requires : goal.reading::node_end-start-requires
+reading::node_end-start-requires g t c =
+    λ κs l. (omega arith, (l.0, (l.1, (c.requires.well_formed, (omega arith, (c.requires.sound, c.requires.stands))))))
+
+pub reading::node_back-start-requires : goal.reading::node_back-start-requires
+reading::node_back-start-requires g t c =
+    λ κs l. (omega arith, (l.0, (l.1, (c.requires.well_formed, (omega arith, (c.requires.sound, c.requires.stands))))))
+
+pub reading::node_back-peek-requires : goal.reading::node_back-peek-requires
+reading::node_back-peek-requires g t c =
+    λ κs l. (omega arith, (l.0, (l.1, (c.requires.node, (c.requires.well_formed, (c.loop-next.invariant.within, (c.requires.sound, (c.loop-next.invariant.stands, c.loop-next.invariant.on))))))))
+
+pub reading::node_end-onward-requires : goal.reading::node_end-onward-requires
+reading::node_end-onward-requires g t c =
+    let ends : c.loop-member.member.end ≡ c.member.inside.end = sym (ap (λ (x : Extent). x.end) c.member.view_is) in
+    λ κs l. (omega arith, (l.0, (l.1, (c.requires.node, (c.requires.well_formed, (c.requires.below, (c.requires.sound, (c.loop-member.invariant.stands, (c.loop-member.invariant.on, omega (arith, ends, c.loop-member-test.true))))))))))
+
+-- what a call hands on
+pub containments::ask-returns-in-Containing-clause-moved : goal.containments::ask-returns-in-Containing-clause-moved
+containments::ask-returns-in-Containing-clause-moved g t c = c.start.ensures.moved
+
+pub containments::ask-returns-in-Containing-clause-within : goal.containments::ask-returns-in-Containing-clause-within
+containments::ask-returns-in-Containing-clause-within g t c = c.start.ensures.within
+
+pub containments::ask-returns-in-Containing-clause-stands : goal.containments::ask-returns-in-Containing-clause-stands
+containments::ask-returns-in-Containing-clause-stands g t c = c.start.ensures.stands
+
+pub containments::ask-returns-in-Containing-clause-counted : goal.containments::ask-returns-in-Containing-clause-counted
+containments::ask-returns-in-Containing-clause-counted g t c = c.start.ensures.counted
+
+pub containments::ask-returns-in-Containing-clause-cost : goal.containments::ask-returns-in-Containing-clause-cost
+containments::ask-returns-in-Containing-clause-cost g t c = c.start.ensures.cost
+
+pub containments::ask-returns-in-ContainedIn-clause-moved : goal.containments::ask-returns-in-ContainedIn-clause-moved
+containments::ask-returns-in-ContainedIn-clause-moved g t c = c.end.ensures.moved
+
+pub containments::ask-returns-in-ContainedIn-clause-within : goal.containments::ask-returns-in-ContainedIn-clause-within
+containments::ask-returns-in-ContainedIn-clause-within g t c = c.end.ensures.within
+
+pub containments::ask-returns-in-ContainedIn-clause-stands : goal.containments::ask-returns-in-ContainedIn-clause-stands
+containments::ask-returns-in-ContainedIn-clause-stands g t c = c.end.ensures.stands
+
+pub containments::ask-returns-in-ContainedIn-clause-counted : goal.containments::ask-returns-in-ContainedIn-clause-counted
+containments::ask-returns-in-ContainedIn-clause-counted g t c = c.end.ensures.counted
+
+pub containments::ask-returns-in-ContainedIn-clause-cost : goal.containments::ask-returns-in-ContainedIn-clause-cost
+containments::ask-returns-in-ContainedIn-clause-cost g t c = c.end.ensures.cost
+
+pub containments::ask-returns-in-NotContaining-clause-moved : goal.containments::ask-returns-in-NotContaining-clause-moved
+containments::ask-returns-in-NotContaining-clause-moved g t c = c.start-in-NotContaining.ensures.moved
+
+pub containments::ask-returns-in-NotContaining-clause-within : goal.containments::ask-returns-in-NotContaining-clause-within
+containments::ask-returns-in-NotContaining-clause-within g t c = c.start-in-NotContaining.ensures.within
+
+pub containments::ask-returns-in-NotContaining-clause-stands : goal.containments::ask-returns-in-NotContaining-clause-stands
+containments::ask-returns-in-NotContaining-clause-stands g t c = c.start-in-NotContaining.ensures.stands
+
+pub containments::ask-returns-in-NotContaining-clause-counted : goal.containments::ask-returns-in-NotContaining-clause-counted
+containments::ask-returns-in-NotContaining-clause-counted g t c = c.start-in-NotContaining.ensures.counted
+
+pub containments::ask-returns-in-NotContaining-clause-cost : goal.containments::ask-returns-in-NotContaining-clause-cost
+containments::ask-returns-in-NotContaining-clause-cost g t c = c.start-in-NotContaining.ensures.cost
+
+pub containments::ask-returns-in-NotContainedIn-clause-moved : goal.containments::ask-returns-in-NotContainedIn-clause-moved
+containments::ask-returns-in-NotContainedIn-clause-moved g t c = c.end-in-NotContainedIn.ensures.moved
+
+pub containments::ask-returns-in-NotContainedIn-clause-within : goal.containments::ask-returns-in-NotContainedIn-clause-within
+containments::ask-returns-in-NotContainedIn-clause-within g t c = c.end-in-NotContainedIn.ensures.within
+
+pub containments::ask-returns-in-NotContainedIn-clause-stands : goal.containments::ask-returns-in-NotContainedIn-clause-stands
+containments::ask-returns-in-NotContainedIn-clause-stands g t c = c.end-in-NotContainedIn.ensures.stands
+
+pub containments::ask-returns-in-NotContainedIn-clause-counted : goal.containments::ask-returns-in-NotContainedIn-clause-counted
+containments::ask-returns-in-NotContainedIn-clause-counted g t c = c.end-in-NotContainedIn.ensures.counted
+
+pub containments::ask-returns-in-NotContainedIn-clause-cost : goal.containments::ask-returns-in-NotContainedIn-clause-cost
+containments::ask-returns-in-NotContainedIn-clause-cost g t c = c.end-in-NotContainedIn.ensures.cost
+
+pub containments::go_on-returns-in-Containing-clause-moved : goal.containments::go_on-returns-in-Containing-clause-moved
+containments::go_on-returns-in-Containing-clause-moved g t c = c.end.ensures.moved
+
+pub containments::go_on-returns-in-Containing-clause-within : goal.containments::go_on-returns-in-Containing-clause-within
+containments::go_on-returns-in-Containing-clause-within g t c = c.end.ensures.within
+
+pub containments::go_on-returns-in-Containing-clause-stands : goal.containments::go_on-returns-in-Containing-clause-stands
+containments::go_on-returns-in-Containing-clause-stands g t c = c.end.ensures.stands
+
+pub containments::go_on-returns-in-Containing-clause-counted : goal.containments::go_on-returns-in-Containing-clause-counted
+containments::go_on-returns-in-Containing-clause-counted g t c = c.end.ensures.counted
+
+pub containments::go_on-returns-in-Containing-clause-cost : goal.containments::go_on-returns-in-Containing-clause-cost
+containments::go_on-returns-in-Containing-clause-cost g t c = c.end.ensures.cost
+
+pub containments::go_on-returns-in-ContainedIn-clause-moved : goal.containments::go_on-returns-in-ContainedIn-clause-moved
+containments::go_on-returns-in-ContainedIn-clause-moved g t c = c.start.ensures.moved
+
+pub containments::go_on-returns-in-ContainedIn-clause-within : goal.containments::go_on-returns-in-ContainedIn-clause-within
+containments::go_on-returns-in-ContainedIn-clause-within g t c = c.start.ensures.within
+
+pub containments::go_on-returns-in-ContainedIn-clause-stands : goal.containments::go_on-returns-in-ContainedIn-clause-stands
+containments::go_on-returns-in-ContainedIn-clause-stands g t c = c.start.ensures.stands
+
+pub containments::go_on-returns-in-ContainedIn-clause-counted : goal.containments::go_on-returns-in-ContainedIn-clause-counted
+containments::go_on-returns-in-ContainedIn-clause-counted g t c = c.start.ensures.counted
+
+pub containments::go_on-returns-in-ContainedIn-clause-cost : goal.containments::go_on-returns-in-ContainedIn-clause-cost
+containments::go_on-returns-in-ContainedIn-clause-cost g t c = c.start.ensures.cost
+
+pub containments::go_on-returns-in-NotContaining-clause-moved : goal.containments::go_on-returns-in-NotContaining-clause-moved
+containments::go_on-returns-in-NotContaining-clause-moved g t c = c.start-in-NotContaining.ensures.moved
+
+pub containments::go_on-returns-in-NotContaining-clause-within : goal.containments::go_on-returns-in-NotContaining-clause-within
+containments::go_on-returns-in-NotContaining-clause-within g t c = c.start-in-NotContaining.ensures.within
+
+pub containments::go_on-returns-in-NotContaining-clause-stands : goal.containments::go_on-returns-in-NotContaining-clause-stands
+containments::go_on-returns-in-NotContaining-clause-stands g t c = c.start-in-NotContaining.ensures.stands
+
+pub containments::go_on-returns-in-NotContaining-clause-counted : goal.containments::go_on-returns-in-NotContaining-clause-counted
+containments::go_on-returns-in-NotContaining-clause-counted g t c = c.start-in-NotContaining.ensures.counted
+
+pub containments::go_on-returns-in-NotContaining-clause-cost : goal.containments::go_on-returns-in-NotContaining-clause-cost
+containments::go_on-returns-in-NotContaining-clause-cost g t c = c.start-in-NotContaining.ensures.cost
+
+pub containments::go_on-returns-in-NotContainedIn-clause-moved : goal.containments::go_on-returns-in-NotContainedIn-clause-moved
+containments::go_on-returns-in-NotContainedIn-clause-moved g t c = c.end-in-NotContainedIn.ensures.moved
+
+pub containments::go_on-returns-in-NotContainedIn-clause-within : goal.containments::go_on-returns-in-NotContainedIn-clause-within
+containments::go_on-returns-in-NotContainedIn-clause-within g t c = c.end-in-NotContainedIn.ensures.within
+
+pub containments::go_on-returns-in-NotContainedIn-clause-stands : goal.containments::go_on-returns-in-NotContainedIn-clause-stands
+containments::go_on-returns-in-NotContainedIn-clause-stands g t c = c.end-in-NotContainedIn.ensures.stands
+
+pub containments::go_on-returns-in-NotContainedIn-clause-counted : goal.containments::go_on-returns-in-NotContainedIn-clause-counted
+containments::go_on-returns-in-NotContainedIn-clause-counted g t c = c.end-in-NotContainedIn.ensures.counted
+
+pub containments::go_on-returns-in-NotContainedIn-clause-cost : goal.containments::go_on-returns-in-NotContainedIn-clause-cost
+containments::go_on-returns-in-NotContainedIn-clause-cost g t c = c.end-in-NotContainedIn.ensures.cost
+
+pub reading::node_end-returns-in_err-member-clause-stands : goal.reading::node_end-returns-in_err-member-clause-stands
+reading::node_end-returns-in_err-member-clause-stands g t c = c.start.ensures.stands
+
+pub reading::node_end-returns-in_err-member-clause-counted : goal.reading::node_end-returns-in_err-member-clause-counted
+reading::node_end-returns-in_err-member-clause-counted g t c = c.start.ensures.counted
+
+pub reading::node_end-returns-in_err-member-clause-cost : goal.reading::node_end-returns-in_err-member-clause-cost
+reading::node_end-returns-in_err-member-clause-cost g t c = c.start.ensures.cost
+
+pub reading::node_end-returns-in_err-member-2-clause-stands : goal.reading::node_end-returns-in_err-member-2-clause-stands
+reading::node_end-returns-in_err-member-2-clause-stands g t c = c.onward.ensures.stands
+
+pub reading::node_end-returns-in_err-member-2-clause-counted : goal.reading::node_end-returns-in_err-member-2-clause-counted
+reading::node_end-returns-in_err-member-2-clause-counted g t c = omega (arith, c.loop-member.invariant.counted, c.onward.ensures.counted)
+
+pub reading::node_end-returns-in_err-member-2-clause-cost : goal.reading::node_end-returns-in_err-member-2-clause-cost
+reading::node_end-returns-in_err-member-2-clause-cost g t c = omega (arith, c.loop-member.invariant.cost, c.onward.ensures.cost)
+
+pub reading::node_end-returns-clause-stands : goal.reading::node_end-returns-clause-stands
+reading::node_end-returns-clause-stands g t c = c.loop-member.invariant.stands
+
+pub reading::node_end-returns-clause-within : goal.reading::node_end-returns-clause-within
+reading::node_end-returns-clause-within g t c = c.loop-member.invariant.within
+
+pub reading::node_end-returns-clause-counted : goal.reading::node_end-returns-clause-counted
+reading::node_end-returns-clause-counted g t c = c.loop-member.invariant.counted
+
+pub reading::node_end-returns-clause-cost : goal.reading::node_end-returns-clause-cost
+reading::node_end-returns-clause-cost g t c = c.loop-member.invariant.cost
+
+pub reading::node_back-returns-in_err-member-clause-stands : goal.reading::node_back-returns-in_err-member-clause-stands
+reading::node_back-returns-in_err-member-clause-stands g t c = c.start.ensures.stands
+
+pub reading::node_back-returns-in_err-member-clause-counted : goal.reading::node_back-returns-in_err-member-clause-counted
+reading::node_back-returns-in_err-member-clause-counted g t c = c.start.ensures.counted
+
+pub reading::node_back-returns-in_err-member-clause-cost : goal.reading::node_back-returns-in_err-member-clause-cost
+reading::node_back-returns-in_err-member-clause-cost g t c = omega (arith, c.start.ensures.cost)
+
+pub reading::node_back-returns-then-k-member-clause-stands : goal.reading::node_back-returns-then-k-member-clause-stands
+reading::node_back-returns-then-k-member-clause-stands g t c = c.start.ensures.stands
+
+pub reading::node_back-returns-then-k-member-clause-counted : goal.reading::node_back-returns-then-k-member-clause-counted
+reading::node_back-returns-then-k-member-clause-counted g t c = c.start.ensures.counted
+
+pub reading::node_back-returns-then-k-member-clause-cost : goal.reading::node_back-returns-then-k-member-clause-cost
+reading::node_back-returns-then-k-member-clause-cost g t c = omega (arith, c.start.ensures.cost)
+
+pub reading::node_back-returns-then-k-member-clause-moved : goal.reading::node_back-returns-then-k-member-clause-moved
+reading::node_back-returns-then-k-member-clause-moved g t c = tt
+
+pub reading::node_back-returns-then-k-member-clause-within : goal.reading::node_back-returns-then-k-member-clause-within
+reading::node_back-returns-then-k-member-clause-within g t c = tt
+
+pub reading::node_back-returns-clause-stands : goal.reading::node_back-returns-clause-stands
+reading::node_back-returns-clause-stands g t c = c.peek.ensures.stands
+
+pub reading::node_back-returns-clause-within : goal.reading::node_back-returns-clause-within
+reading::node_back-returns-clause-within g t c = c.loop-next.invariant.within
+
+pub reading::node_back-returns-clause-counted : goal.reading::node_back-returns-clause-counted
+reading::node_back-returns-clause-counted g t c = omega (arith, c.loop-next.invariant.counted, c.peek.ensures.counted)
+
+pub reading::node_back-returns-clause-cost : goal.reading::node_back-returns-clause-cost
+reading::node_back-returns-clause-cost g t c = omega (arith, c.loop-next.invariant.cost, c.peek.ensures.cost)
+
+pub reading::node_back-returns-clause-moved : goal.reading::node_back-returns-clause-moved
+reading::node_back-returns-clause-moved g t c = omega (arith, ap start_left c.peek.ensures.front)
+
+pub reading::peek-returns-clause-answer : goal.reading::peek-returns-clause-answer
+reading::peek-returns-clause-answer g t c =
+    let starts : c.args.member.start ≡ c.member.inside.start = sym (ap (λ (x : Extent). x.start) c.member.view_is) in
+    c.look-next.ensures.answer ∙ ap (λ n. first_start (concordance (g.C.CountedLeaves.text c.args.source.now) (form_of c.args.expr.now)) (n + 1)) (sym starts)
+
+pub reading::peek-returns-clause-counted : goal.reading::peek-returns-clause-counted
+reading::peek-returns-clause-counted g t c = c.look-next.ensures.counted
+
+pub reading::find-returns-in-Both-clause-counted : goal.reading::find-returns-in-Both-clause-counted
+reading::find-returns-in-Both-clause-counted g t c = omega (arith, c.element_at_hand.ensures.counted, c.both_find.ensures.counted)
+
+pub reading::find-returns-in-Both-clause-len : goal.reading::find-returns-in-Both-clause-len
+reading::find-returns-in-Both-clause-len g t c = c.both_find.ensures.len
+
+pub reading::find-returns-in-One-clause-counted : goal.reading::find-returns-in-One-clause-counted
+reading::find-returns-in-One-clause-counted g t c = omega (arith, c.element_at_hand.ensures.counted, c.one_find.ensures.counted)
+
+pub reading::find-returns-in-One-clause-len : goal.reading::find-returns-in-One-clause-len
+reading::find-returns-in-One-clause-len g t c = c.one_find.ensures.len
+
+pub reading::find-returns-in-Seq-clause-counted : goal.reading::find-returns-in-Seq-clause-counted
+reading::find-returns-in-Seq-clause-counted g t c = omega (arith, c.element_at_hand.ensures.counted, c.seq_find.ensures.counted)
+
+pub reading::find-returns-in-Seq-clause-len : goal.reading::find-returns-in-Seq-clause-len
+reading::find-returns-in-Seq-clause-len g t c = c.seq_find.ensures.len
+
+pub reading::find-returns-in-Containing-clause-counted : goal.reading::find-returns-in-Containing-clause-counted
+reading::find-returns-in-Containing-clause-counted g t c = omega (arith, c.element_at_hand.ensures.counted, c.containment_find.ensures.counted)
+
+pub reading::find-returns-in-Containing-clause-len : goal.reading::find-returns-in-Containing-clause-len
+reading::find-returns-in-Containing-clause-len g t c = c.containment_find.ensures.len
+
+pub reading::find-returns-in-Containing-clause-answer : goal.reading::find-returns-in-Containing-clause-answer
+reading::find-returns-in-Containing-clause-answer g t c = c.containment_find.ensures.answer
+
+pub reading::find-returns-in-Containing-clause-stands : goal.reading::find-returns-in-Containing-clause-stands
+reading::find-returns-in-Containing-clause-stands g t c = c.containment_find.ensures.stands
+
+pub reading::find-returns-in-Containing-clause-tells : goal.reading::find-returns-in-Containing-clause-tells
+reading::find-returns-in-Containing-clause-tells g t c = c.containment_find.ensures.tells
+
+pub reading::find-returns-in-Containing-clause-cost : goal.reading::find-returns-in-Containing-clause-cost
+reading::find-returns-in-Containing-clause-cost g t c =
+    let same = c.in_default.ensures.none refl in
+    find_by (g.C.CountedLeaves.text c.args.source.now) (g.C.CountedLeaves.most c.args.source.now) (form_of c.args.expr.now) (form_of c.args.expr.now) refl c.args.places.now c.containment_find.new.places (g.C.CountedLeaves.count c.args.counter.now) (g.C.CountedLeaves.count c.containment_find.new.counter) c.args.k c.containment_find.result
+    (subst (λ n. g.C.CountedLeaves.count c.containment_find.new.counter + cost_below (g.C.CountedLeaves.text c.args.source.now) (g.C.CountedLeaves.most c.args.source.now) (form_of c.args.expr.now) c.containment_find.new.places ≤ n + cost_below (g.C.CountedLeaves.text c.args.source.now) (g.C.CountedLeaves.most c.args.source.now) (form_of c.args.expr.now) c.args.places.now + member_cost (g.C.CountedLeaves.text c.args.source.now) (g.C.CountedLeaves.most c.args.source.now) (form_of c.args.expr.now)) same c.containment_find.ensures.cost)
+
+pub reading::find-returns-in-Seq-clause-tells : goal.reading::find-returns-in-Seq-clause-tells
+reading::find-returns-in-Seq-clause-tells g t c =
+    let form = form-Seq c.args.expr.now c.in-Seq.operands c.deref-in-Seq.result.now c.in-Seq.is c.deref-in-Seq.ensures.value in
+    seq_tell (g.C.CountedLeaves.text c.args.source.now) (form_of c.args.expr.now) (operand_forms c.deref-in-Seq.result.now) form c.seq_find.new.places c.seq_find.result c.seq_find.ensures.tells
+
+pub reading::find-returns-in-Term-clause-answer : goal.reading::find-returns-in-Term-clause-answer
+reading::find-returns-in-Term-clause-answer g t c = c.term_find.ensures.answer ∙ ap (λ f. first_start (concordance (g.C.CountedLeaves.text c.args.source.now) f) c.args.k) (sym (form-Term c.args.expr.now c.in-Term.token c.in-Term.is))
+
+pub reading::find-returns-in-Term-clause-tells : goal.reading::find-returns-in-Term-clause-tells
+reading::find-returns-in-Term-clause-tells g t c = subst (λ f. Tell (g.C.CountedLeaves.text c.args.source.now) f (front_at c.term_find.result) c.args.places.now) (sym (form-Term c.args.expr.now c.in-Term.token c.in-Term.is)) tt
+
+pub reading::find-returns-in-Term-clause-counted : goal.reading::find-returns-in-Term-clause-counted
+reading::find-returns-in-Term-clause-counted g t c = omega (arith, c.element_at_hand.ensures.counted, c.term_find.ensures.counted)
+
+pub reading::find-returns-in-Term-clause-len : goal.reading::find-returns-in-Term-clause-len
+reading::find-returns-in-Term-clause-len g t c = refl
+
+pub reading::find-returns-in-Term-clause-stands : goal.reading::find-returns-in-Term-clause-stands
+reading::find-returns-in-Term-clause-stands g t c = c.requires.stands
+
+pub reading::find-returns-in-Phrase-clause-len : goal.reading::find-returns-in-Phrase-clause-len
+reading::find-returns-in-Phrase-clause-len g t c = refl
+
+pub reading::find-returns-in-Phrase-clause-stands : goal.reading::find-returns-in-Phrase-clause-stands
+reading::find-returns-in-Phrase-clause-stands g t c = c.requires.stands
+
+pub reading::find-returns-in-Some-clause-answer : goal.reading::find-returns-in-Some-clause-answer
+reading::find-returns-in-Some-clause-answer g t c = c.in-Some.ensures.answer
+
+pub reading::find-returns-in-Some-clause-counted : goal.reading::find-returns-in-Some-clause-counted
+reading::find-returns-in-Some-clause-counted g t c = c.element_at_hand.ensures.counted
+
+pub reading::find-returns-in-Some-clause-stands : goal.reading::find-returns-in-Some-clause-stands
+reading::find-returns-in-Some-clause-stands g t c = c.requires.stands
+
+pub reading::find-returns-in-Some-clause-len : goal.reading::find-returns-in-Some-clause-len
+reading::find-returns-in-Some-clause-len g t c = refl
+
+pub reading::end-returns-in-Term-clause-moved : goal.reading::end-returns-in-Term-clause-moved
+reading::end-returns-in-Term-clause-moved g t c = c.start.ensures.moved
+
+pub reading::end-returns-in-Term-clause-within : goal.reading::end-returns-in-Term-clause-within
+reading::end-returns-in-Term-clause-within g t c = c.start.ensures.within
+
+pub reading::end-returns-in-Term-clause-stands : goal.reading::end-returns-in-Term-clause-stands
+reading::end-returns-in-Term-clause-stands g t c = c.start.ensures.stands
+
+pub reading::end-returns-in-Term-clause-counted : goal.reading::end-returns-in-Term-clause-counted
+reading::end-returns-in-Term-clause-counted g t c = c.start.ensures.counted
+
+pub reading::end-returns-in-Term-clause-cost : goal.reading::end-returns-in-Term-clause-cost
+reading::end-returns-in-Term-clause-cost g t c = c.start.ensures.cost
+
+pub reading::start-returns-in-Width-clause-stands : goal.reading::start-returns-in-Width-clause-stands
+reading::start-returns-in-Width-clause-stands g t c = c.requires.stands
+
+pub reading::end-returns-in-Width-clause-stands : goal.reading::end-returns-in-Width-clause-stands
+reading::end-returns-in-Width-clause-stands g t c = c.requires.stands
+
+pub reading::back-returns-in-Width-clause-stands : goal.reading::back-returns-in-Width-clause-stands
+reading::back-returns-in-Width-clause-stands g t c = c.requires.stands
+
+pub reading::onward-returns-in_default-clause-cost : goal.reading::onward-returns-in_default-clause-cost
+reading::onward-returns-in_default-clause-cost g t c = c.start.ensures.cost
+
+pub reading::onward-returns-in_default-clause-counted : goal.reading::onward-returns-in_default-clause-counted
+reading::onward-returns-in_default-clause-counted g t c = c.start.ensures.counted
+
+pub reading::onward-returns-in_default-clause-stands : goal.reading::onward-returns-in_default-clause-stands
+reading::onward-returns-in_default-clause-stands g t c = c.start.ensures.stands
+
+pub reading::onward-returns-in_default-clause-on : goal.reading::onward-returns-in_default-clause-on
+reading::onward-returns-in_default-clause-on g t c = c.start.ensures.on c.requires.node
+
+pub reading::onward-returns-in-Seq-On-clause-cost : goal.reading::onward-returns-in-Seq-On-clause-cost
+reading::onward-returns-in-Seq-On-clause-cost g t c = c.seq_onward.ensures.cost
+
+pub reading::onward-returns-in-Seq-On-clause-counted : goal.reading::onward-returns-in-Seq-On-clause-counted
+reading::onward-returns-in-Seq-On-clause-counted g t c = c.seq_onward.ensures.counted
+
+pub reading::onward-returns-in-Seq-On-clause-stands : goal.reading::onward-returns-in-Seq-On-clause-stands
+reading::onward-returns-in-Seq-On-clause-stands g t c = c.seq_onward.ensures.stands
+
+pub reading::onward-returns-in-Seq-On-clause-onward : goal.reading::onward-returns-in-Seq-On-clause-onward
+reading::onward-returns-in-Seq-On-clause-onward g t c = c.seq_onward.ensures.onward
+
+pub reading::onward-returns-in-Seq-On-clause-on : goal.reading::onward-returns-in-Seq-On-clause-on
+reading::onward-returns-in-Seq-On-clause-on g t c = ap member_of c.seq_onward.ensures.front ∙ member_front c.seq_onward.result
+
+pub chains::both_find-returns-in_err-end-clause-counted : goal.chains::both_find-returns-in_err-end-clause-counted
+chains::both_find-returns-in_err-end-clause-counted g t c = c.both_ends.ensures.counted
+
+pub chains::both_find-returns-in_err-end-clause-len : goal.chains::both_find-returns-in_err-end-clause-len
+chains::both_find-returns-in_err-end-clause-len g t c = c.both_ends.ensures.len
+
+pub chains::both_find-returns-in_err-end-clause-stands : goal.chains::both_find-returns-in_err-end-clause-stands
+chains::both_find-returns-in_err-end-clause-stands g t c = c.both_ends.ensures.stands
+
+pub chains::both_find-returns-in_err-end-clause-cost : goal.chains::both_find-returns-in_err-end-clause-cost
+chains::both_find-returns-in_err-end-clause-cost g t c = omega (arith, c.both_ends.ensures.cost)
+
+pub chains::both_find-returns-in_err-start-clause-stands : goal.chains::both_find-returns-in_err-start-clause-stands
+chains::both_find-returns-in_err-start-clause-stands g t c = c.both_starts.ensures.stands
+
+pub chains::both_find-returns-clause-stands : goal.chains::both_find-returns-clause-stands
+chains::both_find-returns-clause-stands g t c = c.both_starts.ensures.stands
+
+pub chains::seq_find-returns-in_err-first-clause-counted : goal.chains::seq_find-returns-in_err-first-clause-counted
+chains::seq_find-returns-in_err-first-clause-counted g t c = c.start.ensures.counted
+
+pub chains::seq_find-returns-then-is_empty-clause-counted : goal.chains::seq_find-returns-then-is_empty-clause-counted
+chains::seq_find-returns-then-is_empty-clause-counted g t c = c.start.ensures.counted
+
+pub chains::seq_find-returns-then-is_empty-clause-within : goal.chains::seq_find-returns-then-is_empty-clause-within
+chains::seq_find-returns-then-is_empty-clause-within g t c = c.in_ok-first.ensures.within
+
+pub chains::both_ends-returns-in_err-answer-clause-counted : goal.chains::both_ends-returns-in_err-answer-clause-counted
+chains::both_ends-returns-in_err-answer-clause-counted g t c = c.start.ensures.counted
+
+pub chains::both_starts-returns-in_err-answer-clause-counted : goal.chains::both_starts-returns-in_err-answer-clause-counted
+chains::both_starts-returns-in_err-answer-clause-counted g t c = c.back.ensures.counted
+
+pub chains::seq_onward-returns-in-Some-clause-counted : goal.chains::seq_onward-returns-in-Some-clause-counted
+chains::seq_onward-returns-in-Some-clause-counted g t c = c.element_onward.ensures.counted
+
+pub chains::seq_onward-returns-clause-counted : goal.chains::seq_onward-returns-clause-counted
+chains::seq_onward-returns-clause-counted g t c = omega (arith, c.element_onward.ensures.counted, c.seq_find-found.ensures.counted)
+
+pub containments::containment_find-returns-in_err-member-clause-counted : goal.containments::containment_find-returns-in_err-member-clause-counted
+containments::containment_find-returns-in_err-member-clause-counted g t c = c.start.ensures.counted
+
+pub reading::look-returns-clause-answer : goal.reading::look-returns-clause-answer
+reading::look-returns-clause-answer g t c = c.find-found.ensures.answer
+
+pub reading::look-returns-clause-counted : goal.reading::look-returns-clause-counted
+reading::look-returns-clause-counted g t c = c.find-found.ensures.counted
+
+pub reading::peek-returns-in-Between-clause-stands : goal.reading::peek-returns-in-Between-clause-stands
+reading::peek-returns-in-Between-clause-stands g t c = c.requires.stands
+
+pub reading::find-one_find-requires : goal.reading::find-one_find-requires
+reading::find-one_find-requires g t c =
+    let form = form-One c.args.expr.now c.in-One.operands c.deref-in-One.result.now c.in-One.is c.deref-in-One.ensures.value in
+    let fewer = ap nodes form in
+    λ κs l. (omega arith, (l.0, (l.1, ((subst IsWellFormed form c.requires.well_formed).1, (c.requires.below, (c.requires.sound, (subst (λ f. StandBelow (g.C.CountedLeaves.text c.args.source.now) f c.args.places.now) form c.requires.stands, subst (λ f. TellsFrom (g.C.CountedLeaves.text c.args.source.now) f c.args.places.now c.args.k) form c.requires.tells)))))))
+
+pub containments::containment_find-ask-answer-requires : goal.containments::containment_find-ask-answer-requires
+containments::containment_find-ask-answer-requires g t c =
+    let parts = both_operands c.operands-containment.result.0 (form_of c.args.expr.now) (form_of c.operands-containment.result.1.now) (form_of c.operands-containment.result.2.now) c.operands-containment.ensures c.requires.well_formed in
+    let here = contain_split c.operands-containment.result.0 (g.C.CountedLeaves.text c.args.source.now) (form_of c.args.expr.now) (form_of c.operands-containment.result.1.now) (form_of c.operands-containment.result.2.now) c.operands-containment.ensures c.args.places.now c.split_at_mut-first_places.result.0.now c.split_at_mut-first_places.result.1.now c.args.k c.size_of-size.result c.requires.stands c.requires.tells c.size_of-size.ensures c.split_at_mut-first_places.ensures.front c.split_at_mut-first_places.ensures.back in
+    let fewer = here.fewer in
+    λ κs l. (omega arith, (l.0, (l.1, (parts.second, (c.loop-next.invariant.within, (c.requires.sound, c.loop-next.invariant.second))))))
+
+pub containments::containment_find-turn-requires-clause-member_below : goal.containments::containment_find-turn-requires-clause-member_below
+containments::containment_find-turn-requires-clause-member_below g t c = omega (arith, c.loop-next.invariant.within)
+
+pub containments::containment_find-turn-requires-clause-answer_below : goal.containments::containment_find-turn-requires-clause-answer_below
+containments::containment_find-turn-requires-clause-answer_below g t c = IfSome_then c.ask-answer.result c.ask-answer.ensures.within (λ b lt. omega (arith, lt))
+
+pub containments::ask-returns-in-Containing-clause-answer : goal.containments::ask-returns-in-Containing-clause-answer
+containments::ask-returns-in-Containing-clause-answer g t c =
+    let at : c.args.member.start ≡ c.member.inside.start = sym (ap (λ (x : Extent). x.start) c.member.view_is) in
+    c.start.ensures.answer ∙ ap (first_start (left_to (g.C.CountedLeaves.text c.args.source.now) (form_of c.args.second.now) c.args.places.now)) (sym at) ∙ ap (λ k. (loop_of Forward k).ask (left_to (g.C.CountedLeaves.text c.args.source.now) (form_of c.args.second.now) c.args.places.now) c.args.member) (sym c.in-Containing.is)
+
+pub containments::ask-returns-in-ContainedIn-clause-answer : goal.containments::ask-returns-in-ContainedIn-clause-answer
+containments::ask-returns-in-ContainedIn-clause-answer g t c =
+    let at : c.args.member.end ≡ c.member.inside.end = sym (ap (λ (x : Extent). x.end) c.member.view_is) in
+    c.end.ensures.answer ∙ ap (first_end (left_to (g.C.CountedLeaves.text c.args.source.now) (form_of c.args.second.now) c.args.places.now)) (sym at) ∙ ap (λ k. (loop_of Forward k).ask (left_to (g.C.CountedLeaves.text c.args.source.now) (form_of c.args.second.now) c.args.places.now) c.args.member) (sym c.in-ContainedIn.is)
+
+pub containments::ask-returns-in-NotContaining-clause-answer : goal.containments::ask-returns-in-NotContaining-clause-answer
+containments::ask-returns-in-NotContaining-clause-answer g t c =
+    let at : c.args.member.start ≡ c.member.inside.start = sym (ap (λ (x : Extent). x.start) c.member.view_is) in
+    c.start-in-NotContaining.ensures.answer ∙ ap (first_start (left_to (g.C.CountedLeaves.text c.args.source.now) (form_of c.args.second.now) c.args.places.now)) (sym at) ∙ ap (λ k. (loop_of Forward k).ask (left_to (g.C.CountedLeaves.text c.args.source.now) (form_of c.args.second.now) c.args.places.now) c.args.member) (sym c.in-NotContaining.is)
+
+pub containments::ask-returns-in-NotContainedIn-clause-answer : goal.containments::ask-returns-in-NotContainedIn-clause-answer
+containments::ask-returns-in-NotContainedIn-clause-answer g t c =
+    let at : c.args.member.end ≡ c.member.inside.end = sym (ap (λ (x : Extent). x.end) c.member.view_is) in
+    c.end-in-NotContainedIn.ensures.answer ∙ ap (first_end (left_to (g.C.CountedLeaves.text c.args.source.now) (form_of c.args.second.now) c.args.places.now)) (sym at) ∙ ap (λ k. (loop_of Forward k).ask (left_to (g.C.CountedLeaves.text c.args.source.now) (form_of c.args.second.now) c.args.places.now) c.args.member) (sym c.in-NotContainedIn.is)
+
+pub chains::both_ends-returns-in_default-clause-answer : goal.chains::both_ends-returns-in_default-clause-answer
+chains::both_ends-returns-in_default-clause-answer g t c =
+    let nil : c.args.operands.now ≡ [] = nil_from_length c.args.operands.now c.in_default.ensures.cases in
+    subst (λ es. Some c.args.so_far ≡ end_so_far (all_left (operand_lists (g.C.CountedLeaves.text c.args.source.now) es) (starts_at (operand_forms es) c.args.places.now)) c.args.k c.args.so_far) (sym nil) refl
+
+pub chains::both_starts-returns-in_default-clause-answer : goal.chains::both_starts-returns-in_default-clause-answer
+chains::both_starts-returns-in_default-clause-answer g t c =
+    let nil : c.args.operands.now ≡ [] = nil_from_length c.args.operands.now c.in_default.ensures.cases in
+    subst (λ es. Some c.args.so_far ≡ start_so_far (all_left (operand_lists (g.C.CountedLeaves.text c.args.source.now) es) (starts_at (operand_forms es) c.args.places.now)) c.args.k c.args.so_far) (sym nil) refl
+
+pub chains::both_ends-returns-in_default-clause-moved : goal.chains::both_ends-returns-in_default-clause-moved
+chains::both_ends-returns-in_default-clause-moved g t c =
+    let nil : c.args.operands.now ≡ [] = nil_from_length c.args.operands.now c.in_default.ensures.cases in
+    subst (λ es. HaveMoved (operand_lists (g.C.CountedLeaves.text c.args.source.now) es) (starts_at (operand_forms es) c.args.places.now) (starts_at (operand_forms es) c.args.places.now) c.args.k) (sym nil) tt
+
+pub chains::both_starts-returns-in_default-clause-moved : goal.chains::both_starts-returns-in_default-clause-moved
+chains::both_starts-returns-in_default-clause-moved g t c =
+    let nil : c.args.operands.now ≡ [] = nil_from_length c.args.operands.now c.in_default.ensures.cases in
+    subst (λ es. HaveMovedBack (operand_lists (g.C.CountedLeaves.text c.args.source.now) es) (starts_at (operand_forms es) c.args.places.now) (starts_at (operand_forms es) c.args.places.now) c.args.k) (sym nil) tt
+
+pub chains::one_find-returns-in_default-clause-answer : goal.chains::one_find-returns-in_default-clause-answer
+chains::one_find-returns-in_default-clause-answer g t c =
+    let nil : c.args.operands.now ≡ [] = nil_from_length c.args.operands.now c.in_default.ensures.cases in
+    subst (λ es. c.args.best ≡ best_forward (operand_lists (g.C.CountedLeaves.text c.args.source.now) es) c.args.k c.args.best) (sym nil) refl
+
+pub chains::one_find-returns-in_default-clause-tells : goal.chains::one_find-returns-in_default-clause-tells
+chains::one_find-returns-in_default-clause-tells g t c = c.requires.tells
+
+pub chains::both_ends-returns-in_default-clause-stands : goal.chains::both_ends-returns-in_default-clause-stands
+chains::both_ends-returns-in_default-clause-stands g t c = c.requires.stands
+
+pub chains::both_starts-returns-in_default-clause-stands : goal.chains::both_starts-returns-in_default-clause-stands
+chains::both_starts-returns-in_default-clause-stands g t c = c.requires.stands
+
+pub chains::one_find-returns-in_default-clause-stands : goal.chains::one_find-returns-in_default-clause-stands
+chains::one_find-returns-in_default-clause-stands g t c = c.requires.stands
+
+pub chains::seq_find-returns-in_err-operand-clause-answer : goal.chains::seq_find-returns-in_err-operand-clause-answer
+chains::seq_find-returns-in_err-operand-clause-answer g t c = absurd (omega (arith, c.requires.some, c.in_err-operand.ensures.cases))
+
+pub chains::seq_find-returns-in_err-operand-clause-cost : goal.chains::seq_find-returns-in_err-operand-clause-cost
+chains::seq_find-returns-in_err-operand-clause-cost g t c = absurd (omega (arith, c.requires.some, c.in_err-operand.ensures.cases))
+
+pub chains::seq_find-returns-in_err-operand-clause-stands : goal.chains::seq_find-returns-in_err-operand-clause-stands
+chains::seq_find-returns-in_err-operand-clause-stands g t c = c.requires.stands
