@@ -1,5 +1,5 @@
 -- The names that were seen: one more, one less, and in another order.
-use Rattle.std.proofs.Common.{◌≡◌, ℕ, zero, suc, ◌+◌, ◌<◌, false, cond, List, [], ◌∷◌, ◌++◌, length, take, bytes_eq, nat_eq, inl, inr, refl, sym, ap, ◌∙◌, subst, arith}
+use Rattle.std.proofs.Common.{◌≡◌, ℕ, zero, suc, ◌+◌, ◌<◌, false, cond, List, [], ◌∷◌, ◌++◌, length, bytes_eq, nat_eq, inl, inr, refl, sym, ap, ◌∙◌, subst, arith}
 use Rattle.std.specs.List.{AllByRecursion, IsDistinct}
 use Rattle.std.specs.List.Sorted.{IsPermutation}
 use Rattle.std.specs.Map.{keys_of}
@@ -9,10 +9,9 @@ use Rattle.std.proofs.lemmas.List.{length-map, length_push}
 use Rattle.std.proofs.lemmas.List.Elements.{All-from_recursion, recursion_from_All}
 use Rattle.std.proofs.lemmas.List.Sorted.{All-permutation, sum_by-IsPermutation}
 use Rattle.std.proofs.lemmas.List.Sums.{sum_by-cons, sum_by_push}
-use Rattle.indexmap.specs.IndexMap.{set_value_at}
 use Rattle.index_shard.specs.Kept.{leading}
 use Rattle.index_shard.proofs.TableLaws.{all_push}
-use Rattle.shard_build.specs.Met.{AreNames, IsNoted, AreBytes, filled, list_at, names_of, times}
+use Rattle.shard_build.specs.Met.{AreNames, IsNoted, AreBytes, filled, list_at, names_of, times, with_list}
 use Rattle.shard_build.specs.declared.seen.Seen.{Seen}
 use Rattle.shard_build.proofs.NameLists.{Entries, keys_set, list_set_same, list_set_other, filled_le, list_pushed, name_pushed}
 
@@ -35,7 +34,7 @@ times_cons number s seen = sum_by-cons (one number) s seen
 pub not_same : (a b : ℕ) → nat_eq a b ≡ false → a ≡ b → ⊥
 not_same a b differs same = let yes = sym ((Decides-eqb a b).1 same) ∙ differs in absurd cc
 
-all_front : {X : Type 0} (P : X → Type 0) (xs : List X) (x : X) → AllByRecursion P (xs ++ x ∷ []) → AllByRecursion P xs
+pub all_front : {X : Type 0} (P : X → Type 0) (xs : List X) (x : X) → AllByRecursion P (xs ++ x ∷ []) → AllByRecursion P xs
 all_front P [] x all = tt
 all_front P (y ∷ ys) x all = (all.0, all_front P ys x all.1)
 
@@ -55,7 +54,7 @@ last_within es seen all s is names =
     omega (arith, last.within, long)
 
 -- one less is seen, and its list is empty
-pub names_less : (es fs : Entries) (seen all : List Seen) (s : Seen) → all ≡ seen ++ s ∷ [] → fs ≡ set_value_at es s.number [] → AreNames (names_of es all) → AreNames (names_of fs seen)
+pub names_less : (es fs : Entries) (seen all : List Seen) (s : Seen) → all ≡ seen ++ s ∷ [] → fs ≡ with_list es s.number [] → AreNames (names_of es all) → AreNames (names_of fs seen)
 names_less es fs seen all s is set names = record {
   distinct = subst (IsDistinct bytes_eq) (sym keys) names.distinct;
   once = counted;
@@ -78,7 +77,7 @@ names_less es fs seen all s is set names = record {
               let same : s.number ≡ number = (Decides-eqb s.number number).0 h in
               let here = one_same number s same in
               let none : times number seen ≡ 0 = omega (arith, was, more, most, here) in
-              let empty : list_at fs number ≡ [] = ap (λ l. list_at l number) set ∙ ap (list_at (set_value_at es s.number [])) (sym same) ∙ list_set_same es s.number [] lt in
+              let empty : list_at fs number ≡ [] = ap (λ l. list_at l number) set ∙ ap (list_at (with_list es s.number [])) (sym same) ∙ list_set_same es s.number [] lt in
               none ∙ sym (ap filled empty)
           | inr h ↦
               let here = one_other number s h in
@@ -88,7 +87,7 @@ names_less es fs seen all s is set names = record {
         ]
 
 -- one more is seen: it had no addresses, and has one
-pub names_more : (es fs : Entries) (seen all : List Seen) (s : Seen) (i : ℕ) (w : List ℕ) → all ≡ seen ++ s ∷ [] → s.number ≡ i → fs ≡ set_value_at es i w → i < length es → list_at es i ≡ [] → filled w ≡ 1 →
+pub names_more : (es fs : Entries) (seen all : List Seen) (s : Seen) (i : ℕ) (w : List ℕ) → all ≡ seen ++ s ∷ [] → s.number ≡ i → fs ≡ with_list es i w → i < length es → list_at es i ≡ [] → filled w ≡ 1 →
     IsNoted (keys_of fs) s → AreNames (names_of es seen) → AreNames (names_of fs all)
 names_more es fs seen all s i w is numbered set lt empty full noted names = record {
   distinct = subst (IsDistinct bytes_eq) (sym keys) names.distinct;
@@ -108,7 +107,7 @@ names_more es fs seen all s i w is numbered set lt empty full noted names = reco
               let same : i ≡ number = sym numbered ∙ (Decides-eqb s.number number).0 h in
               let here = one_same number s (numbered ∙ same) in
               let none : filled (list_at es number) ≡ 0 = ap (λ j. filled (list_at es j)) (sym same) ∙ ap filled empty in
-              let now : filled (list_at fs number) ≡ 1 = ap (λ l. filled (list_at l number)) set ∙ ap (λ j. filled (list_at (set_value_at es i w) j)) (sym same) ∙ ap filled (list_set_same es i w lt) ∙ full in
+              let now : filled (list_at fs number) ≡ 1 = ap (λ l. filled (list_at l number)) set ∙ ap (λ j. filled (list_at (with_list es i w) j)) (sym same) ∙ ap filled (list_set_same es i w lt) ∙ full in
               omega (arith, was, more, here, none, now)
           | inr h ↦
               let here = one_other number s h in
@@ -117,7 +116,7 @@ names_more es fs seen all s i w is numbered set lt empty full noted names = reco
         ]
 
 -- a list that had addresses has one more
-pub names_grown : (es fs : Entries) (seen : List Seen) (i : ℕ) (w : List ℕ) → fs ≡ set_value_at es i w → i < length es → filled (list_at es i) ≡ 1 → filled w ≡ 1 → AreNames (names_of es seen) → AreNames (names_of fs seen)
+pub names_grown : (es fs : Entries) (seen : List Seen) (i : ℕ) (w : List ℕ) → fs ≡ with_list es i w → i < length es → filled (list_at es i) ≡ 1 → filled w ≡ 1 → AreNames (names_of es seen) → AreNames (names_of fs seen)
 names_grown es fs seen i w set lt some full names = record {
   distinct = subst (IsDistinct bytes_eq) (sym keys) names.distinct;
   once = λ number. names.once number ∙ same number;
@@ -132,7 +131,7 @@ names_grown es fs seen i w set lt some full names = record {
         elim (cases_Bool (nat_eq i number)) [
           | inl h ↦
               let it : i ≡ number = (Decides-eqb i number).0 h in
-              let now : filled (list_at fs number) ≡ 1 = ap (λ l. filled (list_at l number)) set ∙ ap (λ j. filled (list_at (set_value_at es i w) j)) (sym it) ∙ ap filled (list_set_same es i w lt) ∙ full in
+              let now : filled (list_at fs number) ≡ 1 = ap (λ l. filled (list_at l number)) set ∙ ap (λ j. filled (list_at (with_list es i w) j)) (sym it) ∙ ap filled (list_set_same es i w lt) ∙ full in
               ap (λ j. filled (list_at es j)) (sym it) ∙ some ∙ sym now
           | inr h ↦ sym (ap (λ l. filled (list_at l number)) set ∙ ap filled (list_set_other es i number w (not_same i number h)))
         ]
@@ -169,20 +168,17 @@ names_moved es seen moved permutation names = record {
   noted = recursion_from_All (IsNoted (keys_of es)) moved (All-permutation (IsNoted (keys_of es)) seen moved permutation (All-from_recursion (IsNoted (keys_of es)) seen names.noted));
 }
 
--- no lists are left where none was seen, so names may be forgotten
-list_taken : (n : ℕ) (es : Entries) (i : ℕ) → filled (list_at es i) ≡ 0 → filled (list_at (take n es) i) ≡ 0
-list_taken zero es i none = refl
-list_taken (suc n) [] i none = refl
-list_taken (suc n) (e ∷ es) zero none = none
-list_taken (suc n) (e ∷ es) (suc i) none = list_taken n es i none
+-- no lists are left where none was seen, so the last name may be forgotten
+list_front : (fs : Entries) (e : List ℕ × List ℕ) (i : ℕ) → filled (list_at (fs ++ e ∷ []) i) ≡ 0 → filled (list_at fs i) ≡ 0
+list_front [] e i none = refl
+list_front (d ∷ fs) e zero none = none
+list_front (d ∷ fs) e (suc i) none = list_front fs e i none
 
-pub names_taken : (n : ℕ) (es fs : Entries) (seen : List Seen) → fs ≡ take n es → IsDistinct bytes_eq (keys_of fs) → seen ≡ [] → AreNames (names_of es seen) → AreNames (names_of fs seen)
-names_taken n es fs seen taken distinct none names = record {
+pub names_fewer : (es fs : Entries) (e : List ℕ × List ℕ) → es ≡ fs ++ e ∷ [] → IsDistinct bytes_eq (keys_of fs) → AreNames (names_of es []) → AreNames (names_of fs [])
+names_fewer es fs e is distinct names = record {
   distinct = distinct;
-  once = λ number.
-      let no : times number seen ≡ 0 = ap (times number) none in
-      no ∙ sym (ap (λ l. filled (list_at l number)) taken ∙ list_taken n es number (sym (names.once number) ∙ no));
-  noted = subst (AllByRecursion (IsNoted (keys_of fs))) (sym none) tt;
+  once = λ number. sym (list_front fs e number (ap (λ l. filled (list_at l number)) (sym is) ∙ sym (names.once number)));
+  noted = tt;
 }
 
 pub names_same : (es fs : Entries) (seen all : List Seen) → fs ≡ es → all ≡ seen → AreNames (names_of es seen) → AreNames (names_of fs all)

@@ -15,12 +15,11 @@ use Rattle.std.proofs.lemmas.List.{length-map, length-reverse, get_or-map, get_o
 use Rattle.std.proofs.lemmas.List.Elements.{All-from_recursion, recursion_from_All}
 use Rattle.std.proofs.lemmas.List.Sorted.{All-permutation, IsPermutation-reverse, IsStrictWeakOrder-flip, ranks_by, sum_by-IsPermutation}
 use Rattle.std.proofs.lemmas.Slice.Eq.{bytes_eq-Decides}
-use Rattle.indexmap.specs.IndexMap.{set_value_at}
 use Rattle.index_shard.specs.Kept.{leading}
 use Rattle.index_shard.proofs.Heads.{heads_first}
 use Rattle.index_shard.proofs.TableLaws.{all_at}
 use Rattle.shard_build.specs.Groups.{unless_empty}
-use Rattle.shard_build.specs.Met.{AreNames, IsNoted, falling, filled, list_at, name_at, names_of, row_at, rows_of, times}
+use Rattle.shard_build.specs.Met.{AreNames, IsNoted, falling, filled, list_at, name_at, names_of, row_at, rows_of, times, with_list}
 use Rattle.shard_build.specs.declared.seen.Seen.{Seen}
 use Rattle.shard_build.proofs.NameLists.{Entries, found, found_at, filled_le, keys_set, list_set_other}
 use Rattle.shard_build.proofs.NameOrder.{strictly_sorted}
@@ -207,7 +206,7 @@ rows_found es seen names token = by (found (map (row_at es) (reverse seen)) toke
 -- ---- one row after the other
 
 -- to empty a list that no other of those seen has changes no other row
-rows_kept : (es : Entries) (i : ℕ) (seen : List Seen) → times i seen ≡ 0 → map (row_at (set_value_at es i [])) seen ≡ map (row_at es) seen
+rows_kept : (es : Entries) (i : ℕ) (seen : List Seen) → times i seen ≡ 0 → map (row_at (with_list es i [])) seen ≡ map (row_at es) seen
 rows_kept es i [] none = refl
 rows_kept es i (s ∷ seen) none =
     let more = times_cons i s seen in
@@ -215,10 +214,10 @@ rows_kept es i (s ∷ seen) none =
       | inl h ↦ let here = one_same i s ((Decides-eqb s.number i).0 h) in absurd (omega (arith, more, none, here))
       | inr h ↦
           let here = one_other i s h in
-          let name : name_at (set_value_at es i []) s.number ≡ name_at es s.number = ap (λ ks. get_or ks s.number []) (keys_set es i []) in
-          let list : list_at (set_value_at es i []) s.number ≡ list_at es s.number = list_set_other es i s.number [] (λ same. let yes = sym ((Decides-eqb s.number i).1 (sym same)) ∙ h in absurd cc) in
-          ap (λ n. (n, list_at (set_value_at es i []) s.number) ∷ map (row_at (set_value_at es i [])) seen) name
-          ∙ ap (λ l. (name_at es s.number, l) ∷ map (row_at (set_value_at es i [])) seen) list
+          let name : name_at (with_list es i []) s.number ≡ name_at es s.number = ap (λ ks. get_or ks s.number []) (keys_set es i []) in
+          let list : list_at (with_list es i []) s.number ≡ list_at es s.number = list_set_other es i s.number [] (λ same. let yes = sym ((Decides-eqb s.number i).1 (sym same)) ∙ h in absurd cc) in
+          ap (λ n. (n, list_at (with_list es i []) s.number) ∷ map (row_at (with_list es i [])) seen) name
+          ∙ ap (λ l. (name_at es s.number, l) ∷ map (row_at (with_list es i [])) seen) list
           ∙ ap (λ rest. row_at es s ∷ rest) (rows_kept es i seen (omega (arith, more, here, none)))
     ]
 
@@ -226,7 +225,7 @@ reverse_push : (seen : List Seen) (s : Seen) → reverse (seen ++ s ∷ []) ≡ 
 reverse_push seen s = reverse-append seen (s ∷ [])
 
 -- the first row is that of the last that was seen, and the others are those of the rest, once its list was taken
-pub rows_next : (es fs : Entries) (seen all : List Seen) (s : Seen) → all ≡ seen ++ s ∷ [] → fs ≡ set_value_at es s.number [] → AreNames (names_of es all) →
+pub rows_next : (es fs : Entries) (seen all : List Seen) (s : Seen) → all ≡ seen ++ s ∷ [] → fs ≡ with_list es s.number [] → AreNames (names_of es all) →
     rows_of (names_of es all) ≡ row_at es s ∷ rows_of (names_of fs seen)
 rows_next es fs seen all s is set names =
     let was : times s.number all ≡ filled (list_at es s.number) = names.once s.number in

@@ -1,9 +1,10 @@
 -- Groups of words, computed: `to be to` from address 5 on.
-use Rattle.std.proofs.Common.{◌≡◌, ℕ, List, [], ◌∷◌, codes, Some, None, refl}
+use Rattle.std.proofs.Common.{◌≡◌, ℕ, List, [], ◌∷◌, length, codes, Some, None, refl}
 use Rattle.gcl_model.specs.Texts.{Word}
 use Rattle.gcl_model.specs.Collections.{words_from, with_boundaries, width_of}
 use Rattle.shard_build.specs.Ahead.{tokens_between}
 use Rattle.shard_build.specs.Groups.{group_of}
+use Rattle.shard_build.specs.Met.{first_with}
 
 abbrev to_be_to : List (List ℕ)
 to_be_to = codes "to" ∷ codes "be" ∷ codes "to" ∷ []
@@ -34,3 +35,10 @@ width_of-three = refl
 -- between the boundaries stand the tokens
 tokens_between-three : tokens_between words ≡ to_be_to
 tokens_between-three = refl
+
+-- where a name's length is its hash: two names have 2, and the first of them is told; none has 3
+first_with-two : first_with length 2 0 to_be_to ≡ Some 0
+first_with-two = refl
+
+first_with-none : first_with length 3 0 to_be_to ≡ None
+first_with-none = refl

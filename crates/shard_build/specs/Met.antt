@@ -1,8 +1,12 @@
 -- The names that are kept from file to file, and those that stand in the file at hand.
-use Rattle.std.specs.Prelude.{◌≡◌, ℕ, ◌+◌, ◌<◌, ◌≤◌, List, [], ◌∷◌, length, map, reverse, get_or, nat_eq, Option}
+use Rattle.std.specs.Prelude.{◌≡◌, ℕ, ◌+◌, ◌<◌, ◌≤◌, List, [], ◌∷◌, length, map, reverse, get_or, slice_set, nat_eq, Option, is_some}
 use Rattle.std.specs.Option.{unwrap_or}
-use Rattle.std.specs.List.{AllByRecursion, IsDistinct, count_by}
+use Rattle.std.specs.Hash as fed
+use Rattle.std.specs.Hash.FoldHasher as folding
+use Rattle.std.specs.HashMap.{get}
+use Rattle.std.specs.List.{AllByRecursion, IsDistinct, count_by, fold, list_any, position_from}
 use Rattle.std.specs.Map.{keys_of, values_of, lookup}
+use Rattle.std.specs.declared.hash.FoldHasher.{FoldHasher}
 use Rattle.std.specs.Ordering.{nat_cmp, ordering_then}
 use Rattle.std.specs.declared.cmp.Ordering.{Ordering}
 use Rattle.std.specs.Cmp.Lexicographic.{slice_cmp}
@@ -11,6 +15,7 @@ use Rattle.gcl_model.specs.Collections.{words_from}
 use Rattle.gcl_model.specs.Slots.{SlotRange}
 use Rattle.index_shard.specs.Kept.{leading}
 use Rattle.shard_build.specs.Groups.{group_of, unless_empty}
+use Rattle.shard_build.specs.declared.numbers.Numbers.{Numbers}
 use Rattle.shard_build.specs.declared.seen.Seen.{Seen}
 
 -- the names with their lists, in the order of their numbers, and the names that were seen in the file at hand
@@ -25,6 +30,34 @@ name_at entries number = get_or (keys_of entries) number []
 -- the list of the name with a number, and an empty one where there is none
 abbrev pub list_at : List (List ℕ × List ℕ) → ℕ → List ℕ
 list_at entries number = get_or (values_of entries) number []
+
+-- the entries with another list at the name with a number
+abbrev pub with_list : List (List ℕ × List ℕ) → ℕ → List ℕ → List (List ℕ × List ℕ)
+with_list entries number list = slice_set entries number (name_at entries number, list)
+
+-- the hash of a name, as a hasher that begins with this one gives it of a text
+abbrev pub hash_by : FoldHasher → List ℕ → ℕ
+hash_by initial name = folding.finish (fold folding.write initial (fed.str name))
+
+-- the place of the first name with a hash, where the names begin at a place
+abbrev pub first_with : (List ℕ → ℕ) → ℕ → ℕ → List (List ℕ) → Option ℕ
+first_with hashed hash start names = position_from (λ name. nat_eq (hashed name) hash) start names
+
+-- the place that is told of each hash is that of the first name with it
+abbrev pub TellsFirsts : (List ℕ → ℕ) → (ℕ → Option ℕ) → List (List ℕ) → Type 0
+TellsFirsts hashed told names = (hash : ℕ) → told hash ≡ first_with hashed hash 0 names
+
+-- the place that is kept for a hash
+abbrev pub told_by : Numbers → ℕ → Option ℕ
+told_by numbers hash = get nat_eq numbers.places hash
+
+-- the numbers of these names, each of which has its place as its number
+abbrev pub AreNumbersOf : Numbers → List (List ℕ) → Type 0
+AreNumbersOf numbers names = TellsFirsts (hash_by numbers.initial) (told_by numbers) names
+
+-- something is told of the hashes of these names, and of no others
+abbrev pub TellsHashes : (List ℕ → ℕ) → (ℕ → Option ℕ) → List (List ℕ) → Type 0
+TellsHashes hashed told names = (hash : ℕ) → is_some (told hash) ≡ list_any (λ name. nat_eq (hashed name) hash) names
 
 -- the names with these entries, of which these were seen
 abbrev pub names_of : List (List ℕ × List ℕ) → List Seen → NamesContent
@@ -59,6 +92,11 @@ pub record AreNames (n : NamesContent) : Type 0 where
   pub distinct : IsDistinct bytes_eq (keys_of n.entries)
   pub once : (number : ℕ) → times number n.seen ≡ filled (list_at n.entries number)
   pub noted : AllByRecursion (IsNoted (keys_of n.entries)) n.seen
+
+-- the names, and their numbers
+pub record AreNumbered (kept : Numbers) (n : NamesContent) : Type 0 where
+  pub names : AreNames n
+  pub numbers : AreNumbersOf kept (keys_of n.entries)
 
 -- a name that was seen, with its list
 abbrev pub row_at : List (List ℕ × List ℕ) → Seen → List ℕ × List ℕ

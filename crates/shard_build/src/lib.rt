@@ -19,6 +19,7 @@ mod hint;
 mod lists;
 mod name;
 mod names;
+mod numbers;
 mod order;
 mod seeded;
 mod seen;

@@ -1,19 +1,20 @@
 //! The lists of the names, by their numbers.
 ghost use Rattle.std.specs.Prelude.{◌≡◌, ◌<◌, [], ◌∷◌, ◌++◌, length, nat_eq, IfOk, OnOk, OnErr};
 ghost use Rattle.std.specs.Map.{keys_of};
-ghost use Rattle.indexmap.specs.IndexMap.{set_value_at};
 ghost use Rattle.index_shard.specs.Tables.{IsTable};
 ghost use Rattle.posting_code.specs.Postings.{ArePostings};
 ghost use Rattle.shard_build.specs.Groups.{table_of};
 ghost use Rattle.shard_build.specs.Handed.{ComesNext, entry_at};
-ghost use Rattle.shard_build.specs.Met.{AreNames, IsNoted, list_at, name_at as name_of, names_of, rows_of};
+ghost use Rattle.shard_build.specs.Met.{AreNames, IsNoted, list_at, name_at as name_of, names_of, rows_of, with_list};
 
 use crate::name::Name;
-use crate::seeded::NameLists;
 use crate::seen::Seen;
 use index_shard::ShardMaker;
 use posting_code::{BLOCK, PostingList, PostingMaker};
 use std::alloc::AllocError;
+
+/// Names by their numbers, each with a list of addresses.
+pub(crate) type NameLists = Vec<(Name, PostingMaker)>;
 
 /// Puts an address after those of the name with this number: whether it is the first.
 pub(crate) fn push_at(
@@ -21,13 +22,13 @@ pub(crate) fn push_at(
     number: usize,
     address: u64,
 ) -> Result<bool, AllocError>
-    requires within { number < length lists.old.entries }
-    requires rising { ArePostings (list_at lists.old.entries number ++ address ∷ []) }
-    ensures ok { OnOk result (lists.new.entries ≡ set_value_at lists.old.entries number (list_at lists.old.entries number ++ address ∷ [])) }
-    ensures first { IfOk result (λ first. first ≡ nat_eq (length (list_at lists.old.entries number)) 0) }
-    ensures err { OnErr result (lists.new.entries ≡ lists.old.entries) }
+    requires within { number < length lists.old.items }
+    requires rising { ArePostings (list_at lists.old.items number ++ address ∷ []) }
+    ensures ok { OnOk result (lists.new.items ≡ with_list lists.old.items number (list_at lists.old.items number ++ address ∷ [])) }
+    ensures first { IfOk result (λ first. first ≡ nat_eq (length (list_at lists.old.items number)) 0) }
+    ensures err { OnErr result (lists.new.items ≡ lists.old.items) }
 {
-    let list = &mut lists[number];
+    let list = &mut lists[number].1;
     let is_first = list.len() == 0;
     list.push(address)?;
     Ok(is_first)
@@ -35,26 +36,27 @@ pub(crate) fn push_at(
 
 /// Takes the addresses of the name with this number. None are left there, even after an Err.
 pub(crate) fn take_at(lists: &mut NameLists, number: usize) -> Result<PostingList, AllocError>
-    requires { number < length lists.old.entries }
-    ensures value { IfOk result (λ list. list ≡ list_at lists.old.entries number) }
-    ensures entries { lists.new.entries ≡ set_value_at lists.old.entries number [] }
+    requires { number < length lists.old.items }
+    ensures value { IfOk result (λ list. list ≡ list_at lists.old.items number) }
+    ensures entries { lists.new.items ≡ with_list lists.old.items number [] }
 {
-    lists[number].take()
+    lists[number].1.take()
 }
 
 /// Empties the list of the name with this number.
 pub(crate) fn clear_at(lists: &mut NameLists, number: usize)
-    requires { number < length lists.old.entries }
-    ensures { lists.new.entries ≡ set_value_at lists.old.entries number [] }
+    requires { number < length lists.old.items }
+    ensures { lists.new.items ≡ with_list lists.old.items number [] }
 {
-    lists[number].clear();
+    lists[number].1.clear();
 }
 
 /// Empties the lists of all names that were seen.
 pub(crate) fn clear_all(lists: &mut NameLists, seen: &mut Vec<Seen>)
-    requires { AreNames (names_of lists.old.entries seen.old.items) }
+    requires { AreNames (names_of lists.old.items seen.old.items) }
     ensures none { seen.new.items ≡ [] }
-    ensures names { AreNames (names_of lists.new.entries seen.new.items) }
+    ensures names { AreNames (names_of lists.new.items seen.new.items) }
+    ensures kept { keys_of lists.new.items ≡ keys_of lists.old.items }
 {
     while let Some(last) = seen.pop() {
         clear_at(lists, last.number);
@@ -63,11 +65,11 @@ pub(crate) fn clear_all(lists: &mut NameLists, seen: &mut Vec<Seen>)
 
 /// What is to be noted of the name with this number.
 pub(crate) fn seen_at(lists: &NameLists, number: usize) -> Seen
-    requires { number < length lists.now.entries }
+    requires { number < length lists.now.items }
     ensures number { result.number ≡ number }
-    ensures noted { IsNoted (keys_of lists.now.entries) result }
+    ensures noted { IsNoted (keys_of lists.now.items) result }
 {
-    let head = match lists.get_index(number) {
+    let head = match lists.get(number) {
         Some((name, _)) => name.head(),
         None => 0,
     };
@@ -80,11 +82,12 @@ pub(crate) fn hand_over(
     seen: &mut Vec<Seen>,
     maker: &mut ShardMaker,
 ) -> Result<(), AllocError>
-    requires names { AreNames (names_of lists.old.entries seen.old.items) }
+    requires names { AreNames (names_of lists.old.items seen.old.items) }
     requires none { maker.old.table ≡ [] }
-    requires table { IsTable maker.old.range (table_of (rows_of (names_of lists.old.entries seen.old.items))) }
-    ensures names { AreNames (names_of lists.new.entries seen.new.items) }
-    ensures table { OnOk result (maker.new.table ≡ table_of (rows_of (names_of lists.old.entries seen.old.items))) }
+    requires table { IsTable maker.old.range (table_of (rows_of (names_of lists.old.items seen.old.items))) }
+    ensures names { AreNames (names_of lists.new.items seen.new.items) }
+    ensures kept { keys_of lists.new.items ≡ keys_of lists.old.items }
+    ensures table { OnOk result (maker.new.table ≡ table_of (rows_of (names_of lists.old.items seen.old.items))) }
     ensures range { maker.new.range ≡ maker.old.range }
 {
     while let Some(last) = seen.pop() {
@@ -96,14 +99,14 @@ pub(crate) fn hand_over(
 /// Hands one name over with its addresses. None are left there, even after an Err.
 // A short list is lent to be copied once, so that no memory is asked for it. A longer one takes its memory along.
 fn hand_one(lists: &mut NameLists, last: Seen, maker: &mut ShardMaker) -> Result<(), AllocError>
-    requires within { last.number < length lists.old.entries }
-    requires noted { IsNoted (keys_of lists.old.entries) last }
-    requires next { ComesNext maker.old.range maker.old.table (entry_at lists.old.entries last) }
-    ensures entries { lists.new.entries ≡ set_value_at lists.old.entries last.number [] }
-    ensures ok { OnOk result (maker.new ≡ record maker.old { table = maker.old.table ++ entry_at lists.old.entries last ∷ [] }) }
+    requires within { last.number < length lists.old.items }
+    requires noted { IsNoted (keys_of lists.old.items) last }
+    requires next { ComesNext maker.old.range maker.old.table (entry_at lists.old.items last) }
+    ensures entries { lists.new.items ≡ with_list lists.old.items last.number [] }
+    ensures ok { OnOk result (maker.new ≡ record maker.old { table = maker.old.table ++ entry_at lists.old.items last ∷ [] }) }
     ensures err { OnErr result (maker.new ≡ maker.old) }
 {
-    if lists[last.number].len() > BLOCK {
+    if lists[last.number].1.len() > BLOCK {
         let addresses = take_at(lists, last.number)?;
         maker.push_list(name_at(lists, last.number), addresses)?;
         return Ok(());
@@ -115,22 +118,22 @@ fn hand_one(lists: &mut NameLists, last: Seen, maker: &mut ShardMaker) -> Result
 
 /// Puts a name with its addresses after the others.
 fn lend(lists: &NameLists, last: Seen, maker: &mut ShardMaker) -> Result<(), AllocError>
-    requires within { last.number < length lists.now.entries }
-    requires noted { IsNoted (keys_of lists.now.entries) last }
-    requires next { ComesNext maker.old.range maker.old.table (entry_at lists.now.entries last) }
-    ensures ok { OnOk result (maker.new ≡ record maker.old { table = maker.old.table ++ entry_at lists.now.entries last ∷ [] }) }
+    requires within { last.number < length lists.now.items }
+    requires noted { IsNoted (keys_of lists.now.items) last }
+    requires next { ComesNext maker.old.range maker.old.table (entry_at lists.now.items last) }
+    ensures ok { OnOk result (maker.new ≡ record maker.old { table = maker.old.table ++ entry_at lists.now.items last ∷ [] }) }
     ensures err { OnErr result (maker.new ≡ maker.old) }
 {
-    let list = lists[last.number].as_postings();
+    let list = lists[last.number].1.as_postings();
     maker.push_parts(last.head, name_at(lists, last.number), &[list])?;
     Ok(())
 }
 
 /// The name with this number, and no bytes where there is none.
 pub(crate) fn name_at(lists: &NameLists, number: usize) -> &[u8]
-    ensures { result.now ≡ name_of lists.now.entries number }
+    ensures { result.now ≡ name_of lists.now.items number }
 {
-    match lists.get_index(number) {
+    match lists.get(number) {
         Some((name, _)) => name.as_slice(),
         None => b"",
     }

@@ -2,21 +2,19 @@ ghost use Rattle.std.specs.Prelude.{◌≡◌, ◌<◌, [], ◌∷◌, ◌++◌,
 ghost use Rattle.std.specs.List.{IsDistinct};
 ghost use Rattle.std.specs.Map.{keys_of};
 ghost use Rattle.gcl_model.specs.Limits.{address_end};
-ghost use Rattle.indexmap.specs.IndexMap.{set_value_at};
 ghost use Rattle.gcl_model.specs.Collections.{words_from};
 ghost use Rattle.index_shard.specs.Tables.{words_of};
 ghost use Rattle.posting_code.specs.Postings.{ArePostings, RiseWithin};
-ghost use Rattle.shard_build.specs.Met.{HaveTokens, addresses_of, list_at, name_at};
+ghost use Rattle.shard_build.specs.Met.{HaveTokens, addresses_of, list_at, name_at, with_list};
 
 use crate::hint::Hint;
-use crate::lists::{clear_all, hand_over, push_at, seen_at};
-use crate::name::{Name, Spelling};
+use crate::lists::{NameLists, clear_all, hand_over, push_at, seen_at};
+use crate::name::Name;
+use crate::numbers::{Numbers, add_number, find_number, forget_above, shrink_numbers};
 use crate::order::{sort_names, sort_seen};
-use crate::seeded::{NameLists, Seeded};
 use crate::seen::Seen;
 use address_space::Range;
 use index_shard::{Room, Shard, ShardMaker};
-use indexmap::IndexMap;
 use posting_code::{PostingMaker, RowsRoom};
 use std::alloc::{AllocError, Global};
 use std::marker::Model;
@@ -35,18 +33,19 @@ const LIST_BYTES: usize = 2;
 pub struct Names {
     // a name's place here is its number
     lists: NameLists,
+    numbers: Numbers,
     hint: Hint,
     seen: Vec<Seen>,
 }
 
 impl Model for Names {
-    ghost use Rattle.shard_build.specs.Met.{NamesContent, AreNames, names_of};
+    ghost use Rattle.shard_build.specs.Met.{NamesContent, AreNumbered, names_of};
 
     ghost Value = { NamesContent };
 
-    ghost view = { λ n. names_of n.lists.entries n.seen.items };
+    ghost view = { λ n. names_of n.lists.items n.seen.items };
 
-    ghost invariant = { λ n. AreNames (names_of n.lists.entries n.seen.items) };
+    ghost invariant = { λ n. AreNumbered n.numbers (names_of n.lists.items n.seen.items) };
 }
 
 impl Names {
@@ -59,7 +58,8 @@ impl Names {
     /// made that is slow to add. It takes no memory.
     pub fn seeded(alloc: Global, seed: u64) -> Self {
         Names {
-            lists: IndexMap::with_hasher(alloc, Seeded::new(seed)),
+            lists: Vec::new(alloc),
+            numbers: Numbers::new(alloc, seed),
             hint: Hint::new(),
             seen: Vec::new(alloc),
         }
@@ -73,7 +73,7 @@ impl Names {
         self.put_in_order();
     }
 
-    /// Puts the names in the order of their bytes where it is time for that. They stay as they are where no memory is left.
+    /// Puts the names in the order of their bytes where it is time for that.
     fn put_in_order(&mut self)
         requires { self.old.seen ≡ [] }
         ensures { (token : List ℕ) → addresses_of self.new token ≡ None }
@@ -82,9 +82,8 @@ impl Names {
         if names > MOST_NAMES || !self.hint.is_due(names) {
             return;
         }
-        if sort_names(&mut self.lists).is_ok() {
-            self.hint.put(names);
-        }
+        sort_names(&mut self.lists, &mut self.numbers);
+        self.hint.put(names);
     }
 
     /// Puts an address after those of its token.
@@ -107,12 +106,15 @@ impl Names {
         ensures list { IfOk result (λ number. list_at self.new.entries number ≡ unwrap_or (addresses_of self.old token.now) []) }
         ensures lists { OnOk result ((cs : List ℕ) → addresses_of self.new cs ≡ addresses_of self.old cs) }
     {
-        if let Some(number) = self.lists.get_index_of(Spelling(token)) {
+        if let Some(number) = find_number(&self.numbers, &self.lists, token) {
             return Ok(number);
         }
         let alloc = *self.seen.allocator();
+        let number = self.lists.len();
+        self.lists.reserve(1)?;
         let name = Name::copy_of(alloc, token)?;
-        let (number, _) = self.lists.insert_full(name, PostingMaker::new(alloc))?;
+        add_number(&mut self.numbers, &self.lists, token)?;
+        self.lists.push_reserved((name, PostingMaker::new(alloc)));
         Ok(number)
     }
 
@@ -121,7 +123,7 @@ impl Names {
     fn put_at(&mut self, number: usize, address: u64) -> Result<(), AllocError>
         requires within { number < length self.old.entries }
         requires rising { ArePostings (list_at self.old.entries number ++ address ∷ []) }
-        ensures { OnOk result (self.new.entries ≡ set_value_at self.old.entries number (list_at self.old.entries number ++ address ∷ [])) }
+        ensures { OnOk result (self.new.entries ≡ with_list self.old.entries number (list_at self.old.entries number ++ address ∷ [])) }
     {
         self.seen.reserve(1)?;
         let is_first = push_at(&mut self.lists, number, address)?;
@@ -148,8 +150,9 @@ impl Names {
     pub(crate) fn bound(&mut self) {
         if self.lists.len() > MOST_NAMES {
             clear_all(&mut self.lists, &mut self.seen);
-            self.lists.truncate(MOST_NAMES);
+            forget_above(&mut self.lists, &mut self.numbers, MOST_NAMES);
             self.lists.shrink_to(2 * MOST_NAMES);
+            shrink_numbers(&mut self.numbers, 2 * MOST_NAMES);
         }
     }
 }

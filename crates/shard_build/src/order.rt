@@ -5,22 +5,22 @@
 ghost use Rattle.std.specs.Prelude.{◌≡◌, []};
 ghost use Rattle.std.specs.List.Sorted.{IsPermutation, IsSorted};
 ghost use Rattle.std.specs.Map.{keys_of};
-ghost use Rattle.shard_build.specs.Met.{AreNames, falling, names_of};
+ghost use Rattle.shard_build.specs.Met.{AreNames, AreNumbered, falling, names_of};
 
-use crate::lists::{name_at, seen_at};
+use crate::lists::{NameLists, name_at, seen_at};
 use crate::name::Name;
-use crate::seeded::NameLists;
+use crate::numbers::{Numbers, number_anew};
 use crate::seen::Seen;
-use posting_code::PostingMaker;
 use std::alloc::AllocError;
 use std::cmp::Ordering;
 
-/// Puts the names in the order of their bytes, while no list has addresses. After an Err they are as they were.
-pub(crate) fn sort_names(lists: &mut NameLists) -> Result<(), AllocError>
-    requires { AreNames (names_of lists.old.entries []) }
-    ensures { AreNames (names_of lists.new.entries []) }
+/// Puts the names in the order of their bytes and numbers them anew, while no list has addresses.
+pub(crate) fn sort_names(lists: &mut NameLists, numbers: &mut Numbers)
+    requires { AreNumbered numbers.old (names_of lists.old.items []) }
+    ensures { AreNumbered numbers.new (names_of lists.new.items []) }
 {
-    lists.sort_unstable_by(|x, _, y, _| compare_names(x, y))
+    lists.sort_unstable_by(|x, y| compare_names(&x.0, &y.0));
+    number_anew(lists, numbers);
 }
 
 /// The order of two names.
@@ -35,9 +35,9 @@ fn compare_names(x: &Name, y: &Name) -> Ordering {
 
 /// Puts the names that were seen in the order of their bytes, the last one first. It is quick where they have a run, which are in order by their numbers.
 pub(crate) fn sort_seen(lists: &NameLists, seen: &mut Vec<Seen>, has_run: bool)
-    requires { AreNames (names_of lists.now.entries seen.old.items) }
-    ensures names { AreNames (names_of lists.now.entries seen.new.items) }
-    ensures sorted { IsSorted (falling (keys_of lists.now.entries)) seen.new.items }
+    requires { AreNames (names_of lists.now.items seen.old.items) }
+    ensures names { AreNames (names_of lists.now.items seen.new.items) }
+    ensures sorted { IsSorted (falling (keys_of lists.now.items)) seen.new.items }
 {
     if has_run {
         note_by_number(lists, seen);
@@ -49,8 +49,8 @@ pub(crate) fn sort_seen(lists: &NameLists, seen: &mut Vec<Seen>, has_run: bool)
 
 /// Notes the names with addresses anew, by their numbers, the last one first. They stay as they were noted where no memory is left.
 fn note_by_number(lists: &NameLists, seen: &mut Vec<Seen>)
-    requires { AreNames (names_of lists.now.entries seen.old.items) }
-    ensures { AreNames (names_of lists.now.entries seen.new.items) }
+    requires { AreNames (names_of lists.now.items seen.old.items) }
+    ensures { AreNames (names_of lists.now.items seen.new.items) }
 {
     let mut number = lists.len();
     if seen.reserve(number.saturating_sub(seen.len())).is_err() {
@@ -59,7 +59,7 @@ fn note_by_number(lists: &NameLists, seen: &mut Vec<Seen>)
     seen.clear();
     while number > 0 {
         number -= 1;
-        if lists[number].len() > 0 {
+        if lists[number].1.len() > 0 {
             seen.push_reserved(seen_at(lists, number));
         }
     }
@@ -68,7 +68,7 @@ fn note_by_number(lists: &NameLists, seen: &mut Vec<Seen>)
 /// Sorts names of which many stand in order. Without memory for it they are sorted as any others.
 fn sort_with_run(lists: &NameLists, seen: &mut Vec<Seen>)
     ensures permutation { IsPermutation seen.old.items seen.new.items }
-    ensures sorted { IsSorted (falling (keys_of lists.now.entries)) seen.new.items }
+    ensures sorted { IsSorted (falling (keys_of lists.now.items)) seen.new.items }
 {
     match seen.sort_by(|x, y| compare(lists, *y, *x)) {
         Ok(()) => {}
@@ -79,7 +79,7 @@ fn sort_with_run(lists: &NameLists, seen: &mut Vec<Seen>)
 /// Sorts names in whatever order they stand.
 fn sort_without_run(lists: &NameLists, seen: &mut Vec<Seen>)
     ensures permutation { IsPermutation seen.old.items seen.new.items }
-    ensures sorted { IsSorted (falling (keys_of lists.now.entries)) seen.new.items }
+    ensures sorted { IsSorted (falling (keys_of lists.now.items)) seen.new.items }
 {
     seen.sort_unstable_by(|x, y| compare(lists, *y, *x));
 }
@@ -87,7 +87,7 @@ fn sort_without_run(lists: &NameLists, seen: &mut Vec<Seen>)
 /// The order of two names that were seen.
 // Their heads decide most comparisons, and touch no other memory.
 fn compare(lists: &NameLists, x: Seen, y: Seen) -> Ordering
-    ensures { result ≡ falling (keys_of lists.now.entries) y x }
+    ensures { result ≡ falling (keys_of lists.now.items) y x }
 {
     match x.head.cmp(&y.head) {
         Ordering::Less => Ordering::Less,

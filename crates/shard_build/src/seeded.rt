@@ -1,10 +1,4 @@
-use crate::name::Name;
-use indexmap::IndexMap;
-use posting_code::PostingMaker;
 use std::hash::{BuildHasher, FoldHasher, Hasher};
-
-/// Names, each with a list of addresses.
-pub(crate) type NameLists = IndexMap<Name, PostingMaker, Seeded>;
 
 /// Makes hashers that begin with a number. A text that is made to be slow for one number is not slow for another.
 #[derive(Clone, Copy)]

@@ -10,8 +10,8 @@ use Rattle.shard_build.proofs.lists.lend.Goals as goal
 
 pub push_parts-requires : goal.push_parts-requires
 push_parts-requires c =
-    let es = c.args.lists.now.entries in
-    let listed : c.as_postings-list.result ++ [] ≡ list_at es c.args.last.number = append-nil c.as_postings-list.result ∙ c.as_postings-list.ensures ∙ sym (list_read es c.args.last.number c.index.result.now c.index.ensures) in
+    let es = c.args.lists.now.items in
+    let listed : c.as_postings-list.result ++ [] ≡ list_at es c.args.last.number = append-nil c.as_postings-list.result ∙ c.as_postings-list.ensures ∙ sym (list_read es c.args.last.number c.index.result.now c.index.ensures c.requires.within) in
     let is = entry_read es c.args.last c.name_at.result.now (c.as_postings-list.result ++ []) c.name_at.ensures listed in
     let next = subst (ComesNext c.args.maker.now.range c.args.maker.now.table) (sym is) c.requires.next in
     record {
@@ -23,7 +23,7 @@ push_parts-requires c =
 
 pub returns-clause-ok : goal.returns-clause-ok
 returns-clause-ok c =
-    let es = c.args.lists.now.entries in
-    let listed : c.as_postings-list.result ++ [] ≡ list_at es c.args.last.number = append-nil c.as_postings-list.result ∙ c.as_postings-list.ensures ∙ sym (list_read es c.args.last.number c.index.result.now c.index.ensures) in
+    let es = c.args.lists.now.items in
+    let listed : c.as_postings-list.result ++ [] ≡ list_at es c.args.last.number = append-nil c.as_postings-list.result ∙ c.as_postings-list.ensures ∙ sym (list_read es c.args.last.number c.index.result.now c.index.ensures c.requires.within) in
     let is = entry_read es c.args.last c.name_at.result.now (c.as_postings-list.result ++ []) c.name_at.ensures listed in
     c.in_ok-push_parts.ensures.ok ∙ ap (λ (e : TermEntry). record { range = c.args.maker.now.range; table = c.args.maker.now.table ++ e ∷ [] }) is

@@ -8,5 +8,5 @@ use Rattle.shard_build.proofs.order.sort_with_run.Goals as goal
 
 pub returns-in-Ok-clause-sorted : goal.returns-in-Ok-clause-sorted
 returns-in-Ok-clause-sorted c =
-    c.in-Ok.ensures.sorted (λ x y. is_lt (falling (keys_of c.args.lists.now.entries) x y)) (falling_order (keys_of c.args.lists.now.entries))
+    c.in-Ok.ensures.sorted (λ x y. is_lt (falling (keys_of c.args.lists.now.items) x y)) (falling_order (keys_of c.args.lists.now.items))
     (always_returns_same _ _ _ (λ a r g called. (search rules, search rules)))

@@ -8,5 +8,5 @@ use Rattle.shard_build.proofs.order.sort_without_run.Goals as goal
 
 pub returns-clause-sorted : goal.returns-clause-sorted
 returns-clause-sorted c =
-    c.sort_unstable_by.ensures.sorted (λ x y. is_lt (falling (keys_of c.args.lists.now.entries) x y)) (falling_order (keys_of c.args.lists.now.entries))
+    c.sort_unstable_by.ensures.sorted (λ x y. is_lt (falling (keys_of c.args.lists.now.items) x y)) (falling_order (keys_of c.args.lists.now.items))
     (always_returns_same _ _ _ (λ a r g called. (search rules, search rules)))

@@ -1,11 +1,15 @@
-use Rattle.std.proofs.Common.{bytes_eq, sym, ◌∙◌, subst}
-use Rattle.std.specs.List.{IsDistinct}
-use Rattle.std.specs.Map.{keys_of}
-use Rattle.shard_build.proofs.NameLists.{Entries}
-use Rattle.shard_build.proofs.SeenNames.{names_taken}
+use Rattle.std.proofs.Common.{[], refl, sym}
+use Rattle.shard_build.proofs.NumberedNames.{numbered_kept, numbered_same}
+use Rattle.shard_build.proofs.SeenNames.{names_same}
 use Rattle.shard_build.proofs.names.Names.bound.Goals as goal
+
+pub forget_above-requires : goal.forget_above-requires
+forget_above-requires c =
+    let fs = c.clear_all.new.lists.items in
+    numbered_kept c.self.inside.numbers c.self.inside.lists.items fs [] c.clear_all.ensures.kept c.self.invariant.numbers
+    (names_same fs fs c.clear_all.new.seen.items [] refl (sym c.clear_all.ensures.none) c.clear_all.ensures.names)
 
 pub invariant_of-self : goal.invariant_of-self
 invariant_of-self c =
-    names_taken 16384 c.clear_all.new.lists.entries c.shrink_to.new.self.entries c.clear_all.new.seen.items (c.shrink_to.ensures.entries ∙ c.truncate.ensures.entries)
-    (subst (λ (es : Entries). IsDistinct bytes_eq (keys_of es)) (sym c.shrink_to.ensures.entries) c.truncate.ensures.unique) c.clear_all.ensures.none c.clear_all.ensures.names
+    numbered_same c.forget_above.new.numbers c.shrink_numbers.new.numbers c.forget_above.new.lists.items c.shrink_to.new.self.items [] c.clear_all.new.seen.items
+    c.shrink_numbers.ensures.initial c.shrink_numbers.ensures.told c.shrink_to.ensures.items c.clear_all.ensures.none c.forget_above.ensures

@@ -9,7 +9,7 @@ use Rattle.shard_build.proofs.names.Names.make.Goals as goal
 
 pub hand_over-requires : goal.hand_over-requires
 hand_over-requires c =
-    let es = c.self.inside.lists.entries in
+    let es = c.self.inside.lists.items in
     let seen = c.sort_seen.new.seen.items in
     let names : AreNames (names_of es seen) = c.sort_seen.ensures.names in
     let have = c.requires.1 in
@@ -25,7 +25,7 @@ hand_over-requires c =
 
 pub returns-clause-words : goal.returns-clause-words
 returns-clause-words c =
-    let es = c.self.inside.lists.entries in
+    let es = c.self.inside.lists.items in
     let seen = c.sort_seen.new.seen.items in
     let names : AreNames (names_of es seen) = c.sort_seen.ensures.names in
     let rows = rows_of (names_of es seen) in
