@@ -1,4 +1,5 @@
 -- Lemmas.
+pub mod CauseLemmas
 pub mod LineLemmas
 pub mod PageLemmas
 pub mod PutLemmas

@@ -90,7 +90,10 @@ fn put_all_members<K: Sink>(
     ensures counts { CountsWriteFault (K.faults sink.old) (K.faults sink.new) result }
 {
     let mut listing = listing;
-    put_members(alloc, sink, out, &mut listing)
+    let put = put_members(alloc, sink, out, &mut listing);
+    // let go by name: at the end of its block this takes long to prove
+    drop(listing);
+    put
 }
 
 /// Puts a line for each member of a list, and then their number.

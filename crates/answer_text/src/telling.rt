@@ -111,7 +111,10 @@ fn put_all_changes<K: Sink>(
     ensures counts { CountsWriteFault (K.faults sink.old) (K.faults sink.new) result }
 {
     let mut listing = listing;
-    put_listing(alloc, sink, out, number, &mut listing)
+    let put = put_listing(alloc, sink, out, number, &mut listing);
+    // let go by name: at the end of its block this takes long to prove
+    drop(listing);
+    put
 }
 
 /// Where an edit may have changed the text: at the addresses of the file that came or went. Nothing is known of an opened image.
@@ -240,8 +243,9 @@ pub fn put_changes<K: Sink>(
         None => Ok(()),
         Some(pass) => {
             let range = edited(answer, pass.version());
-            put_watches(alloc, sink, out, watches, &pass, range, engine)?;
-            Ok(())
+            let put = put_watches(alloc, sink, out, watches, &pass, range, engine);
+            drop(pass);
+            put
         }
     }
 }

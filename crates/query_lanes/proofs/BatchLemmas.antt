@@ -1,5 +1,6 @@
 -- What a batch hands on of its merge, and of its readers.
 use Rattle.std.proofs.Common.{◌≡◌, ℕ, zero, suc, ◌<◌, Bool, true, false, ◌⊎◌, inl, inr, List, [], ◌∷◌, ◌++◌, length, map, ap, sym, ◌∙◌, subst, arith}
+use Rattle.std.specs.Prelude.{Result, Ok, Err, OnOk, OnErr}
 use Rattle.logbook.specs.Pages.{Book}
 use Rattle.gcl_model.specs.Collections.{Collection, text_of}
 use Rattle.gcl_model.specs.Texts.{Text}
@@ -42,6 +43,17 @@ where_publisher false old new same = ap (λ (e : EngineContent). e.publisher) sa
 pub either_publisher : (wanted : Bool) (old new : EngineContent) → (new ≡ old) ⊎ IsMergedWhere wanted old new → new.publisher ≡ old.publisher
 either_publisher wanted old new (inl same) = ap (λ (e : EngineContent). e.publisher) same
 either_publisher wanted old new (inr merged) = where_publisher wanted old new merged
+
+-- what holds in any case holds where all went well
+pub on_ok : {T E : Type 0} (P : Type 0) (result : Result T E) → P → OnOk result P
+on_ok P (Ok value) p = p
+on_ok P (Err fault) p = tt
+
+-- whatever came of it
+pub answered_publisher : {T E : Type 0} (result : Result T E) (wanted : Bool) (old new : EngineContent) → OnOk result (IsMergedWhere wanted old new)
+    → OnErr result ((new ≡ old) ⊎ IsMergedWhere wanted old new) → new.publisher ≡ old.publisher
+answered_publisher (Ok value) wanted old new merged err = where_publisher wanted old new merged
+answered_publisher (Err fault) wanted old new merged err = either_publisher wanted old new err
 
 pub keeps_same : (old new : EngineContent) → new ≡ old → Keeps old.version new.version
 keeps_same old new same = subst (λ (e : EngineContent). Keeps old.version e.version) (sym same) (λ c stands. stands)

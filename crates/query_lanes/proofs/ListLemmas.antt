@@ -1,5 +1,6 @@
 -- The members of lists that are put together.
-use Rattle.std.proofs.Common.{◌≡◌, ℕ, zero, suc, ◌+◌, ◌-◌, ◌≤◌, ◌<◌, ◌⊎◌, inl, inr, List, [], ◌∷◌, ◌++◌, length, map, take, set, slice_get, Option, None, Some, refl, sym, ap, ◌∙◌, subst, arith}
+use Rattle.std.proofs.Common.{◌≡◌, ℕ, zero, suc, ◌+◌, ◌-◌, ◌≤◌, ◌<◌, ◌⊎◌, inl, inr, List, [], ◌∷◌, ◌++◌, length, map, take, set, slice_get, get_or, Option, None, Some, IfSome, refl, sym, ap, ◌∙◌, subst, arith}
+use Rattle.std.proofs.lemmas.Option.{slice_get_read}
 
 -- the member after some others
 pub get_behind : {A : Type 0} (xs : List A) (y : A) → slice_get (xs ++ y ∷ []) (length xs) ≡ Some y
@@ -50,3 +51,9 @@ get_untaken (y ∷ xs) zero zero v x none got = let taken : v ≡ Some x = cc go
 get_untaken (y ∷ xs) zero (suc i) v x none got = got
 get_untaken (y ∷ xs) (suc k) zero v x none got = got
 get_untaken (y ∷ xs) (suc k) (suc i) v x none got = get_untaken xs k i v x none got
+
+-- what is taken stood there
+pub get_taken : {A : Type 0} (xs : List (Option A)) (k : ℕ) (v taken : Option A) → k < length xs → v ≡ get_or xs k v → taken ≡ v
+    → IfSome taken (λ one. slice_get xs k ≡ Some (Some one))
+get_taken xs k v None lt is same = tt
+get_taken xs k v (Some one) lt is same = slice_get_read xs (length xs) k v refl lt is ∙ ap Some (sym same)

@@ -128,8 +128,7 @@ fn answer_in_turn<R: Wait, G: Gate>(
     ensures publisher { engine.new.publisher ≡ engine.old.publisher }
 {
     merge_where(context.rt, context.gate, pending, engine)?;
-    let answers = answer_all(context.alloc, context.gate, engine, asks)?;
-    Ok(answers)
+    answer_all(context.alloc, context.gate, engine, asks)
 }
 
 /// A batch in lanes, one for each of these readers.
@@ -166,8 +165,7 @@ fn answer_in_lanes<R: Threads + Wait + Sync, G: Gate + Sync>(
     if works.iter().any(|work| work.is_short) {
         return Err(AllocError);
     }
-    let answers = gather(context.alloc, engine, works, asks)?;
-    Ok(answers)
+    gather(context.alloc, engine, works, asks)
 }
 
 /// Answers a batch of queries in lanes, and merges beside them where a merge is pending. The query at place `j`, counted from 0, goes to
@@ -198,12 +196,12 @@ pub fn answer_batch<R: Threads + Wait + Sync, G: Gate + Sync>(
     let most = readers.len().min(asks.len());
     let lanes = lanes_of(engine.version(), asks, pending, most);
     if lanes == 0 {
-        let answers = answer_in_turn(context, asks, pending, engine)?;
-        return Ok(answers);
+        return answer_in_turn(context, asks, pending, engine);
     }
     let mut works = Work::of_lanes(context.alloc, lanes)?;
     let (readers_used, _) = readers.split_at_mut(lanes);
-    let works = works.as_mut_slice();
-    let answers = answer_in_lanes(context, asks, pending, engine, works, readers_used)?;
-    Ok(answers)
+    let slice = works.as_mut_slice();
+    let answers = answer_in_lanes(context, asks, pending, engine, slice, readers_used);
+    drop(works);
+    answers
 }

@@ -10,7 +10,7 @@ pub struct Context<'a, R, G> {
 }
 
 /// What the lanes of a batch share. The query at place `j`, counted from 0, is one of lane `j` modulo `lanes`.
-#[derive_where(Clone, Copy)]
+#[derive(Drop)]
 pub(crate) struct Dealt<'a, G> {
     pub alloc: Global,
     pub gate: &'a G,

@@ -22,17 +22,18 @@ pub fn find(alloc: Global, pass: Pass, asked: Asked, expr: &Arc<Expr>) -> Result
         IfOk result (λ found. found ≡ found_in asked (wide (version_text v) (form_of expr.now.value))) }
 {
     let mut search = Search::of(alloc, pass, Arc::try_clone(expr)?)?;
-    match asked {
-        Asked::All => {
-            let listing = Listing::of(alloc, search, u64::MAX)?;
-            Ok(Found::List(listing))
+    let most = match asked {
+        Asked::All => u64::MAX,
+        Asked::First(most) => most,
+        Asked::Number => {
+            let total = search.count();
+            // let go by name: at the end of its block this takes long to prove
+            drop(search);
+            return Ok(Found::Total(total));
         }
-        Asked::First(most) => {
-            let listing = Listing::of(alloc, search, most)?;
-            Ok(Found::List(listing))
-        }
-        Asked::Number => Ok(Found::Total(search.count())),
-    }
+    };
+    let listing = Listing::of(alloc, search, most)?;
+    Ok(Found::List(listing))
 }
 
 /// Answers a query on the engine's own pass.

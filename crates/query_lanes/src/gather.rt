@@ -34,10 +34,7 @@ fn counts(last: u64, is_settled: bool, number: u64) -> bool
 fn kept(last: u64, is_settled: bool, made: Made) -> Option<Found>
     ensures { IfSome result (λ found. (found ≡ made.found) × Counts is_settled last made.number) }
 {
-    if !counts(last, is_settled, made.number) {
-        return None;
-    }
-    Some(made.found)
+    counts(last, is_settled, made.number).then_some(made.found)
 }
 
 /// Takes the answer that a lane made to the query at `j`, where it counts.

@@ -4,8 +4,8 @@
 //! the version. A page takes the next ones, and a count leaves all as it was. So the layer above never needs a whole list.
 //!
 //! A `Search` expands prefix terms once. It finds members by leaping as long as that takes few look-ups, and by readers after
-//! that, which make no more than a merge of whole lists does; where leaping may be slow they begin at once. So no query takes
-//! longer than in proportion to the text: its pages and its number together make at most `query_cost` look-ups, which is a
+//! that, which make no more than a merge of whole lists does; where leaping may be slow they begin at once. So the look-ups of
+//! each query are in proportion to the text: its pages and its number together make at most `query_cost` of them, which is a
 //! clause of the pages that it asks. Where many words stand for a prefix term, it goes over to their places, which it gathers
 //! once. A `Listing` hands out the first members of a search, `PAGE` at a time at most; its first page is found when it is
 //! made, so that a thread may do so for another one. `look_ups_of` says about how much work that is.

@@ -1,4 +1,4 @@
-use Rattle.std.proofs.Common.{◌≡◌, ◌+◌, ◌-◌, ◌++◌, [], ◌∷◌, ℕ, List, take, sym, ap, ◌∙◌, subst, arith, rules, append-nil}
+use Rattle.std.proofs.Common.{Bool, ◌≡◌, ◌+◌, ◌-◌, ◌++◌, [], ◌∷◌, ℕ, List, take, sym, ap, ◌∙◌, subst, arith, rules, append-nil}
 use Rattle.std.specs.Vec.Iter.{into_iter_items}
 use Rattle.gcl_model.proofs.Cases.{on_err}
 use Rattle.query_lanes.specs.declared.asks.Found.{Found}
@@ -7,6 +7,7 @@ use Rattle.answer_text.specs.Puts.{founds_text, GetsPart, Puts}
 use Rattle.answer_text.specs.Texts.{found_lines}
 use Rattle.answer_text.proofs.PageLemmas.{founds_on, one_after, refused_on}
 use Rattle.answer_text.proofs.PutLemmas.{held_more, more_first, part_first}
+use Rattle.answer_text.proofs.CauseLemmas.{cause_done, cause_passed, counts_passed}
 use Rattle.answer_text.proofs.pages.put_answers.Goals as goal
 
 pub loop-found-init : goal.loop-found-init
@@ -43,3 +44,15 @@ loop-found-preserved g c =
       later = search rules;
       same = search rules;
     }
+
+pub returns-in_err-refused-clause-cause : goal.returns-in_err-refused-clause-cause
+returns-in_err-refused-clause-cause g c = cause_passed c.from_residual.result c.in_err-refused.field-0.0 (g.K.Sink.faults c.args.sink.now) (g.K.Sink.faults c.loop-found.sink) (g.K.Sink.faults c.put_found.new.sink) c.loop-found.invariant.same c.from_residual.ensures.1 c.in_err-refused.ensures.cause
+
+pub returns-in_err-refused-clause-counts : goal.returns-in_err-refused-clause-counts
+returns-in_err-refused-clause-counts g c = counts_passed Bool c.from_residual.result c.in_err-refused.field-0.0 (g.K.Sink.faults c.args.sink.now) (g.K.Sink.faults c.loop-found.sink) (g.K.Sink.faults c.put_found.new.sink) c.loop-found.invariant.same c.from_residual.ensures.1 c.in_err-refused.ensures.counts
+
+pub returns-clause-cause : goal.returns-clause-cause
+returns-clause-cause g c = cause_done c.loop-found.refused (g.K.Sink.faults c.args.sink.now) (g.K.Sink.faults c.loop-found.sink) c.loop-found.invariant.same
+
+pub returns-clause-counts : goal.returns-clause-counts
+returns-clause-counts g c = c.loop-found.invariant.same

@@ -7,6 +7,7 @@ use Rattle.answer_text.specs.Puts.{GetsPart, Puts}
 use Rattle.answer_text.specs.Watching.{watched_of, watches_text}
 use Rattle.answer_text.proofs.PutLemmas.{all_put, held_more, more_first, part_all}
 use Rattle.answer_text.proofs.ToldLemmas.{one_watch, watch_here, watches_on}
+use Rattle.answer_text.proofs.CauseLemmas.{cause_done, cause_passed, counts_passed}
 use Rattle.answer_text.proofs.telling.put_watches.Goals as goal
 
 pub loop-i-init : goal.loop-i-init
@@ -45,3 +46,15 @@ returns-clause-puts g c =
     let many = length-map c.args.watches.now.live watched_of in
     (all_put (watches_text before now) (watches_on before now) _ _ c.args.out.now.items c.loop-i.out.items _ _ c.loop-i.i
     (drop_all c.loop-i.i (map watched_of c.args.watches.now.live) (omega (arith, many, c.len-i-end.ensures.value, c.loop-i-test.false))) c.loop-i.invariant.puts).0
+
+pub returns-in_err-put_watch-clause-cause : goal.returns-in_err-put_watch-clause-cause
+returns-in_err-put_watch-clause-cause g c = cause_passed c.from_residual.result c.in_err-put_watch.field-0.0 (g.K.Sink.faults c.args.sink.now) (g.K.Sink.faults c.loop-i.sink) (g.K.Sink.faults c.put_watch.new.sink) c.loop-i.invariant.same c.from_residual.ensures.1 c.in_err-put_watch.ensures.cause
+
+pub returns-in_err-put_watch-clause-counts : goal.returns-in_err-put_watch-clause-counts
+returns-in_err-put_watch-clause-counts g c = counts_passed Unit c.from_residual.result c.in_err-put_watch.field-0.0 (g.K.Sink.faults c.args.sink.now) (g.K.Sink.faults c.loop-i.sink) (g.K.Sink.faults c.put_watch.new.sink) c.loop-i.invariant.same c.from_residual.ensures.1 c.in_err-put_watch.ensures.counts
+
+pub returns-clause-cause : goal.returns-clause-cause
+returns-clause-cause g c = cause_done tt (g.K.Sink.faults c.args.sink.now) (g.K.Sink.faults c.loop-i.sink) c.loop-i.invariant.same
+
+pub returns-clause-counts : goal.returns-clause-counts
+returns-clause-counts g c = c.loop-i.invariant.same

@@ -1,6 +1,8 @@
 use Rattle.std.proofs.Common.{length, inr, sym, ap, ◌∙◌}
+use Rattle.std.proofs.lemmas.Result.{IfOk-weaker}
+use Rattle.gcl_model.proofs.Cases.{on_err}
 use Rattle.collection.specs.Engines.{EngineContent}
-use Rattle.query_lanes.proofs.BatchLemmas.{each_of, keeps_same, over_collection, run_of, where_publisher, where_stands}
+use Rattle.query_lanes.proofs.BatchLemmas.{each_of, keeps_same, on_ok, over_collection, run_of, where_publisher, where_stands}
 use Rattle.query_lanes.proofs.LaneLemmas.{all_trusted}
 use Rattle.query_lanes.proofs.MergeLemmas.{where_text}
 use Rattle.query_lanes.proofs.ReaderLemmas.{are_of}
@@ -43,26 +45,21 @@ gather-requires g c =
     (c.settle_all.ensures.settled.works_are ∙ c.in_ok-run_all.ensures.lanes.works_are ∙ c.tell_all.ensures.told.count)
     (where_text c.args.pending c.args.engine.now c.run_all.new.engine c.is_lawful.ensures.ends c.in_ok-run_all.ensures.merged) c.tell_all.ensures.told c.in_ok-run_all.ensures.lanes c.settle_all.ensures.settled
 
-pub returns-in_err-answers-clause-stands : goal.returns-in_err-answers-clause-stands
-returns-in_err-answers-clause-stands g c = where_stands c.args.pending c.args.engine.now c.run_all.new.engine c.in_ok-run_all.ensures.merged
-
-pub returns-in_err-answers-clause-of : goal.returns-in_err-answers-clause-of
-returns-in_err-answers-clause-of g c = are_of c.run_all.new.engine.publisher c.settle_all.new.readers c.settle_all.ensures.of
-
 pub returns-clause-answers : goal.returns-clause-answers
 returns-clause-answers g c = λ collection stands.
-    c.in_ok-answers.ensures
-    ∙ over_collection c.args.asks.now c.args.engine.now.version c.run_all.new.engine.version collection
-    (where_stands c.args.pending c.args.engine.now c.run_all.new.engine c.in_ok-run_all.ensures.merged) stands
+    IfOk-weaker c.gather.result _ _
+    (λ answers is. is ∙ over_collection c.args.asks.now c.args.engine.now.version c.run_all.new.engine.version collection
+    (where_stands c.args.pending c.args.engine.now c.run_all.new.engine c.in_ok-run_all.ensures.merged) stands)
+    c.gather.ensures
 
 pub returns-clause-here : goal.returns-clause-here
-returns-clause-here g c = c.in_ok-answers.ensures
+returns-clause-here g c = c.gather.ensures
 
 pub returns-clause-merged : goal.returns-clause-merged
-returns-clause-merged g c = c.in_ok-run_all.ensures.merged
+returns-clause-merged g c = on_ok _ c.gather.result c.in_ok-run_all.ensures.merged
 
 pub returns-clause-err : goal.returns-clause-err
-returns-clause-err g c = tt
+returns-clause-err g c = on_err _ c.gather.result (inr c.in_ok-run_all.ensures.merged)
 
 pub returns-clause-stands : goal.returns-clause-stands
 returns-clause-stands g c = where_stands c.args.pending c.args.engine.now c.run_all.new.engine c.in_ok-run_all.ensures.merged
