@@ -2,6 +2,7 @@
 use Rattle.std.proofs.Common.{◌≡◌, ℕ, ◌+◌, ◌-◌, ◌*◌, ◌^◌, ◌<◌, ◌≤◌, List, [], ◌∷◌, length, map, refl, sym, ap, ◌∙◌, subst, arith}
 use Rattle.std.specs.List.{AllByRecursion}
 use Rattle.gcl_model.specs.Texts.{Word, places, AreRisingBelow}
+use Rattle.gcl_model.proofs.Lists.{all_weaker}
 use Rattle.gcl_model.specs.Collections.{Collection, File, AreFilesFrom, words_of, width_of}
 use Rattle.posting_code.specs.Postings.{RiseWithin}
 use Rattle.posting_code.proofs.Rising.{rise_wider}
@@ -14,21 +15,39 @@ use Rattle.shard_merge.proofs.SameWords.{same_words}
 use Rattle.image_file.specs.declared.format.Format.{Format}
 use Rattle.image_file.specs.declared.format.Format.TheVariants.{One, Two}
 use Rattle.image_file.specs.Fields.{Fields, image_bytes}
-use Rattle.image_file.specs.Images.{AreShort, AreTermsOf, CanBeSaid, Spells, SpellsWith, fields_of}
+use Rattle.image_file.specs.Images.{AreShort, AreTermsOf, CanBeSaid, HasShortTokens, Spells, SpellsWith, fields_of, forgotten, image_of, most_term, terms_of}
 use Rattle.image_file.specs.Laws.{HasSpelling, HasOneSpelling, SpellsOne, IsOfOneVersion}
-use Rattle.image_file.proofs.TermTables.{one_table, table_of, table_is, table_all, few_terms, own_postings}
+use Rattle.image_file.proofs.TermTables.{one_table, own_postings}
+use Rattle.image_file.proofs.TermsOfWords.{few_terms, terms_all, terms_are, words_all}
 use Rattle.image_file.proofs.Packing.{sound_packs, packed_few, few_words}
 use Rattle.image_file.proofs.Decoding.{AreWritable, CanWrite, image_same}
 
 pub has_spelling : HasSpelling
-has_spelling c said short =
-    let terms = table_of (words_of c) in (
-      image_bytes Two (fields_of c terms),
-      record {
-        said = said;
-        spelled = (terms, record { terms = table_is (words_of c); short = table_all (λ t. length t < 2 ^ 56) (words_of c) short; bytes = refl });
-      },
-    )
+has_spelling c said short = (
+  image_of c,
+  record {
+    said = said;
+    spelled = (terms_of (words_of c), record { terms = terms_are (words_of c); short = terms_all (λ t. length t < 2 ^ 56) (words_of c) short; bytes = refl });
+  },
+)
+
+-- the one image of a collection in version 2
+pub image_is : (c : Collection) (bytes : List ℕ) → Spells Two bytes (forgotten c) → bytes ≡ image_of c
+image_is c bytes s =
+    s.spelled.1.bytes ∙ ap (λ terms. image_bytes Two (fields_of c terms)) (one_table (words_of c) s.spelled.0 (terms_of (words_of c)) s.spelled.1.terms (terms_are (words_of c)))
+
+within_most : (format : Format) → most_term format ≤ 2 ^ 56
+within_most One = omega arith
+within_most Two = omega arith
+
+-- a collection that has an image has no token too long to be written
+pub spelled_short : (format : Format) (bytes : List ℕ) (c : Collection) → Spells format bytes c → HasShortTokens c
+spelled_short format bytes c s =
+    let words : List Word = words_of c in
+    let most : most_term format ≤ 2 ^ 56 = within_most format in
+    let short = subst (AllByRecursion (λ (e : TermEntry). length e.term < most_term format)) (one_table words s.spelled.0 (terms_of words) s.spelled.1.terms (terms_are words)) s.spelled.1.short in
+    all_weaker (λ (w : Word). length w.token < most_term format) (λ (w : Word). length w.token < 2 ^ 56) (λ w less. omega (arith, less, most)) words
+    (words_all (λ (t : List ℕ). length t < most_term format) words short)
 
 pub has_one_spelling : HasOneSpelling
 has_one_spelling format c bytes other s t =

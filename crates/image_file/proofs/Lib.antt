@@ -1,4 +1,5 @@
 pub mod TermTables
+pub mod TermsOfWords
 pub mod Packing
 pub mod Decoding
 pub mod ImageLaws

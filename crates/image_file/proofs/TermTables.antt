@@ -1,5 +1,5 @@
--- The terms of some words are told by the words, in one way.
-use Rattle.std.proofs.Common.{◌≡◌, ℕ, ◌+◌, ◌<◌, ◌≤◌, true, false, List, [], ◌∷◌, length, bytes_eq, nat_cmp, Ordering, inl, inr, refl, sym, ap, ◌∙◌, subst, arith}
+-- Tables of terms in order: their postings tell them, in one way.
+use Rattle.std.proofs.Common.{◌≡◌, ℕ, ◌<◌, false, List, [], ◌∷◌, length, bytes_eq, nat_cmp, Ordering, inl, inr, refl, sym, ap, ◌∙◌, subst, arith}
 use Rattle.std.specs.declared.cmp.Ordering.TheVariants.{Less, Equal, Greater}
 use Rattle.std.specs.Ordering.{ordering_reverse}
 use Rattle.std.specs.Cmp.Lexicographic.{slice_cmp}
@@ -11,7 +11,6 @@ use Rattle.std.proofs.lemmas.Slice.Eq.{bytes_eq-Decides}
 use Rattle.gcl_model.specs.Texts.{Word, places}
 use Rattle.gcl_model.proofs.Lists.{all_both}
 use Rattle.index_shard.specs.Tables.{TermEntry, ComesBefore, postings_of}
-use Rattle.index_shard.proofs.TableLaws.{term_entry as entry}
 use Rattle.slot_terms.proofs.Passing.{AllAfter, after_earlier, after_missed, before_differs}
 use Rattle.image_file.specs.Images.{AreTermsOf, TermsRise}
 
@@ -68,117 +67,6 @@ same_terms (x ∷ xs) (y ∷ ys) rx ry sx sy same =
 
 pub one_table : (words : List Word) (xs ys : List TermEntry) → AreTermsOf words xs → AreTermsOf words ys → xs ≡ ys
 one_table words xs ys a b = same_terms xs ys a.rising b.rising a.some b.some (λ t. a.places t ∙ sym (b.places t))
-
--- the table of some words, made word by word from the last one on
-
--- with a word before the first term, at it, or somewhere after it
-abbrev put_by : Ordering → Word → TermEntry → (es rest : List TermEntry) → List TermEntry
-put_by Less w e es rest = entry w.token (w.address ∷ []) ∷ e ∷ es
-put_by Equal w e es rest = entry e.term (w.address ∷ e.addresses) ∷ es
-put_by Greater w e es rest = e ∷ rest
-
-abbrev put : Word → List TermEntry → List TermEntry
-put w [] = entry w.token (w.address ∷ []) ∷ []
-put w (e ∷ es) = put_by (slice_cmp nat_cmp w.token e.term) w e es (put w es)
-
-abbrev pub table_of : List Word → List TermEntry
-table_of [] = []
-table_of (w ∷ ws) = put w (table_of ws)
-
--- what holds of all terms and of the word's token holds of all terms with the word
-all_put : (P : List ℕ → Type 0) (w : Word) (es : List TermEntry) → P w.token → AllByRecursion (λ (e : TermEntry). P e.term) es → AllByRecursion (λ (e : TermEntry). P e.term) (put w es)
-all_put P w [] here all = (here, tt)
-all_put P w (e ∷ es) here all = by_order (slice_cmp nat_cmp w.token e.term) (put w es) (all_put P w es here all.1)
-  where
-    by_order : (o : Ordering) (rest : List TermEntry) → AllByRecursion (λ (d : TermEntry). P d.term) rest → AllByRecursion (λ (d : TermEntry). P d.term) (put_by o w e es rest)
-    by_order Less rest later = (here, all)
-    by_order Equal rest later = (all.0, all.1)
-    by_order Greater rest later = (all.0, later)
-
-put_rises : (w : Word) (es : List TermEntry) → TermsRise es → TermsRise (put w es)
-put_rises w [] rise = (tt, tt)
-put_rises w (e ∷ es) rise = by_order (slice_cmp nat_cmp w.token e.term) refl (put w es) (put_rises w es rise.1) (λ before. all_put (ComesBefore e.term) w es before rise.0)
-  where
-    by_order : (o : Ordering) → slice_cmp nat_cmp w.token e.term ≡ o → (rest : List TermEntry) → TermsRise rest → (ComesBefore e.term w.token → AllAfter e.term rest) → TermsRise (put_by o w e es rest)
-    by_order Less is rest later all = ((is, after_earlier w.token e.term es is rise.0), rise)
-    by_order Equal is rest later all = (rise.0, rise.1)
-    by_order Greater is rest later all = (all (reversed w.token e.term is), later)
-
-put_some : (w : Word) (es : List TermEntry) → AreSome es → AreSome (put w es)
-put_some w [] some = (omega arith, tt)
-put_some w (e ∷ es) some = by_order (slice_cmp nat_cmp w.token e.term) (put w es) (put_some w es some.1)
-  where
-    by_order : (o : Ordering) (rest : List TermEntry) → AreSome rest → AreSome (put_by o w e es rest)
-    by_order Less rest later = (omega arith, some)
-    by_order Equal rest later = (omega arith, some.1)
-    by_order Greater rest later = (some.0, later)
-
-put_here : (w : Word) (es : List TermEntry) → TermsRise es → postings_of (put w es) w.token ≡ w.address ∷ postings_of es w.token
-put_here w [] rise = rw ((bytes_eq-Decides w.token w.token).1 refl) refl
-put_here w (e ∷ es) rise = by_order (slice_cmp nat_cmp w.token e.term) refl (put w es) (put_here w es rise.1)
-  where
-    by_order : (o : Ordering) → slice_cmp nat_cmp w.token e.term ≡ o → (rest : List TermEntry) → postings_of rest w.token ≡ w.address ∷ postings_of es w.token →
-        postings_of (put_by o w e es rest) w.token ≡ w.address ∷ postings_of (e ∷ es) w.token
-    by_order Less is rest later =
-        let none : postings_of (e ∷ es) w.token ≡ [] = after_missed w.token (e ∷ es) (is, after_earlier w.token e.term es is rise.0) in
-        own_first (entry w.token (w.address ∷ [])) (e ∷ es) ∙ ap (λ l. w.address ∷ l) (sym none)
-    by_order Equal is rest later =
-        let same : bytes_eq e.term w.token ≡ true = (bytes_eq-Decides e.term w.token).1 (sym (exact_bytes w.token e.term is)) in
-        rw same refl
-    by_order Greater is rest later =
-        let other : bytes_eq e.term w.token ≡ false = before_differs e.term w.token (reversed w.token e.term is) in
-        rw other later
-
-put_other : (w : Word) (es : List TermEntry) (t : List ℕ) → bytes_eq w.token t ≡ false → postings_of (put w es) t ≡ postings_of es t
-put_other w [] t other = rw other refl
-put_other w (e ∷ es) t other = by_order (slice_cmp nat_cmp w.token e.term) refl (put w es) (put_other w es t other)
-  where
-    by_order : (o : Ordering) → slice_cmp nat_cmp w.token e.term ≡ o → (rest : List TermEntry) → postings_of rest t ≡ postings_of es t → postings_of (put_by o w e es rest) t ≡ postings_of (e ∷ es) t
-    by_order Less is rest later = rw other refl
-    by_order Equal is rest later =
-        let differs : bytes_eq e.term t ≡ false = ap (λ u. bytes_eq u t) (sym (exact_bytes w.token e.term is)) ∙ other in
-        rw differs refl
-    by_order Greater is rest later = elim (cases_Bool (bytes_eq e.term t)) [ inl h ↦ rw h refl | inr h ↦ rw h later ]
-
-put_places : (w : Word) (ws : List Word) (es : List TermEntry) (t : List ℕ) → TermsRise es → postings_of es t ≡ places ws t → postings_of (put w es) t ≡ places (w ∷ ws) t
-put_places w ws es t rise is = elim (cases_Bool (bytes_eq w.token t)) [
-  | inl h ↦
-      let at : w.token ≡ t = (bytes_eq-Decides w.token t).0 h in
-      let here : postings_of (put w es) t ≡ w.address ∷ postings_of es t = subst (λ u. postings_of (put w es) u ≡ w.address ∷ postings_of es u) at (put_here w es rise) in
-      rw h (here ∙ ap (λ l. w.address ∷ l) is)
-  | inr h ↦ rw h (put_other w es t h ∙ is)
-]
-
-pub table_is : (words : List Word) → AreTermsOf words (table_of words)
-table_is [] = record { rising = tt; some = tt; places = λ t. refl }
-table_is (w ∷ ws) =
-    let rest = table_is ws in
-    record {
-      rising = put_rises w (table_of ws) rest.rising;
-      some = put_some w (table_of ws) rest.some;
-      places = λ t. put_places w ws (table_of ws) t rest.rising (rest.places t);
-    }
-
-put_longer : (w : Word) (es : List TermEntry) → length (put w es) ≤ length es + 1
-put_longer w [] = omega arith
-put_longer w (e ∷ es) = by_order (slice_cmp nat_cmp w.token e.term) (put w es) (put_longer w es)
-  where
-    by_order : (o : Ordering) (rest : List TermEntry) → length rest ≤ length es + 1 → length (put_by o w e es rest) ≤ length (e ∷ es) + 1
-    by_order Less rest later = omega arith
-    by_order Equal rest later = omega arith
-    by_order Greater rest later = omega arith
-
-table_few : (words : List Word) → length (table_of words) ≤ length words
-table_few [] = omega arith
-table_few (w ∷ ws) = let rest = table_few ws in let here = put_longer w (table_of ws) in omega arith
-
--- there are no more terms than words
-pub few_terms : (words : List Word) (terms : List TermEntry) → AreTermsOf words terms → length terms ≤ length words
-few_terms words terms is = subst (λ es. length es ≤ length words) (one_table words (table_of words) terms (table_is words) is) (table_few words)
-
-pub table_all : (P : List ℕ → Type 0) (words : List Word) → AllByRecursion (λ (w : Word). P w.token) words → AllByRecursion (λ (e : TermEntry). P e.term) (table_of words)
-table_all P [] all = tt
-table_all P (w ∷ ws) all = all_put P w (table_of ws) all.0 (table_all P ws all.1)
 
 -- each entry has the postings of its term
 skipped : (e : TermEntry) (es ds : List TermEntry) → AllAfter e.term ds → AllByRecursion (λ (d : TermEntry). postings_of es d.term ≡ d.addresses) ds

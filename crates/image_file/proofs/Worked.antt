@@ -10,7 +10,7 @@ use Rattle.image_file.specs.declared.format.Format.{Format}
 use Rattle.image_file.specs.declared.format.Format.TheVariants.{One, Two}
 use Rattle.image_file.specs.Fields.{image_bytes}
 use Rattle.image_file.specs.Images.{AreTermsOf, CanBeSaid, Spells, end_of, fields_of}
-use Rattle.image_file.proofs.TermTables.{table_is}
+use Rattle.image_file.proofs.TermsOfWords.{terms_are}
 
 packed_from-three : packed_from 3 (5 ∷ 8 ∷ []) ≡ 2 ∷ 3 ∷ []
 packed_from-three = refl
@@ -70,10 +70,10 @@ places-be = refl
 
 -- these are the terms of the files' words, each with the addresses that hold it
 terms_of_b-are : AreTermsOf (words_of only_b) terms_of_b
-terms_of_b-are = table_is (words_of only_b)
+terms_of_b-are = terms_are (words_of only_b)
 
 terms_of_a-are : AreTermsOf (words_of only_a) terms_of_a
-terms_of_a-are = table_is (words_of only_a)
+terms_of_a-are = terms_are (words_of only_a)
 
 -- the image of b with its 74 bytes, and its old image with 118, are images of the collection, as b is a name
 said-only_b : (format : Format) → is_name (98 ∷ []) ≡ true → CanBeSaid format only_b

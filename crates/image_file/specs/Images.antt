@@ -1,5 +1,9 @@
 -- Which bytes are an image of which collection.
 use Rattle.std.specs.Prelude.{◌≡◌, ℕ, ◌^◌, ◌<◌, ◌≤◌, List, [], ◌∷◌, length, map}
+use Rattle.std.specs.Ordering.{nat_cmp}
+use Rattle.std.specs.declared.cmp.Ordering.{Ordering}
+use Rattle.std.specs.declared.cmp.Ordering.TheVariants.{Less, Equal, Greater}
+use Rattle.std.specs.Cmp.Lexicographic.{slice_cmp}
 use Rattle.std.specs.List.{AllByRecursion}
 use Rattle.posting_code.specs.Numbers.{number_end}
 use Rattle.gcl_model.specs.Texts.{Word, places}
@@ -22,6 +26,30 @@ pub record AreTermsOf (words : List Word) (terms : List TermEntry) : Type 0 wher
   pub rising : TermsRise terms
   pub some : AllByRecursion (λ entry. 0 < length entry.addresses) terms
   pub places : (token : List ℕ) → postings_of terms token ≡ places words token
+
+-- a token put before the first of some others, in place of it, or after it
+abbrev pub token_by : Ordering → List ℕ → List ℕ → (others behind : List (List ℕ)) → List (List ℕ)
+token_by Less token first others behind = token ∷ first ∷ others
+token_by Equal token first others behind = first ∷ others
+token_by Greater token first others behind = first ∷ behind
+
+-- a token among some that rise in byte order: "be" among "a" and "not" gives "a", "be", "not", and once more gives the same
+abbrev pub with_token : List ℕ → List (List ℕ) → List (List ℕ)
+with_token token [] = token ∷ []
+with_token token (first ∷ others) = token_by (slice_cmp nat_cmp token first) token first others (with_token token others)
+
+-- the tokens of some words in byte order, each once
+abbrev pub tokens_in_order : List Word → List (List ℕ)
+tokens_in_order [] = []
+tokens_in_order (w ∷ words) = with_token w.token (tokens_in_order words)
+
+-- a token with the addresses that hold it
+abbrev pub term_of : List Word → List ℕ → TermEntry
+term_of words token = record { term = token; addresses = places words token }
+
+-- the terms of some words: each token once, in byte order, with the addresses that hold it
+abbrev pub terms_of : List Word → List TermEntry
+terms_of words = map (term_of words) (tokens_in_order words)
 
 -- the addresses of a collection end here at the latest
 abbrev pub end_of : Format → ℕ
@@ -46,6 +74,10 @@ pub record SpellsWith (format : Format) (image : List ℕ) (c : Collection) (tab
   pub terms : AreTermsOf (words_of c) table
   pub short : AreShort format table
   pub bytes : image ≡ image_bytes format (fields_of c table)
+
+-- the bytes that a collection is saved as: its image in version 2, which says nothing of slots, merges and deletions
+abbrev pub image_of : Collection → List ℕ
+image_of c = image_bytes Two (fields_of c (terms_of (words_of c)))
 
 -- a sound collection of which nothing was deleted, and whose addresses a version of the format can say
 pub record CanBeSaid (format : Format) (c : Collection) : Type 0 where

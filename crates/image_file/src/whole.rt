@@ -3,7 +3,7 @@ ghost use Rattle.gcl_model.specs.Collections.{Collection};
 ghost use Rattle.live_version.specs.StandsFor.{StandsFor};
 ghost use Rattle.live_version.specs.Contents.{files_of};
 ghost use Rattle.image_file.specs.Fields.{mark, eight_bytes, short_files};
-ghost use Rattle.image_file.specs.Images.{CanBeSaved, Spells, forgotten};
+ghost use Rattle.image_file.specs.Images.{CanBeSaved, Spells, forgotten, image_of};
 ghost use Rattle.image_file.specs.Written.{ArePacked};
 
 use crate::files::put_files;
@@ -23,7 +23,8 @@ pub const MARK_TWO: &[u8] = b"GCLIMG02";
 /// The image of the collection that a version stands for, in version 2. Each live posting and each record is gone through once.
 pub fn image(alloc: Global, version: &Version) -> Result<Bytes, AllocError>
     requires { CanBeSaved version.now }
-    ensures { IfOk result (λ bytes. (c : Collection) → StandsFor version.now c → Spells Format.Two bytes (forgotten c)) }
+    ensures spells { IfOk result (λ bytes. (c : Collection) → StandsFor version.now c → Spells Format.Two bytes (forgotten c)) }
+    ensures is { IfOk result (λ bytes. (c : Collection) → StandsFor version.now c → bytes ≡ image_of c) }
 {
     let text = terms_text(alloc, version)?;
     let mut out = Vec::new(alloc);

@@ -13,3 +13,4 @@ pub mod Refusals
 pub mod Room
 pub mod Opened
 pub mod Saved
+pub mod Readings

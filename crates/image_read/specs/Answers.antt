@@ -1,5 +1,5 @@
 -- What the reader of images answers.
-use Rattle.std.specs.Prelude.{◌≡◌, ℕ, List}
+use Rattle.std.specs.Prelude.{◌≡◌, ℕ, List, Option, None, Some}
 use Rattle.gcl_model.specs.Collections.{Collection}
 use Rattle.gcl_model.specs.Slots.{slots_after_open}
 use Rattle.live_version.specs.Contents.{VersionContent, ranges_of}
@@ -22,3 +22,8 @@ IsImageOf bytes v = (format : Format) × (c : Collection) × Spells format bytes
 -- the bytes are the image of no collection
 abbrev pub IsNoImage : List ℕ → Type 0
 IsNoImage bytes = (format : Format) (c : Collection) → Spells format bytes c → ⊥
+
+-- what is said of the bytes is so: they are an image of this collection, in either version of the format, or of none
+abbrev pub IsReading : List ℕ → Option Collection → Type 0
+IsReading bytes None = IsNoImage bytes
+IsReading bytes (Some c) = (format : Format) × Spells format bytes c

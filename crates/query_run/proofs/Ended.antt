@@ -9,7 +9,7 @@ use Rattle.script_answers.specs.Stopped.{IsStopped}
 use Rattle.script_answers.specs.inner.Service.{Counts}
 use Rattle.script_answers.specs.declared.limits.Limits.{Limits}
 use Rattle.live_version.specs.Contents.{VersionContent}
-use Rattle.query_run.specs.Runs.{HandsOverMore, HasAnswered, IsAnsweredBy, TakesAtMost, WhereTold}
+use Rattle.query_run.specs.Runs.{HasAnswered, IsAnsweredBy, TakesAtMost, WhereTold}
 use Rattle.query_run.specs.Statuses.{IsAllAnswered, IsCutOff, IsFinished, IsSureOfFiles, ending_of as status_ending, most_taken}
 use Rattle.query_run.specs.inner.Streams.{HasRead, IsSure, ending_of, status_of}
 use Rattle.query_run.specs.declared.status.Status.{Status}

@@ -1,4 +1,5 @@
 -- Lemmas, and worked examples.
+mod Beginnings
 pub mod Ended
 pub mod Pieces
 pub mod RunLemmas

@@ -8,18 +8,14 @@ use Rattle.std.proofs.lemmas.List.{append_cancel_left, length-drop, take-append-
 use Rattle.std.proofs.Math.Seq.{drop-append_seam}
 use Rattle.std.proofs.Math.ListN.{drop_of_length-le}
 use Rattle.std.proofs.KnownBytes.{Consumes-nil, Consumes-trans}
-use Rattle.outside.specs.Contents.{Contents}
-use Rattle.collection.specs.Engines.{EngineContent}
-use Rattle.script_lang.specs.Lines.{Line, lines, ended, before_any, text_of_lines}
+use Rattle.script_lang.specs.Lines.{Line, lines, ended, before_any}
 use Rattle.script_lang.specs.Feeds.{Feed, has_newline}
 use Rattle.script_lang.proofs.FeedLemmas.{is_newline}
 use Rattle.script_lang.proofs.EndedLemmas.{lines_of_ended, done_is_ended, ended_begins}
-use Rattle.script_answers.specs.States.{State, opening, IsFresh}
-use Rattle.script_answers.specs.Answers.{answers, AreRead, output_by}
 use Rattle.query_run.specs.inner.Streams.{FeedsPiece, IsFed, IsSure, ReadsOn, ServesWithin, ending_of, fault_ending}
 use Rattle.script_answers.specs.Stopped.{Ending, IsOfFiles}
 use Rattle.script_answers.specs.inner.Service.{Halts, IsSureOfFiles, Serves, Stand, fault_ending as held_ending}
-use Rattle.script_answers.proofs.Service.{halts_after, halts_more, halts_on, serves_none, serves_on}
+use Rattle.script_answers.proofs.Service.{halts_more, halts_on, serves_none, serves_on}
 use Rattle.query_run.specs.Runs.{HandsOver, TakesAtMost, within}
 use Rattle.query_run.specs.Faults.{of_read, of_run}
 use Rattle.script_answers.specs.declared.limits.Limits.{Limits}
@@ -30,7 +26,7 @@ use Rattle.script_answers.specs.declared.run_fault.RunFault.TheVariants.{Write, 
 use Rattle.query_run.specs.declared.stream_fault.StreamFault.{StreamFault}
 use Rattle.query_run.specs.declared.stream_fault.StreamFault.TheVariants.{TooLong as StreamTooLong}
 use Rattle.query_run.proofs.WholeScripts.{all_read}
-use Rattle.script_answers.proofs.Scripts.{more_within, take_more}
+use Rattle.query_run.proofs.Beginnings.{halts_after, more_within, take_more}
 
 -- What the source handed over.
 

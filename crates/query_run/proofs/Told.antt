@@ -1,11 +1,10 @@
 -- Where it is known what the source has left and what the files hold, and of what the lines open it is said rightly what it is an image of.
-use Rattle.std.proofs.Common.{◌≡◌, ℕ, ◌+◌, ◌||◌, inl, Bool, false, List, [], length, take, drop, append-nil, refl, sym, ap, ◌∙◌, subst, Option, Some, None, IsSome, IfSome, arith}
+use Rattle.std.proofs.Common.{◌≡◌, ℕ, ◌+◌, ◌||◌, inl, Bool, false, List, [], length, drop, append-nil, refl, sym, ap, ◌∙◌, subst, Option, Some, None, IsSome, IfSome, arith}
 use Rattle.outside.specs.Contents.{Contents}
 use Rattle.collection.specs.Engines.{EngineContent}
 use Rattle.live_version.specs.Contents.{VersionContent}
 use Rattle.script_lang.specs.Lines.{Line, lines, text_of_lines}
-use Rattle.script_answers.specs.Images.{Images}
-use Rattle.script_answers.specs.States.{State, Keeps, opening, IsFresh}
+use Rattle.script_answers.specs.States.{Images, IsFresh, Keeps, State, opening}
 use Rattle.script_answers.specs.Answers.{answers, output_by, state_after, AreRead}
 use Rattle.query_run.specs.Runs.{WhereTold, WhereMade, WhereMadeBy, HasAnswered, StopsAfter, IsLeftBy, within, made_opening, made_summary}
 use Rattle.script_answers.specs.Stopped.{Ending, GetsPart, IsOfFiles, IsStopped, begun}
@@ -23,7 +22,8 @@ use Rattle.script_answers.specs.declared.limits.Limits.{Limits}
 use Rattle.command_words.specs.declared.options.Made.{Made}
 use Rattle.command_words.specs.declared.options.Options.{Options}
 use Rattle.query_run.proofs.WholeScripts.{fresh_keeps}
-use Rattle.script_answers.proofs.Scripts.{part_of_all, part_of_more, read_front}
+use Rattle.script_answers.proofs.Scripts.{part_of_more, read_front}
+use Rattle.query_run.proofs.Beginnings.{part_of_all}
 use Rattle.std.proofs.KnownBytes.{Appends-nil}
 
 -- at a script, contents and readings that are known

@@ -1,17 +1,14 @@
 -- Before the first line of a script, and after its last one.
-use Rattle.std.proofs.Common.{◌≡◌, ℕ, ◌+◌, ◌≤◌, ◌<◌, Bool, false, List, ◌++◌, length, take, refl, sym, ap, ◌∙◌, append-nil, Option, Some, None, IsSomeAnd, length-append, subst, arith, take_all}
+use Rattle.std.proofs.Common.{◌≡◌, ℕ, ◌+◌, ◌≤◌, ◌<◌, false, List, ◌++◌, length, refl, sym, ap, ◌∙◌, append-nil, Option, Some, None, IsSomeAnd, length-append, subst, arith}
 use Rattle.std.specs.Io.KnownBytes.{Consumes, IsAtEnd}
 use Rattle.outside.specs.Contents.{Contents}
 use Rattle.gcl_model.specs.Collections.{empty_from}
 use Rattle.live_version.specs.Contents.{VersionContent, ranges_of}
-use Rattle.script_lang.specs.Lines.{Line, lines}
+use Rattle.script_lang.specs.Lines.{lines}
 use Rattle.live_version.specs.StandsFor.{StandsFor}
 use Rattle.collection.specs.Engines.{EngineContent}
-use Rattle.script_answers.specs.States.{State, opening, Keeps, IsFresh}
-use Rattle.script_answers.specs.Images.{Images}
-use Rattle.script_answers.specs.Answers.{state_after}
+use Rattle.script_answers.specs.States.{Images, IsFresh, Keeps, opening}
 use Rattle.query_run.specs.Runs.{HandsOverMore}
-use Rattle.script_answers.specs.declared.limits.Limits.{Limits}
 
 -- an engine that was just opened keeps the state before the first line
 pub fresh_keeps : (engine : EngineContent) (lines : ℕ) (contents : Contents) (images : Images) → IsFresh engine lines → Keeps engine false (opening engine.version.first contents images)

@@ -4,8 +4,7 @@ use Rattle.std.specs.Io.KnownBytes.{Appends, Consumes, IsAtEnd}
 use Rattle.outside.specs.Contents.{Contents}
 use Rattle.script_lang.specs.Lines.{Line, lines, ended, text_of_lines}
 use Rattle.collection.specs.Engines.{EngineContent}
-use Rattle.script_answers.specs.States.{State, opening, greatest_limits, Keeps}
-use Rattle.script_answers.specs.Images.{Images}
+use Rattle.script_answers.specs.States.{Images, Keeps, State, greatest_limits, opening}
 use Rattle.script_answers.specs.Answers.{answers, state_after, AllAnswered, AreRead, output_by, output, has_refusal_by, names_kept_of, names_of}
 use Rattle.script_answers.specs.Stopped.{Ending, GetsPart, HoldsBut, IsAllWritten, IsOfFiles, begun}
 use Rattle.script_answers.specs.declared.limits.Limits.{Limits}

@@ -60,10 +60,12 @@ pub fn run_script<
     );
     let Opened {
         engine,
-        readers: _readers,
+        readers: used,
         lines,
     } = opened;
     engine.end(context.rt);
+    // let go by name: at the end of its block this takes long to prove
+    drop(used);
     *completed = lines;
     status
 }

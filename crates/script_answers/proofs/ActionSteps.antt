@@ -1,45 +1,16 @@
 -- A line that asks no query, and a stop within it.
-use Rattle.std.proofs.Common.{◌≡◌, ℕ, ◌+◌, ◌||◌, inl, Bool, true, false, inr, List, [], ◌∷◌, ◌++◌, refl, sym, ap, ◌∙◌, Option, Some, None, IsSome, append-nil, subst, arith}
+use Rattle.std.proofs.Common.{◌≡◌, ℕ, ◌+◌, ◌||◌, inl, Bool, true, false, inr, List, [], ◌∷◌, ◌++◌, refl, sym, ap, ◌∙◌, Option, Some, append-nil, subst, arith}
 use Rattle.std.specs.Prelude.{if◌then◌else◌}
 use Rattle.std.specs.List.{list_any}
 use Rattle.std.specs.Option.{option_map}
 use Rattle.std.specs.Io.KnownBytes.{Appends}
 use Rattle.std.proofs.KnownBytes.{Appends-nil}
 use Rattle.std.proofs.lemmas.Bool.{cases_Bool}
-use Rattle.gcl_model.specs.Collections.{Collection}
-use Rattle.outside.specs.Contents.{Contents}
-use Rattle.live_version.specs.StandsFor.{StandsFor}
-use Rattle.script_lang.specs.Answers.{is_refusal}
-use Rattle.script_lang.specs.Lines.{Line, text_of_lines}
-use Rattle.script_answers.specs.States.{State, Keeps}
-use Rattle.script_answers.specs.Answers.{Reply, after_reply, answer, answers, names_kept_of_line, names_of_line, state_after, unchanged, with_later}
-use Rattle.script_answers.specs.Stopped.{Ending, HoldsBut, IsAllWritten, IsOfFiles}
-use Rattle.answer_text.specs.Puts.{GetsPart}
-use Rattle.collection.specs.Engines.{EngineContent}
-use Rattle.manifest_publish.specs.Accounts.{Account}
-use Rattle.standing_query.specs.Watches.{WatchListContent}
-use Rattle.script_answers.specs.inner.Service.{Halts, Halted, IsAtStand, Served, Serves, Stand, Unmade}
-use Rattle.answer_text.specs.Watching.{told_since, watching_of}
-use Rattle.answer_text.specs.Given.{answer_lines, edits, is_change, IsBefore, since}
+use Rattle.std.proofs.lemmas.Grind.{flat_map-append}
+use Rattle.script_answers.proofs.Prelude.{action_kept, action_names, action_reply, answer, answer_lines, completes, edits, is_change, is_refusal, merges, names_kept_of_line, names_of_line, since, telling_where, text_of_lines, told_reply, told_since, unchanged, watching_of, Account, Action, Answer, Collection, Contents, Does, Ending, EngineContent, GetsPart, Halted, Halts, HoldsBut, IsActionOf, IsAllWritten, IsAt, IsAtStand, IsBefore, IsNothing, IsOfFiles, IsReadByAction, Keeps, Limits, Line, Reply, Served, Serves, Stand, StandsFor, State, Unmade, VersionContent, WatchListContent}
 use Rattle.script_answers.proofs.TellingLemmas.{told_is}
-use Rattle.script_answers.specs.inner.Tasks.{Does, IsActionOf, IsNothing, IsReadByAction, action_kept, action_names, action_reply, completes, telling_where, told_reply}
-use Rattle.answer_text.specs.declared.action.Action.{Action}
-use Rattle.answer_text.specs.declared.answer.Answer.{Answer}
-use Rattle.script_answers.specs.declared.limits.Limits.{Limits}
 use Rattle.script_answers.proofs.Service.{or_false}
 use Rattle.script_answers.proofs.Stops.{stopped_before, stopped_part}
-
--- a line has this reply, and no line comes after it
-record IsReplied (state : State) (told : Option Reply) (reply : Reply) : Type 0 where
-  lines : with_later told [] ≡ reply.lines
-  after : after_reply state told ≡ reply.after
-  some : IsSome told
-
-replied : (state : State) (told : Option Reply) (reply : Reply) → told ≡ Some reply → IsReplied state told reply
-replied state None reply is = absurd (cc is)
-replied state (Some other) reply is =
-    let same : other ≡ reply = cc is in
-    record { lines = append-nil other.lines ∙ ap (λ (r : Reply). r.lines) same; after = ap (λ (r : Reply). r.after) same; some = refl }
 
 -- what is told changes no state
 after_telling : (b : Bool) (state : State) (reply : Reply) → (telling_where b state reply).after ≡ reply.after
@@ -75,17 +46,40 @@ pub done_told : (limits : Limits) (state : State) (action : Action) (now : Stand
 done_told limits state action now old watches before given keeps watching prior d =
     subst (Done limits state action now) (told_is limits state action old now.engine watches now.watches before now.pending now.held given keeps watching d prior) (done_of limits state action now given d)
 
+-- the text of an answer, with that of what was told after it
+pub text_put : (out : List ℕ) (version : VersionContent) (given : Answer) (o prior : Option Account) (watches : WatchListContent) → out ≡ text_of_lines (answer_lines version given) → o ≡ prior →
+    out ++ text_of_lines (told_since o watches version) ≡ text_of_lines (answer_lines version given ++ told_since prior watches version)
+text_put out version given o prior watches first same =
+    ap (λ (l : List ℕ). l ++ text_of_lines (told_since o watches version)) first
+    ∙ ap (λ (p : Option Account). text_of_lines (answer_lines version given) ++ text_of_lines (told_since p watches version)) same
+    ∙ sym (flat_map-append _ (answer_lines version given) (told_since prior watches version))
+
+-- an action was done once no merge was pending
+pub does_behind : (limits : Limits) (action : Action) (before : Stand) (old engine : EngineContent) (pending : Bool) (held : Option Contents) (watches : WatchListContent) (given : Answer) →
+    ((state : State) → Keeps before.engine before.pending state → Keeps old false state) →
+    ((state : State) → IsAt before.held old false state → watching_of before.watches ≡ state.watches → IsReadByAction state action → Does (action_reply limits state action) state engine (merges action) held watches given) →
+    pending ≡ merges action → (state : State) → IsAtStand before state → IsReadByAction state action → Does (action_reply limits state action) state engine pending held watches given
+does_behind limits action before old engine pending held watches given keeps gives merging state at read =
+    subst (λ (b : Bool). Does (action_reply limits state action) state engine b held watches given) (sym merging)
+    (gives state (record { files = at.files; keeps = keeps state at.keeps }) at.watching read)
+
+-- and what it changed is told
+pub done_behind : (limits : Limits) (action : Action) (before now : Stand) (old : EngineContent) (given : Answer) (prior : Option Account) → ((state : State) → Keeps before.engine before.pending state → Keeps old false state) →
+    IsBefore action old before.watches prior → ((state : State) → IsAtStand before state → IsReadByAction state action → Does (action_reply limits state action) state now.engine now.pending now.held now.watches given) →
+    (state : State) → IsAtStand before state → IsReadByAction state action → Done limits state action now (answer_lines now.engine.version given ++ told_since (since given prior) now.watches now.engine.version)
+done_behind limits action before now old given prior keeps is does state at read = done_told limits state action now old before.watches prior given (keeps state at.keeps) at.watching is (does state at read)
+
 module _ (limits : Limits) where
   -- a line was answered and its answer written
   served_line : (state : State) (line : Line) (reply : Reply) (before now : Stand) (old new : Option (List ℕ)) → answer limits state line ≡ Some reply → IsAtStand now reply.after →
       now.refused ≡ (before.refused || list_any is_refusal reply.lines) → Appends old new (text_of_lines reply.lines) → Served limits state (line ∷ []) before now old new
   served_line state line reply before now old new is at refused written =
-      let o = replied state (answer limits state line) reply is in
+      let all = append-nil reply.lines in
       record {
-        answered = (o.some, tt);
-        at = subst (IsAtStand now) (sym o.after) at;
-        refused_is = refused ∙ ap (λ (l : List (List ℕ)). before.refused || list_any is_refusal l) (sym o.lines);
-        written = subst (λ (l : List (List ℕ)). Appends old new (text_of_lines l)) (sym o.lines) written;
+        answered = (rw is refl, tt);
+        at = rw is at;
+        refused_is = rw is (refused ∙ ap (λ (l : List (List ℕ)). before.refused || list_any is_refusal l) (sym all));
+        written = rw is (subst (λ (l : List (List ℕ)). Appends old new (text_of_lines l)) (sym all) written);
       }
 
   -- an empty line
@@ -122,24 +116,16 @@ module _ (limits : Limits) where
       }
 
   -- it ended once the line was completed, and of its answer a part is written
-  halted_made : (state : State) (action : Action) (line : Line) (all : List (List ℕ)) (how : Ending) (kept : Type 0) (before now : Stand) (old new : Option (List ℕ)) → IsActionOf action line → now.completed ≡ before.completed + 1 →
+  pub halted_made : (state : State) (action : Action) (line : Line) (all : List (List ℕ)) (how : Ending) (kept : Type 0) (before now : Stand) (old new : Option (List ℕ)) → IsActionOf action line → now.completed ≡ before.completed + 1 →
       Done limits state action now all → (IsAllWritten how → ⊥) → (IsOfFiles how → ⊥) → GetsPart old new (text_of_lines all) → Halted limits state (line ∷ []) how kept before now old new
   halted_made state action line all how kept before now old new is count d lost ours part =
-      let o = replied state (answer limits state line) d.reply (is.reply_is limits state ∙ d.is) in
+      let told = is.reply_is limits state ∙ d.is in
       record {
         taken = 1;
         completed = count;
-        stopped = stopped_part limits state (line ∷ []) now.engine.version how kept now.held old new
-            (subst (λ (s : State). StandsFor now.engine.version s.collection) (sym o.after) d.at.keeps.stands)
-            (subst (λ (l : List (List ℕ)). GetsPart old new (text_of_lines l)) (sym (o.lines ∙ d.lines)) part)
-            (λ due. absurd (lost due)) (d.at.files ∙ ap (λ (s : State). Some s.files) (sym o.after)) ours;
+        stopped = stopped_part limits state (line ∷ []) now.engine.version how kept now.held old new (rw told d.at.keeps.stands)
+            (rw told (subst (λ (l : List (List ℕ)). GetsPart old new (text_of_lines l)) (sym (append-nil d.reply.lines ∙ d.lines)) part)) (λ due. absurd (lost due)) (rw told d.at.files) ours;
       }
-
-  pub halts_made : (action : Action) (line : Line) (all : List (List ℕ)) (how : Ending) (kept : Type 0) (before now : Stand) (old new : Option (List ℕ)) → IsActionOf action line → now.completed ≡ before.completed + 1 →
-      ((state : State) → IsAtStand before state → IsReadByAction state action → Done limits state action now all) → (IsAllWritten how → ⊥) → (IsOfFiles how → ⊥) →
-      GetsPart old new (text_of_lines all) → Halts limits (line ∷ []) how kept before now old new
-  halts_made action line all how kept before now old new is count done lost ours part = λ state at read.
-      halted_made state action line all how kept before now old new is count (done state at (is.reads state read.0)) lost ours part
 
   -- it ended while the answer was made: the line is completed where a change was
   pub halts_unsaid : (action : Action) (line : Line) (given : Answer) (how : Ending) (kept : Type 0) (before now : Stand) (old : Option (List ℕ)) → IsActionOf action line → now.completed ≡ before.completed + completes given →

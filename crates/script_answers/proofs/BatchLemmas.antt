@@ -1,31 +1,20 @@
 -- Batches: the queries of lines, their answers, and what becomes of the engine.
-use Rattle.std.proofs.Common.{◌≡◌, ℕ, ◌<◌, zero, suc, Bool, true, false, List, [], ◌∷◌, ◌++◌, length, take, drop, arith, Option, Some, None, IsSome, refl, sym, ap, ◌∙◌, subst, append_assoc}
+use Rattle.std.proofs.Common.{◌≡◌, ℕ, ◌<◌, zero, suc, Bool, true, false, List, [], ◌∷◌, ◌++◌, length, take, drop, arith, Option, Some, None, IsSome, refl, sym, ap, ◌∙◌, subst}
 use Rattle.std.specs.Prelude.{flat_map, if◌then◌else◌}
 use Rattle.gcl_model.specs.Extents.{Extent}
-use Rattle.gcl_model.specs.Texts.{Text}
+use Rattle.script_answers.proofs.Prelude.{after_reply, answer, answers, ask_lines, asked_lines, begun, command_asking, found_in, found_lines, is_query, lines_by, query_lines, refusal_lines, reply, state_after, text_of, unchanged, with_later, AllAnswered, AreAsked, Ask, AsksLine, EngineContent, Keeps, Limits, Line, Reply, State, Text}
 use Rattle.gcl_model.specs.Forms.{Form}
 use Rattle.gcl_model.specs.Wide.{wide}
-use Rattle.gcl_model.specs.Collections.{text_of}
-use Rattle.collection.specs.Engines.{EngineContent}
 use Rattle.gcl_parser.specs.declared.fault.QueryFault.{QueryFault}
 use Rattle.gcl_parser.specs.Grammar.{IsQueryWithin}
 use Rattle.gcl_parser.specs.Refusal.{refused}
 use Rattle.gcl_parser.specs.QueryForm.{query_form}
 use Rattle.gcl_parser.proofs.QueryForms.{query_forms_are_of_queries}
-use Rattle.script_lang.specs.Lines.{Line}
 use Rattle.script_lang.specs.declared.refusals.Refusal.TheVariants.{Query}
-use Rattle.query_lanes.specs.Answers.{found_in}
-use Rattle.query_lanes.specs.declared.asks.Ask.{Ask}
 use Rattle.query_lanes.specs.declared.asks.Asked.{Asked}
 use Rattle.query_lanes.specs.declared.asks.Asked.TheVariants.{All, First, Number}
 use Rattle.query_lanes.specs.Merges.{IsMergedWhere}
-use Rattle.script_answers.specs.States.{State, Keeps}
-use Rattle.script_answers.specs.Stopped.{begun}
-use Rattle.script_answers.specs.Answers.{Reply, asked_lines, query_lines, lines_by, unchanged, reply, answer, answers, is_query, after_reply, state_after, with_later, AllAnswered, AreRead}
-use Rattle.answer_text.specs.Texts.{found_lines, refusal_lines}
-use Rattle.script_answers.specs.inner.Asks.{ask_lines, command_asking, AsksLine, AreAsked}
-use Rattle.script_answers.specs.declared.limits.Limits.{Limits}
-use Rattle.script_answers.proofs.TaskLemmas.{of_query}
+use Rattle.script_answers.proofs.TaskLemmas.{of_asking, of_query}
 
 lines_found : (asked : Asked) (list : List Extent) → found_lines (found_in asked list) ≡ asked_lines asked list
 lines_found All list = refl
@@ -93,13 +82,6 @@ batch_answered limits state (ask ∷ asks) (line ∷ batch) are =
     let is = batch_answers limits state ask line are.0 in
     (subst IsSome (sym is) refl, subst (λ (o : Option Reply). AllAnswered limits (after_reply state o) batch) (sym is) (batch_answered limits state asks batch are.1))
 
--- it has a query for each line
-pub batch_length : (asks : List Ask) (batch : List Line) → AreAsked asks batch → length batch ≡ length asks
-batch_length [] [] are = refl
-batch_length [] (line ∷ batch) are = absurd are
-batch_length (ask ∷ asks) [] are = absurd are
-batch_length (ask ∷ asks) (line ∷ batch) are = ap suc (batch_length asks batch are.1)
-
 -- a query more
 pub asked_more : (asks : List Ask) (batch : List Line) (ask : Ask) (line : Line) → AreAsked asks batch → AsksLine ask line → AreAsked (asks ++ ask ∷ []) (batch ++ line ∷ [])
 asked_more [] [] ask line are is = (is, tt)
@@ -115,16 +97,11 @@ asked_front (suc n) [] (line ∷ batch) are = absurd are
 asked_front (suc n) (ask ∷ asks) [] are = absurd are
 asked_front (suc n) (ask ∷ asks) (line ∷ batch) are = (are.0, asked_front n asks batch are.1)
 
-asked_is_query : (asked : Asked) (query : List ℕ) → is_query (command_asking asked query) ≡ true
-asked_is_query All query = refl
-asked_is_query (First most) query = refl
-asked_is_query Number query = refl
-
 -- of the lines of a batch that are left the first one may be answered in part
 pub one_begun : (i : ℕ) (asks : List Ask) (batch : List Line) → AreAsked asks batch → i < length batch → begun (drop i batch) ≡ 1
 one_begun i [] [] are lt = absurd (omega (arith, lt))
 one_begun i [] (line ∷ batch) are lt = absurd are
 one_begun i (ask ∷ asks) [] are lt = absurd are
 one_begun zero (ask ∷ asks) (line ∷ batch) are lt =
-    ap (λ (b : Bool). if b then 1 else 0) (of_query false is_query ask line are.0 ∙ asked_is_query ask.asked are.0.asks.query)
+    ap (λ (b : Bool). if b then 1 else 0) (of_query false is_query ask line are.0 ∙ of_asking (λ command. is_query command ≡ true) ask.asked are.0.asks.query refl (λ most. refl) refl)
 one_begun (suc i) (ask ∷ asks) (line ∷ batch) are lt = one_begun i asks batch are.1 (omega (arith, lt))

@@ -6,24 +6,10 @@ use Rattle.std.specs.Io.KnownBytes.{Appends}
 use Rattle.std.proofs.Math.Dec.{ltb}
 use Rattle.std.proofs.lemmas.Bool.{cases_Bool, ltb-false, ltb-true}
 use Rattle.std.proofs.lemmas.List.{take-map}
-use Rattle.gcl_model.specs.Collections.{text_of}
-use Rattle.gcl_model.specs.Texts.{Text}
-use Rattle.live_version.specs.StandsFor.{StandsFor}
-use Rattle.script_lang.specs.Answers.{is_refusal}
-use Rattle.script_lang.specs.Lines.{Line, text_of_lines}
-use Rattle.query_lanes.specs.Answers.{answer_in}
-use Rattle.query_lanes.specs.declared.asks.Ask.{Ask}
+use Rattle.std.proofs.lemmas.Slice.Zip.{AllZip-long}
+use Rattle.script_answers.proofs.Prelude.{answer_in, answers, ask_lines, begun, found_lines, founds_text, is_refusal, state_after, text_of, text_of_lines, watching_of, AreAsked, AsksLine, Ask, Ending, GetsPart, Halts, IsAllWritten, IsAtStand, IsOfFiles, Keeps, Limits, Line, Serves, Stand, StandsFor, State, Text}
 use Rattle.query_lanes.specs.declared.asks.Found.{Found}
-use Rattle.script_answers.specs.States.{State, Keeps}
-use Rattle.script_answers.specs.Answers.{answers, state_after}
-use Rattle.script_answers.specs.Stopped.{Ending, IsAllWritten, IsOfFiles, begun}
-use Rattle.answer_text.specs.Puts.{founds_text, GetsPart}
-use Rattle.script_answers.specs.inner.Asks.{AreAsked, ask_lines}
-use Rattle.answer_text.specs.Texts.{found_lines}
-use Rattle.script_answers.specs.inner.Service.{Halts, IsAtStand, Serves, Stand}
-use Rattle.answer_text.specs.Watching.{watching_of}
-use Rattle.script_answers.specs.declared.limits.Limits.{Limits}
-use Rattle.script_answers.proofs.BatchLemmas.{asked_front, batch_answered, batch_length, batch_lines, batch_state, one_begun}
+use Rattle.script_answers.proofs.BatchLemmas.{asked_front, batch_answered, batch_lines, batch_state, one_begun}
 use Rattle.script_answers.proofs.Scripts.{all_held}
 use Rattle.script_answers.proofs.Stops.{stopped_before}
 
@@ -46,7 +32,7 @@ module _ (limits : Limits) (asks : List Ask) (batch : List Line) (before after :
       ((state : State) → Keeps before.engine before.pending state → founds ≡ map (answer_in (text_of state.collection)) asks) →
       after.refused ≡ (before.refused || list_any is_refusal (flat_map found_lines founds)) → Appends old new (founds_text founds) → Serves limits batch before after old new
   serves_batch founds old new many count keeps is refused written = record {
-    completed = let long = batch_length asks batch are in omega (arith, count, long, many);
+    completed = let long = AllZip-long AsksLine asks batch are in omega (arith, count, long, many);
     served = λ state at read.
         let lines : answers limits state batch ≡ flat_map found_lines founds =
         batch_lines limits state asks batch are ∙ sym (lines_of_founds (text_of state.collection) asks) ∙ ap (flat_map found_lines) (sym (is state at.keeps)) in
@@ -86,7 +72,7 @@ module _ (limits : Limits) (asks : List Ask) (batch : List Line) (before after :
       let i : ℕ = after.completed - before.completed in
       let some : before.completed ≤ after.completed = counted.0 in
       let few : after.completed ≤ before.completed + length founds = counted.1 in
-      let within : i ≤ length batch = let long = batch_length asks batch are in omega (arith, few, long, many) in
+      let within : i ≤ length batch = let long = AllZip-long AsksLine asks batch are in omega (arith, few, long, many) in
       let left : state_after limits state (take i batch) ≡ state = batch_state limits state (take i asks) (take i batch) (asked_front i asks batch are) in
       let files : after.held ≡ Some (state_after limits state (take i batch)).files = held ∙ at.files ∙ ap (λ (s : State). Some s.files) (sym left) in
       record {

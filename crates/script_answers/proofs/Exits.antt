@@ -1,24 +1,18 @@
 -- What is counted and kept where a call of a line ends.
-use Rattle.std.proofs.Common.{◌≡◌, ℕ, ◌+◌, ◌≤◌, Bool, true, false, List, [], ◌∷◌, ◌++◌, length, take, drop, length-append, Result, Ok, Err, IsErrOf, OnOk, sym, ap, ◌∙◌, subst, arith}
+use Rattle.std.proofs.Common.{◌≡◌, ℕ, ◌+◌, ◌≤◌, Bool, true, false, List, [], ◌∷◌, ◌++◌, length, take, drop, length-append, Result, Ok, Err, IsErrOf, OnOk, refl, sym, ap, ◌∙◌, subst, arith}
 use Rattle.std.proofs.lemmas.List.{append-nil, drop_all, take_all}
 use Rattle.std.specs.Result.{IsErrAnd}
 use Rattle.outside.specs.declared.faults.WriteError.{WriteError}
 use Rattle.outside.specs.declared.faults.WriteError.TheVariants.{Failed as WriteFailed, NoMemory as WriteNoMemory}
-use Rattle.outside.specs.declared.faults.FileError.{FileError}
+use Rattle.script_answers.proofs.Prelude.{merges_pending, of_files, of_write, Ask, CanBeSaved, Counts, EngineContent, FileError, IsServing, IsSureOfFiles, Leaves, LeavesSink, VersionContent}
 use Rattle.outside.specs.declared.faults.FileError.TheVariants.{Failed as FileFailed, NoMemory as FileNoMemory}
 use Rattle.outside.specs.Causes.{CountsFileFault, CountsWriteFault, HasFileCause, HasWriteCause}
-use Rattle.live_version.specs.Contents.{VersionContent}
 use Rattle.live_version.specs.StandsFor.{Keeps as StandsOn}
-use Rattle.collection.specs.Engines.{EngineContent}
-use Rattle.image_file.specs.Images.{CanBeSaved}
 use Rattle.collection.specs.declared.engine.Opened.{Opened}
-use Rattle.query_lanes.specs.declared.asks.Ask.{Ask}
 use Rattle.script_answers.specs.declared.progress.Progress.{Progress}
 use Rattle.query_lanes.specs.Merges.{IsMergedWhere}
-use Rattle.script_answers.specs.Faults.{of_files, of_write}
 use Rattle.script_answers.specs.declared.run_fault.RunFault.{RunFault}
 use Rattle.script_answers.specs.declared.run_fault.RunFault.TheVariants.{Write, Files, NoMemory}
-use Rattle.script_answers.specs.inner.Service.{Counts, IsServing, IsSureOfFiles, merges_pending}
 use Rattle.script_answers.proofs.Service.{sure_as}
 
 -- the error of a result that is known to be one
@@ -48,24 +42,18 @@ pub not_files : (fault : WriteError) → of_write fault ≡ Files → ⊥
 not_files WriteFailed same = cc same
 not_files WriteNoMemory same = cc same
 
-pub short_write : NoMemory ≡ Write → ⊥
-short_write same = cc same
-
-pub short_files : NoMemory ≡ Files → ⊥
-short_files same = cc same
-
 -- a fault of the sink, or want of memory there
 pub sink_ended : {T U : Type 0} (before mid now : ℕ) (r : Result T RunFault) (fault : WriteError) → mid ≡ before → IsErrAnd r (λ e. e ≡ of_write fault) → CountsWriteFault {T = U} mid now (Err fault) → HasWriteCause {T = U} mid now (Err fault) →
     Counts before now (IsErrOf r Write)
 sink_ended {T} before mid now r WriteFailed same is counts cause =
     subst (λ (n : ℕ). Counts n now (IsErrOf r Write)) same (record { later = cause.later; rose = λ of. counts; same = λ no. absurd (no (of_err r Write is)) })
-sink_ended before mid now r WriteNoMemory same is counts cause = calm before now r NoMemory Write (counts ∙ same) is short_write
+sink_ended before mid now r WriteNoMemory same is counts cause = calm before now r NoMemory Write (counts ∙ same) is (λ same. cc same)
 
 -- a fault of the files, or want of memory there
 pub files_ended : {T U : Type 0} (before now : ℕ) (r : Result T RunFault) (fault : FileError) → IsErrAnd r (λ e. e ≡ of_files fault) → CountsFileFault {T = U} before now (Err fault) → HasFileCause {T = U} before now (Err fault) →
     Counts before now (IsErrOf r Files)
 files_ended before now r FileFailed is counts cause = record { later = cause.later; rose = λ of. counts; same = λ no. absurd (no (of_err r Files is)) }
-files_ended before now r FileNoMemory is counts cause = calm before now r NoMemory Files counts is short_files
+files_ended before now r FileNoMemory is counts cause = calm before now r NoMemory Files counts is (λ same. cc same)
 
 -- what was counted of a call is counted of the one that hands its error on
 pub counts_as : {T U : Type 0} (before mid now : ℕ) (r : Result T RunFault) (fault wanted : RunFault) → mid ≡ before → IsErrAnd r (λ e. e ≡ fault) → Counts mid now (IsErrOf {T = U} (Err fault) wanted) → Counts before now (IsErrOf r wanted)
@@ -93,6 +81,51 @@ left before now v wanted counts = counts.same (λ of. cc of)
 pub unsure : {T : Type 0} (r : Result T RunFault) (fault : FileError) → IsErrAnd r (λ e. e ≡ of_files fault) → IsSureOfFiles r → ⊥
 unsure {T} r FileFailed is sure = sure_as r Files is sure
 unsure {T} r FileNoMemory is sure = sure_as r NoMemory is sure
+
+-- ---- what a call leaves where it ends
+
+-- of want of memory, where it asks no file
+pub short_sink : {T : Type 0} (before now : ℕ) (r : Result T RunFault) → IsErrAnd r (λ e. e ≡ NoMemory) → now ≡ before → LeavesSink before now r
+short_sink before now r is same = record { ours = λ of. cc (err_of r NoMemory Files is of); sink = calm before now r NoMemory Write same is (λ same. cc same) }
+
+-- of success
+pub done_sink : (before now : ℕ) → now ≡ before → LeavesSink {T = Unit} before now (Ok tt)
+done_sink before now same = record { ours = λ of. cc of; sink = calm_done before now Write same }
+
+-- what a call left is what the one leaves that hands its error on
+pub sink_as : {T U : Type 0} (before now : ℕ) (r : Result T RunFault) (fault : RunFault) → IsErrAnd r (λ e. e ≡ fault) → LeavesSink {T = U} before now (Err fault) → LeavesSink before now r
+sink_as before now r fault is leaves = record { ours = λ of. leaves.ours (ap Err (err_of r fault Files is of)); sink = counts_as before before now r fault Write refl is leaves.sink }
+
+module _ {U C A : Type 0} (names kept : List (List ℕ)) (sink sink' faults faults' : ℕ) (quiet : names ≡ [] → U) (unsaved : kept ≡ [] → C) where
+  -- of success
+  pub done_left : A → sink' ≡ sink → faults' ≡ faults → Leaves {T = Unit} names kept U C A sink sink' faults faults' (Ok tt)
+  done_left all same calm_files = record { files = record { quiet = quiet; unsaved = unsaved; sure = λ due. all }; sink = calm_done sink sink' Write same; faults = calm_done faults faults' Files calm_files }
+
+  -- of want of memory
+  pub short_left : {T : Type 0} (r : Result T RunFault) → IsErrAnd r (λ e. e ≡ NoMemory) → sink' ≡ sink → faults' ≡ faults → Leaves names kept U C A sink sink' faults faults' r
+  short_left r is same calm_files = record {
+    files = record { quiet = quiet; unsaved = unsaved; sure = λ due. absurd (sure_as r NoMemory is due) };
+    sink = calm sink sink' r NoMemory Write same is (λ same. cc same);
+    faults = calm faults faults' r NoMemory Files calm_files is (λ same. cc same);
+  }
+
+  -- of a fault of the files
+  pub files_left : {T V : Type 0} (r : Result T RunFault) (fault : FileError) → IsErrAnd r (λ e. e ≡ of_files fault) → sink' ≡ sink → CountsFileFault {T = V} faults faults' (Err fault) → HasFileCause {T = V} faults faults' (Err fault) →
+      Leaves names kept U C A sink sink' faults faults' r
+  files_left r fault is same counts cause = record {
+    files = record { quiet = quiet; unsaved = unsaved; sure = λ due. absurd (unsure r fault is due) };
+    sink = calm sink sink' r (of_files fault) Write same is (not_write fault);
+    faults = files_ended faults faults' r fault is counts cause;
+  }
+
+  -- of a fault of the sink, which counted none until then
+  pub sink_left : {T V : Type 0} (mid : ℕ) (r : Result T RunFault) (fault : WriteError) → IsErrAnd r (λ e. e ≡ of_write fault) → A → mid ≡ sink → CountsWriteFault {T = V} mid sink' (Err fault) → HasWriteCause {T = V} mid sink' (Err fault) →
+      faults' ≡ faults → Leaves names kept U C A sink sink' faults faults' r
+  sink_left mid r fault is all same counts cause calm_files = record {
+    files = record { quiet = quiet; unsaved = unsaved; sure = λ due. all };
+    sink = sink_ended sink mid sink' r fault same is counts cause;
+    faults = calm faults faults' r (of_write fault) Files calm_files is (not_files fault);
+  }
 
 -- versions are no more than lines
 pub numbered : (new mid old lines : ℕ) (merging pending asked : Bool) → merging ≡ asked → new + merges_pending asked ≤ mid + 1 → mid ≤ old + merges_pending pending → old + merges_pending pending ≤ lines → new + merges_pending merging ≤ lines + 1

@@ -3,8 +3,8 @@ pub mod ActionSteps
 pub mod BatchLemmas
 pub mod BatchSteps
 mod Exits
-pub mod ImageLemmas
 pub mod LocalEdits
+mod Prelude
 pub mod Replies
 pub mod SaveReplies
 pub mod Scripts

@@ -2,21 +2,12 @@
 use Rattle.std.proofs.Common.{◌≡◌, Bool, true, false, ℕ, ◌+◌, ◌-◌, List, Option, Some, None, sym, subst, arith}
 use Rattle.std.specs.Prelude.{IfSome, if◌then◌else◌}
 use Rattle.gcl_locality.specs.Agreement.{AgreeOutside}
-use Rattle.gcl_model.specs.Collections.{width_of}
+use Rattle.script_answers.proofs.Prelude.{file_with_id, files_of, is_change, last_of, since, version_text, width_of, Account, Action, Answer, CanBeSaved, EngineContent, IsBefore, IsLocal, VersionContent, WatchListContent}
 use Rattle.address_space.specs.Runs.{FileEntry}
-use Rattle.image_file.specs.Images.{CanBeSaved}
-use Rattle.live_version.specs.Changes.{file_with_id}
-use Rattle.live_version.specs.Contents.{VersionContent, files_of, version_text}
-use Rattle.manifest_publish.specs.Accounts.{Account}
 use Rattle.collection.specs.Changes.{DeletesFileFrom, IsAdd}
-use Rattle.collection.specs.Engines.{EngineContent, last_of}
 use Rattle.collection.specs.declared.engine.Added.{Added}
 use Rattle.collection.proofs.EngineLemmas.{last_is}
 use Rattle.change_search.specs.Laws.{AddsAgree, DeletesAgree}
-use Rattle.standing_query.specs.Watches.{WatchListContent}
-use Rattle.answer_text.specs.declared.action.Action.{Action}
-use Rattle.answer_text.specs.declared.answer.Answer.{Answer}
-use Rattle.answer_text.specs.Given.{is_change, IsBefore, IsLocal, since}
 
 -- an add changes it at the addresses that the file got
 pub added_local : AddsAgree → (old new : EngineContent) (name : List ℕ) (tokens : List (List ℕ)) (added : Added) → CanBeSaved old.version → IsAdd old new name tokens added →

@@ -1,34 +1,20 @@
 -- The replies to saving and opening, by what an engine and the files do.
-use Rattle.std.proofs.Common.{◌≡◌, ℕ, ◌+◌, ◌≤◌, ◌<◌, inl, inr, Bool, true, false, List, [], ◌∷◌, length, bytes_eq, nat_lt, Option, None, Some, refl, sym, ap, ◌∙◌, subst, arith}
+use Rattle.std.proofs.Common.{◌≡◌, ℕ, ◌+◌, ◌^◌, ◌≤◌, ◌<◌, inl, inr, false, List, [], ◌∷◌, length, bytes_eq, Option, None, Some, refl, sym, ap, ◌∙◌, subst, arith}
 use Rattle.std.specs.Option.{option_map}
 use Rattle.std.proofs.lemmas.Bool.{cases_Bool}
-use Rattle.std.proofs.lemmas.Bool.Decides.{nat_tests}
 use Rattle.std.proofs.lemmas.List.{length-map}
 use Rattle.std.proofs.lemmas.Slice.Eq.{bytes_eq-Decides}
-use Rattle.outside.specs.Contents.{Contents, ChangesOnly, changed_at}
-use Rattle.gcl_model.specs.Limits.{most_file}
-use Rattle.gcl_model.specs.Tokens.{tokens_of}
-use Rattle.gcl_model.specs.Collections.{Collection, empty_from, with_file}
+use Rattle.script_answers.proofs.Prelude.{changed_at, empty_from, empty_version, entry_of, files_of, most_file, opened_line, ranges_of, reading_reply, tokens_of, with_file, CanBeSaved, ChangesOnly, Collection, Contents, EngineContent, Follows, IsAt, IsEngine, IsFresh, Keeps, Reply, StandsFor, State, Unmade, VersionContent}
 use Rattle.address_space.proofs.CollectionLemmas.{adding_keeps_soundness}
-use Rattle.live_version.specs.Contents.{VersionContent, files_of, ranges_of}
-use Rattle.live_version.specs.Changes.{empty_version}
-use Rattle.live_version.specs.StandsFor.{StandsFor, entry_of}
-use Rattle.image_file.specs.Images.{CanBeSaved}
+use Rattle.image_file.proofs.ImageLaws.{spelled_short}
 use Rattle.image_file.proofs.Saving.{added_short, deleted_saves, start_saves}
-use Rattle.image_read.specs.Answers.{IsImageOf}
-use Rattle.collection.specs.Engines.{EngineContent, IsEngine}
+use Rattle.image_read.specs.Answers.{IsImageOf, IsReading}
+use Rattle.image_read.proofs.Readings.{reads}
+use Rattle.word_tokens.proofs.PartLemmas.{tokens_within}
+use Rattle.gcl_model.proofs.Lists.{all_weaker}
 use Rattle.collection.specs.Changes.{Adopts, AddsFileTo, DeletesFileFrom}
-use Rattle.script_lang.specs.Answers.{opened_line}
 use Rattle.script_lang.specs.declared.refusals.Refusal.TheVariants.{NotImage}
-use Rattle.script_answers.specs.Images.{IsReading, image_of}
-use Rattle.script_answers.specs.States.{State, Keeps, IsFresh}
-use Rattle.script_answers.specs.Answers.{Reply, bytes_reply, reading_reply, save_reply, state_keeping}
-use Rattle.script_lang.specs.Answers.{saved_line}
-use Rattle.script_answers.specs.inner.Service.{IsAt, Unmade}
-use Rattle.script_answers.specs.inner.Tasks.{Follows}
 use Rattle.answer_text.specs.declared.answer.Answer.TheVariants.{Opened, Refused}
-use Rattle.script_answers.specs.declared.limits.Limits.{Limits}
-use Rattle.script_answers.proofs.ImageLemmas.{reads, spelled_short, tokens_short}
 use Rattle.script_answers.proofs.Replies.{refused_follows}
 
 -- after a keep that failed, all names but one hold what they held
@@ -57,27 +43,18 @@ reading_refused state bytes engine none keeps reading =
 read_as : (state : State) (bytes : List ℕ) (v : VersionContent) → (image : IsImageOf bytes v) → IsReading bytes (state.images bytes) → reading_reply state (state.images bytes) ≡ reading_reply state (Some image.1)
 read_as state bytes v image reading = ap (reading_reply state) (reads bytes (state.images bytes) image.0 image.1 image.2 reading)
 
-pub kept_by_opening : (state : State) (bytes : List ℕ) (old opened : VersionContent) (new : EngineContent) → IsImageOf bytes opened → Adopts old opened new.version → IsReading bytes (state.images bytes) →
-    Keeps new false (reading_reply state (state.images bytes)).after
-kept_by_opening state bytes old opened new image adopts reading =
-    let ranges : ranges_of new.version.slots ≡ ranges_of opened.slots = ap ranges_of adopts.slots in
-    subst (λ (r : Reply). Keeps new false r.after) (sym (read_as state bytes opened image reading)) (record {
-      stands = adopts.stands image.1 image.3.stands;
-      slots = sym image.3.ranges ∙ sym ranges;
-    })
-
 pub follows_opening : (state : State) (bytes : List ℕ) (old opened : VersionContent) (new : EngineContent) (files : ℕ) → IsImageOf bytes opened → Adopts old opened new.version →
     files ≡ length (files_of opened.slots) → IsReading bytes (state.images bytes) → Follows (reading_reply state (state.images bytes)) state new false (Opened files)
 follows_opening state bytes old opened new files image adopts counted reading =
     let number : files ≡ length image.1.files = counted ∙ ap length image.3.stands.files ∙ length-map image.1.files entry_of in
     record {
-      keeps = kept_by_opening state bytes old opened new image adopts reading;
+      keeps = subst (λ (r : Reply). Keeps new false r.after) (sym (read_as state bytes opened image reading))
+          (record { stands = adopts.stands image.1 image.3.stands; slots = sym image.3.ranges ∙ sym (ap ranges_of adopts.slots) });
       lines = ap (λ (r : Reply). r.lines) (read_as state bytes opened image reading) ∙ ap (λ n. opened_line n ∷ []) (sym number);
       still = λ no. absurd (cc no);
     }
 
 -- what can be saved stays so
-
 pub opened_savable : (bytes : List ℕ) (old opened new : VersionContent) → IsImageOf bytes opened → Adopts old opened new → CanBeSaved new
 opened_savable bytes old opened new image adopts = (
   image.1,
@@ -91,7 +68,8 @@ added_savable old new name content can adds few =
       record {
         stands = step.1;
         sound = adding_keeps_soundness can.0 name (tokens_of content) can.1.sound step.0;
-        short = added_short can.0 name (tokens_of content) can.1.short (tokens_short content (omega (arith, few)));
+        short = added_short can.0 name (tokens_of content) can.1.short
+            (all_weaker (λ (t : List ℕ). length t ≤ length content) (λ (t : List ℕ). length t < 2 ^ 56) (λ t short. omega (arith, short, few)) (tokens_of content) (tokens_within content));
       },
     )
 

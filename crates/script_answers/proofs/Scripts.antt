@@ -1,36 +1,10 @@
 -- Answers to lists of lines that are put together.
-use Rattle.std.proofs.Common.{◌≡◌, ℕ, ◌+◌, ◌-◌, ◌≤◌, inl, inr, Bool, true, false, nat_lt, List, [], ◌∷◌, ◌++◌, length, take, drop, zero, suc, refl, sym, ap, ◌∙◌, append_assoc, append-nil, Option, Some, None, IsSome, length-append, subst, arith, take-add}
-use Rattle.std.proofs.lemmas.List.{take-append-drop, length-drop, drop-drop, take-append-le, drop-append-le}
+use Rattle.std.proofs.Common.{◌≡◌, ℕ, ◌+◌, ◌-◌, inl, inr, List, [], ◌∷◌, ◌++◌, take, zero, suc, refl, sym, ap, ◌∙◌, append_assoc, Option, Some, None, IsSome}
 use Rattle.std.proofs.lemmas.List.Elements.{Contains-append_left}
-use Rattle.std.proofs.Math.Seq.{take-append_seam, drop-append_seam}
-use Rattle.std.specs.List.{list_any}
-use Rattle.std.specs.Prelude.{◌||◌, Err, if◌then◌else◌, ◌⊎◌, Contains, flat_map}
-use Rattle.std.specs.Option.{option_map}
-use Rattle.std.specs.Io.KnownBytes.{Appends}
-use Rattle.std.proofs.lemmas.List.Folds.{list_any-append}
+use Rattle.std.specs.Prelude.{◌⊎◌, Contains, flat_map}
 use Rattle.std.proofs.lemmas.Grind.{flat_map-append}
-use Rattle.std.proofs.KnownBytes.{Appends-trans, Appends-nil}
-use Rattle.outside.specs.Contents.{Contents}
-use Rattle.outside.specs.declared.faults.FileError.{FileError}
-use Rattle.gcl_model.specs.Limits.{address_end}
-use Rattle.gcl_model.specs.Tokens.{tokens_of}
-use Rattle.gcl_model.specs.Collections.{Collection, has_file, width_of}
-use Rattle.live_version.specs.Contents.{VersionContent}
+use Rattle.script_answers.proofs.Prelude.{after_reply, answer, answers, reply, state_after, text_of_lines, with_later, AllAnswered, AreRead, Contents, GetsPart, HoldsBut, Limits, Line, Reply, State}
 use Rattle.live_version.proofs.PartLaws.{both_empty}
-use Rattle.script_lang.specs.Lines.{Line, text_of_lines}
-use Rattle.script_lang.specs.Answers.{file_line, gone_line, is_refusal}
-use Rattle.script_lang.specs.Commands.{command_of}
-use Rattle.script_lang.specs.declared.commands.Command.{Command}
-use Rattle.script_lang.specs.declared.commands.Command.TheVariants.{Blank, Add, Del, Find, Count, Top, Files, Merge, Shards, Save, Load, Wrong}
-use Rattle.script_lang.specs.declared.refusals.Refusal.TheVariants.{LongLine, NoFile, TooLong, NoAddresses, NotEmpty}
-use Rattle.live_version.specs.StandsFor.{StandsFor}
-use Rattle.collection.specs.Engines.{EngineContent}
-use Rattle.script_answers.specs.States.{State, Keeps}
-use Rattle.script_answers.specs.Answers.{Reply, answer, after_reply, state_after, with_later, answers, AllAnswered, AreRead, names_kept, names_kept_of, names_kept_of_line, unchanged, content_reply, add_reply, image_reply, open_reply, reading_reply, last_address, state_with_file, state_without_file, reply}
-use Rattle.answer_text.specs.Texts.{refusal_lines}
-use Rattle.answer_text.specs.Puts.{GetsPart}
-use Rattle.script_answers.specs.Stopped.{HoldsBut}
-use Rattle.script_answers.specs.declared.limits.Limits.{Limits}
 
 later_lines : (o : Option Reply) (a b : List (List ℕ)) → IsSome o → with_later o (a ++ b) ≡ with_later o a ++ b
 later_lines None a b some = absurd (cc some)
@@ -40,16 +14,6 @@ later_lines (Some reply) a b some = sym (append_assoc reply.lines a b)
 later_begin : (o : Option Reply) (a b rest : List (List ℕ)) → b ≡ a ++ rest → (more : List (List ℕ)) × (with_later o b ≡ with_later o a ++ more)
 later_begin None a b rest is = ([], refl)
 later_begin (Some reply) a b rest is = (rest, ap (λ l. reply.lines ++ l) is ∙ sym (append_assoc reply.lines a rest))
-
--- the lines that come next, and those after them
-pub take_more : {T : Type 0} (n : ℕ) (all batch rest : List T) → drop n all ≡ batch ++ rest → take (n + length batch) all ≡ take n all ++ batch
-take_more n all batch rest is = take-add n (length batch) all ∙ ap (λ l. take n all ++ take (length batch) l) is ∙ ap (λ l. take n all ++ l) (take-append_seam batch rest)
-
--- their places lie within
-pub more_within : {T : Type 0} (n : ℕ) (all batch rest : List T) → n ≤ length all → drop n all ≡ batch ++ rest → n + length batch ≤ length all
-more_within n all batch rest within is =
-    let left : length all - n ≡ length batch + length rest = sym (length-drop n all) ∙ ap length is ∙ length-append batch rest in
-    omega (arith, left, within)
 
 -- the first of some lines and others
 pub take_first : {T : Type 0} (k : ℕ) (xs ys : List T) → (more : List T) × (take k (xs ++ ys) ≡ take k xs ++ more)
@@ -105,11 +69,6 @@ module _ (limits : Limits) where
         whole = whole ∙ ap (λ l. l ++ text_of_lines begin.0) part.whole ∙ append_assoc part.part part.rest (text_of_lines begin.0);
         written = part.written;
       }
-
-  -- a part of the answers to a beginning is one of all
-  pub part_of_all : (s : State) (all : List Line) (n : ℕ) (old new : Option (List ℕ)) → GetsPart old new (text_of_lines (answers limits s (take n all))) → GetsPart old new (text_of_lines (answers limits s all))
-  part_of_all s all n old new part =
-      subst (λ (l : List Line). GetsPart old new (text_of_lines (answers limits s l))) (take-append-drop n all) (part_of_more s (take n all) (drop n all) old new part)
 
   -- what lines before others open is read rightly
   pub read_front : (start : State) (xs ys : List Line) → AreRead limits start (xs ++ ys) → AreRead limits start xs

@@ -1,29 +1,19 @@
 -- Some lines were answered, and then others.
-use Rattle.std.proofs.Common.{◌≡◌, ℕ, ◌+◌, ◌≤◌, ◌||◌, Bool, true, false, List, [], ◌∷◌, ◌++◌, length, refl, sym, ap, ◌∙◌, append_assoc, append-nil, Option, length-append, subst, arith}
+use Rattle.std.proofs.Common.{◌≡◌, ℕ, ◌+◌, ◌||◌, Bool, true, false, List, [], ◌∷◌, ◌++◌, length, refl, sym, ap, ◌∙◌, append_assoc, append-nil, Option, length-append, subst, arith}
 use Rattle.std.proofs.lemmas.Grind.{flat_map-append}
 use Rattle.std.proofs.lemmas.List.Folds.{list_any-append}
 use Rattle.std.proofs.KnownBytes.{Appends-trans, Appends-nil}
 use Rattle.std.specs.List.{list_any}
 use Rattle.std.specs.Io.KnownBytes.{Appends}
-use Rattle.script_lang.specs.Lines.{Line, text_of_lines}
-use Rattle.script_lang.specs.Answers.{is_refusal}
-use Rattle.query_lanes.specs.declared.asks.Ask.{Ask}
-use Rattle.outside.specs.Contents.{Contents}
-use Rattle.script_answers.specs.States.{State}
-use Rattle.script_answers.specs.Answers.{answers, names_kept_of, names_kept_of_line, names_of, names_of_line, state_after, AreRead}
-use Rattle.script_answers.specs.Stopped.{Ending, IsAllWritten, IsOfFiles, IsStopped}
-use Rattle.script_answers.specs.Faults.{of_files, of_write}
-use Rattle.script_answers.specs.inner.Asks.{AreAsked}
-use Rattle.script_answers.specs.inner.Service.{Goes, Halted, Halts, IsAt, IsAtStand, IsSureOfFiles, KeepsFiles, Served, Serves, Stand, ending_of, fault_ending}
-use Rattle.script_answers.specs.declared.limits.Limits.{Limits}
+use Rattle.script_answers.proofs.Prelude.{answers, ending_of, fault_ending, is_refusal, names_kept_of, names_kept_of_line, names_of, names_of_line, of_files, of_write, stand_of, state_after, text_of_lines, AreAsked, Ask, Contents, Ending, FileError, Goes, Halts, IsAllWritten, IsAtStand, IsOfFiles, IsSureOfFiles, KeepsFiles, Limits, Line, Run, Served, Serves, Stand, State, Takes}
 use Rattle.script_answers.specs.declared.run_fault.RunFault.{RunFault}
+use Rattle.script_answers.specs.declared.task.Task.{Task}
 use Rattle.outside.specs.declared.faults.WriteError.{WriteError}
 use Rattle.outside.specs.declared.faults.WriteError.TheVariants.{Failed as WriteFailed, NoMemory as WriteNoMemory}
-use Rattle.outside.specs.declared.faults.FileError.{FileError}
 use Rattle.outside.specs.declared.faults.FileError.TheVariants.{Failed as FileFailed, NoMemory as FileNoMemory}
 use Rattle.std.specs.Prelude.{flat_map, Result, Ok, Err, IsErrAnd, IsErrOf}
 use Rattle.script_answers.proofs.Scripts.{all_answered-append, all_held, answers-append, none_apart, read_behind, read_front, state_after-append}
-use Rattle.script_answers.proofs.Stops.{stopped_after, stopped_as, stopped_before, stopped_behind, stopped_more}
+use Rattle.script_answers.proofs.Stops.{stopped_as, stopped_before, stopped_behind, stopped_more}
 pub use Rattle.answer_text.proofs.PageLemmas.{or_assoc}
 
 pub or_false : (a : Bool) → a ≡ (a || false)
@@ -79,16 +69,6 @@ module _ (limits : Limits) where
   halts_more all xs ys how kept before after old new whole halts = subst (λ (l : List Line). Halts limits l how kept before after old new) (sym whole) (λ state at read.
       let here = halts state at (read_front limits state xs ys read) in
       record { taken = here.taken; completed = here.completed; stopped = stopped_more limits state xs ys here.taken after.engine.version how kept after.held old new here.stopped })
-
-  -- it ended once some lines were answered
-  pub halts_after : (xs : List Line) (how : Ending) (kept : Type 0) (before after : Stand) (old new : Option (List ℕ)) → ¬ IsOfFiles how → Serves limits xs before after old new → Halts limits xs how kept before after old new
-  halts_after xs how kept before after old new ours serves = λ state at read.
-      let here = serves.served state at read in
-      record {
-        taken = length xs;
-        completed = serves.completed;
-        stopped = stopped_after limits state xs after.engine.version how kept after.held old new here.at.keeps.stands here.written here.at.files ours;
-      }
 
   -- it ended where each keep succeeded if these did
   pub halts_as : (xs : List Line) (how : Ending) (kept kept' : Type 0) (before after : Stand) (old new : Option (List ℕ)) → (kept' → kept) → Halts limits xs how kept before after old new → Halts limits xs how kept' before after old new
@@ -184,3 +164,25 @@ keeps_on f f' f'' h h' h'' n n' n'' limits all rest rest' line asks before mid o
 pub sure_as : {T : Type 0} (r : Result T RunFault) (fault : RunFault) → IsErrAnd r (λ e. e ≡ fault) → IsSureOfFiles r → IsSureOfFiles {T = T} (Err fault)
 sure_as {T} (Ok v) fault is sure = absurd is
 sure_as {T} (Err e) fault is sure = subst (λ (f : RunFault). IsSureOfFiles {T = T} (Err f)) is sure
+
+module _ (limits : Limits) (asks_for : Line → Type 0) (before after : Run) where
+  -- the run ended at a line
+  pub ends_at : {T : Type 0} (kept : Type 0) (r : Result T RunFault) (fault : RunFault) → IsErrAnd r (λ e. e ≡ fault) → ((waiting rest : List Line) (line : Line) → AreAsked before.asks waiting → asks_for line →
+      Halts limits (waiting ++ line ∷ rest) (fault_ending fault) kept (stand_of before) (stand_of after) before.written after.written) → Takes limits asks_for kept before after r
+  ends_at kept (Ok v) fault is halts = absurd is
+  ends_at kept (Err e) fault is halts = record { goes = tt; halts = λ waiting rest line are asks. rw is (halts waiting rest line are asks); serving = tt; each = tt }
+
+  -- it took a line, or ended there, where each keep succeeded if these did
+  pub takes_as : {T : Type 0} (kept kept' : Type 0) (r : Result T RunFault) → (kept' → kept) → Takes limits asks_for kept before after r → Takes limits asks_for kept' before after r
+  takes_as kept kept' (Ok v) so takes = record { goes = takes.goes; halts = tt; serving = takes.serving; each = takes.each }
+  takes_as kept kept' (Err e) so takes = record {
+    goes = tt;
+    halts = λ waiting rest line are asks. halts_as limits (waiting ++ line ∷ rest) _ kept kept' _ _ _ _ so (takes.halts waiting rest line are asks);
+    serving = tt;
+    each = tt;
+  }
+
+-- for which it was asked is said in another way
+pub takes_for : {T : Type 0} (limits : Limits) (kept : Type 0) (before after : Run) (r : Result T RunFault) (asks_for : Task → Line → Type 0) (task known : Task) → task ≡ known → Takes limits (asks_for known) kept before after r →
+    Takes limits (asks_for task) kept before after r
+takes_for limits kept before after r asks_for task known is takes = subst (λ (t : Task). Takes limits (asks_for t) kept before after r) (sym is) takes

@@ -1,20 +1,11 @@
 -- Where a run stops among lines that are put together.
-use Rattle.std.proofs.Common.{◌≡◌, ℕ, ◌+◌, ◌≤◌, Bool, true, false, List, [], ◌∷◌, ◌++◌, length, take, drop, refl, sym, ap, ◌∙◌, append_assoc, append-nil, Option, Some, length-append, subst, arith, take-add, take_all}
+use Rattle.std.proofs.Common.{◌≡◌, ℕ, ◌+◌, ◌≤◌, List, [], ◌∷◌, ◌++◌, length, take, drop, refl, sym, ap, ◌∙◌, append_assoc, append-nil, Option, Some, length-append, subst, arith, take-add, take_all}
 use Rattle.std.proofs.lemmas.List.{drop-drop, take-append-le, drop-append-le}
 use Rattle.std.proofs.Math.Seq.{take-append_seam, drop-append_seam}
 use Rattle.std.proofs.lemmas.Grind.{flat_map-append}
 use Rattle.std.proofs.KnownBytes.{Appends-nil, Appends-trans}
-use Rattle.std.specs.Prelude.{flat_map}
 use Rattle.std.specs.Io.KnownBytes.{Appends}
-use Rattle.outside.specs.Contents.{Contents}
-use Rattle.live_version.specs.Contents.{VersionContent}
-use Rattle.live_version.specs.StandsFor.{StandsFor}
-use Rattle.script_lang.specs.Lines.{Line, text_of_lines}
-use Rattle.script_answers.specs.States.{State}
-use Rattle.script_answers.specs.Answers.{answers, asks_query, state_after, names_kept_of, names_kept_of_line, names_of, names_of_line, AllAnswered}
-use Rattle.script_answers.specs.Stopped.{Ending, HoldsBut, IsAllWritten, IsOfFiles, IsStopped, begun}
-use Rattle.answer_text.specs.Puts.{GetsPart}
-use Rattle.script_answers.specs.declared.limits.Limits.{Limits}
+use Rattle.script_answers.proofs.Prelude.{answers, begun, names_kept_of, names_kept_of_line, names_of, names_of_line, state_after, text_of_lines, AllAnswered, Contents, Ending, GetsPart, HoldsBut, IsAllWritten, IsOfFiles, IsStopped, Limits, Line, StandsFor, State, VersionContent}
 use Rattle.script_answers.proofs.Scripts.{all_held, answers-append, held_more, none_apart, part_of_more, state_after-append, take_first}
 
 -- with more lines behind, at least as many of them may be answered in part

@@ -1,23 +1,14 @@
 -- What a line asks for, by its command.
-use Rattle.std.proofs.Common.{◌≡◌, ℕ, Bool, true, false, List, [], IfSome, Some, refl, sym, ap, ◌∙◌, subst}
+use Rattle.std.proofs.Common.{◌≡◌, ℕ, Bool, false, List, [], IfSome, refl, sym, ap, ◌∙◌, subst}
 use Rattle.std.specs.Prelude.{if◌then◌else◌}
-use Rattle.script_lang.specs.Lines.{Line}
+use Rattle.script_answers.proofs.Prelude.{action_kept, action_names, action_of, command_asking, is_query, names_asked, names_kept, names_kept_of_line, names_of_line, reply, task_kept, task_names, told_reply, Action, Ask, AsksLine, IsAskOf, IsReadBy, IsReadByAction, IsReadUnless, IsTaskFor, IsTaskOf, Limits, Line, State}
 use Rattle.script_lang.specs.Commands.{command_of}
 use Rattle.script_lang.specs.declared.commands.Command.{Command}
 use Rattle.script_lang.specs.declared.commands.Command.TheVariants.{Blank, Add, Del, Find, Count, Top, Files, Merge, Shards, Save, Load, Watch, Unwatch, Wrong}
-use Rattle.script_lang.specs.declared.refusals.Refusal.TheVariants.{LongLine}
-use Rattle.query_lanes.specs.declared.asks.Ask.{Ask}
 use Rattle.query_lanes.specs.declared.asks.Asked.{Asked}
 use Rattle.query_lanes.specs.declared.asks.Asked.TheVariants.{All, First, Number}
-use Rattle.script_answers.specs.States.{State}
-use Rattle.script_answers.specs.Answers.{answer, is_query, names_asked, names_kept, names_kept_of_line, names_of_line, reply, unchanged, IsReadBy, IsReadUnless}
-use Rattle.answer_text.specs.Texts.{refusal_lines}
-use Rattle.script_answers.specs.inner.Asks.{AsksLine, IsAskOf, command_asking}
-use Rattle.script_answers.specs.inner.Tasks.{IsActionOf, IsNothing, IsReadByAction, IsTaskFor, IsTaskOf, task_kept, task_names, action_kept, action_names, action_of, told_reply}
-use Rattle.answer_text.specs.declared.action.Action.{Action}
 use Rattle.script_answers.specs.declared.task.Task.{Task}
 use Rattle.script_answers.specs.declared.task.Task.TheVariants.{Nothing, Ask as Asks, Act}
-use Rattle.script_answers.specs.declared.limits.Limits.{Limits}
 
 -- a command does this, and asks no query
 record Acts (command : Command) (action : Action) : Type 0 where
@@ -70,23 +61,19 @@ module _ (line : Line) (short : line.long ≡ false) where
 pub of_query : {T : Type 0} (long : T) (f : Command → T) (ask : Ask) (line : Line) → (asks : AsksLine ask line) → (if line.long then long else f (command_of line.bytes)) ≡ f (command_asking ask.asked asks.asks.query)
 of_query long f ask line asks = asked line asks.short long f (command_asking ask.asked asks.asks.query) asks.asks.command_is
 
-names_of_query : (asked : Asked) (query : List ℕ) → names_asked (command_asking asked query) ≡ []
-names_of_query All query = refl
-names_of_query (First most) query = refl
-names_of_query Number query = refl
-
-kept_of_query : (asked : Asked) (query : List ℕ) → names_kept (command_asking asked query) ≡ []
-kept_of_query All query = refl
-kept_of_query (First most) query = refl
-kept_of_query Number query = refl
+-- what holds of each command that asks a query
+pub of_asking : (P : Command → Type 0) (asked : Asked) (query : List ℕ) → P (Find query) → ((most : ℕ) → P (Top most query)) → P (Count query) → P (command_asking asked query)
+of_asking P All query all first number = all
+of_asking P (First most) query all first number = first most
+of_asking P Number query all first number = number
 
 -- the names of a line are those of its task
 pub task_names_are : (task : Task) (line : Line) → IsTaskOf task line → names_of_line line ≡ task_names task
 task_names_are Nothing line is = is.names_are
-task_names_are (Asks ask) line is = of_query [] names_asked ask line is ∙ names_of_query ask.asked is.asks.query
+task_names_are (Asks ask) line is = of_query [] names_asked ask line is ∙ of_asking (λ command. names_asked command ≡ []) ask.asked is.asks.query refl (λ most. refl) refl
 task_names_are (Act action) line is = is.names_are
 
 pub task_kept_are : (task : Task) (line : Line) → IsTaskOf task line → names_kept_of_line line ≡ task_kept task
 task_kept_are Nothing line is = is.kept_are
-task_kept_are (Asks ask) line is = of_query [] names_kept ask line is ∙ kept_of_query ask.asked is.asks.query
+task_kept_are (Asks ask) line is = of_query [] names_kept ask line is ∙ of_asking (λ command. names_kept command ≡ []) ask.asked is.asks.query refl (λ most. refl) refl
 task_kept_are (Act action) line is = is.kept_are

@@ -1,45 +1,13 @@
 -- What the watches are told after an edit, and that nothing is told where nothing is changed.
-use Rattle.std.proofs.Common.{◌≡◌, ◌⊎◌, ℕ, ◌+◌, ◌<◌, length, drop, inl, inr, Bool, true, false, ◌||◌, List, [], ◌∷◌, ◌++◌, map, refl, sym, ap, ◌∙◌, subst, append-nil, Option, None, Some, nat_lt}
-use Rattle.std.specs.Prelude.{flat_map, slice_index_or, if◌then◌else◌, IfSome}
+use Rattle.std.proofs.Common.{◌≡◌, ℕ, ◌+◌, inl, inr, Bool, true, false, List, [], ◌++◌, map, refl, sym, ap, ◌∙◌, subst, append-nil, Option, None, Some, nat_lt}
+use Rattle.std.specs.Prelude.{flat_map, if◌then◌else◌, IfSome}
 use Rattle.std.specs.Option.{option_map}
-use Rattle.std.specs.List.{list_any}
-use Rattle.std.proofs.lemmas.Bool.{cases_Bool}
-use Rattle.std.proofs.lemmas.Grind.{flat_map-append}
-use Rattle.std.proofs.lemmas.List.{map-append, drop-map}
-use Rattle.gcl_model.proofs.Lists.{drop_here}
-use Rattle.gcl_model.specs.FormOf.{form_of}
-use Rattle.standing_query.specs.declared.watch.Watch.{Watch}
-use Rattle.std.proofs.lemmas.List.Folds.{list_any-append}
-use Rattle.gcl_model.specs.Collections.{Collection, text_of}
-use Rattle.gcl_model.specs.Texts.{Text}
-use Rattle.gcl_model.specs.Wide.{wide}
-use Rattle.outside.specs.Contents.{Contents}
-use Rattle.live_version.specs.Contents.{VersionContent, version_text}
-use Rattle.live_version.specs.StandsFor.{StandsFor}
+use Rattle.script_answers.proofs.Prelude.{action_reply, add_reply, answer_lines, changes_lines, content_reply, edits, image_reply, is_change, last_of, reading_reply, refusal_lines, since, telling_where, text_of, told_since, unchanged, version_text, watch_lines, watched_of, watching_of, Account, Action, Answer, Collection, Contents, Does, EngineContent, IsBefore, Keeps, Limits, Reply, State, Text, WatchListContent, Watched, Watches}
 use Rattle.live_version.proofs.PartLaws.{has_text}
-use Rattle.manifest_publish.specs.Accounts.{Account}
-use Rattle.collection.specs.Engines.{EngineContent, IsEngine, last_of, published}
 use Rattle.collection.proofs.EngineLemmas.{last_is}
-use Rattle.script_lang.specs.Answers.{is_refusal}
-use Rattle.script_lang.specs.Lines.{text_of_lines}
 use Rattle.script_lang.specs.declared.refusals.Refusal.TheVariants.{NotEmpty}
-use Rattle.script_lang.proofs.AnswerLemmas.{change_line-plain}
-use Rattle.standing_query.specs.Watches.{WatchListContent}
-use Rattle.standing_query.specs.Changes.{changes}
-use Rattle.standing_query.proofs.ChangeLemmas.{changes_none}
-use Rattle.standing_query.specs.declared.change.Change.{Change}
-use Rattle.standing_query.specs.declared.change.Change.TheVariants.{Went, Came}
 use Rattle.answer_text.proofs.ToldLemmas.{told_nothing}
-use Rattle.script_answers.specs.States.{State, Keeps}
-use Rattle.answer_text.specs.Watching.{changes_lines, told_line, told_since, told_text, watch_lines, Watched, watched_of, Watches, watches_text, watching_of}
-use Rattle.script_answers.specs.Answers.{Reply, add_reply, content_reply, del_reply, image_reply, open_reply, reading_reply, unchanged}
-use Rattle.answer_text.specs.Texts.{refusal_lines}
-use Rattle.script_answers.specs.inner.Tasks.{Does, action_reply, telling_where}
-use Rattle.answer_text.specs.Given.{answer_lines, edits, is_change, IsBefore, since}
-use Rattle.answer_text.specs.declared.action.Action.{Action}
 use Rattle.answer_text.specs.declared.action.Action.TheVariants.{Add, Delete, ListFiles, Merge, CountSlots, Save, Open, Watch as ToWatch, Unwatch, Refuse}
-use Rattle.answer_text.specs.declared.answer.Answer.{Answer}
-use Rattle.script_answers.specs.declared.limits.Limits.{Limits}
 
 clash : {b : Bool} → b ≡ true → b ≡ false → ⊥
 clash is isnt = cc

@@ -1,35 +1,21 @@
 -- The replies to lines that begin and end a watch, by what a list of watches does.
-use Rattle.std.proofs.Common.{◌≡◌, ℕ, ◌<◌, ◌≤◌, ◌+◌, Bool, true, false, ◌||◌, cond, List, [], ◌∷◌, ◌++◌, length, map, nat_lt, Option, Some, None, refl, sym, ap, ◌∙◌, subst, arith}
+use Rattle.std.proofs.Common.{◌≡◌, ℕ, ◌<◌, ◌+◌, Bool, true, false, ◌||◌, List, [], ◌∷◌, ◌++◌, length, map, nat_lt, Option, Some, None, refl, sym, ap, ◌∙◌, subst, arith}
 use Rattle.std.specs.Prelude.{if◌then◌else◌}
 use Rattle.std.proofs.lemmas.Bool.Decides.{nat_tests}
 use Rattle.gcl_model.specs.Forms.{Form}
 use Rattle.gcl_parser.specs.declared.fault.QueryFault.{QueryFault}
 use Rattle.gcl_parser.specs.Refusal.{refused}
 use Rattle.gcl_parser.specs.QueryForm.{query_form}
-use Rattle.outside.specs.Contents.{Contents}
-use Rattle.live_version.specs.StandsFor.{StandsFor, entry_of}
-use Rattle.collection.specs.Engines.{EngineContent}
-use Rattle.live_version.specs.Contents.{files_of, ranges_of}
-use Rattle.script_lang.specs.Answers.{shards_line, total_line, watch_line, unwatched_line}
+use Rattle.script_answers.proofs.Prelude.{action_reply, entry_of, files_lines, files_of, form_of, form_reply, has_watch, listing_lines, merges, most_watches, record_lines, refusal_lines, shards_line, total_line, unchanged, unwatch_reply, watch_by, watch_line, watch_reply, watched_of, watching_of, with_watch, without_watch, Action, Answer, Contents, Does, EngineContent, Gives, IsWatchReply, Keeps, Limits, Reply, StandsFor, State, WatchListContent, Watched, Watches}
 use Rattle.script_lang.specs.declared.refusals.Refusal.{Refusal}
 use Rattle.script_lang.specs.declared.refusals.Refusal.TheVariants.{Query, NoWatch, TooManyWatches}
 use Rattle.std.specs.List.{list_any}
 use Rattle.std.specs.Prelude.{◌==◌, not, filter}
 use Rattle.std.proofs.lemmas.List.{length-map, map-append}
 use Rattle.gcl_model.specs.declared.expr.Expr.{Expr}
-use Rattle.gcl_model.specs.FormOf.{form_of}
-use Rattle.standing_query.specs.Watches.{WatchListContent, most_watches, has_watch as has_live, with_watch as with_live, without_watch as without_live}
+use Rattle.standing_query.specs.Watches.{has_watch as has_live, with_watch as with_live, without_watch as without_live}
 use Rattle.standing_query.specs.declared.watch.Watch.{Watch}
-use Rattle.script_answers.specs.States.{State, Keeps}
-use Rattle.answer_text.specs.Watching.{Watched, watched_of, Watches, watching_of}
-use Rattle.script_answers.specs.Answers.{Reply, files_lines, form_reply, has_watch, state_unwatching, state_watching, unchanged, unwatch_reply, watch_by, watch_reply, with_watch, without_watch}
-use Rattle.answer_text.specs.Texts.{listing_lines, record_lines, refusal_lines}
-use Rattle.script_answers.specs.inner.Tasks.{Does, Gives, IsWatchReply, action_reply}
-use Rattle.answer_text.specs.Given.{merges}
-use Rattle.answer_text.specs.declared.action.Action.{Action}
-use Rattle.answer_text.specs.declared.answer.Answer.{Answer}
 use Rattle.answer_text.specs.declared.answer.Answer.TheVariants.{Watching, Unwatched, Refused}
-use Rattle.script_answers.specs.declared.limits.Limits.{Limits}
 use Rattle.script_answers.proofs.TellingLemmas.{attends, stays_watching}
 
 below_is : (n m : ℕ) → n < m → nat_lt n m ≡ true
@@ -62,9 +48,6 @@ there number (w ∷ live) = ap (λ (b : Bool). (w.id == number) || b) (there num
 left_alone : (state : State) (refusal : Refusal) (old new : WatchListContent) → watching_of old ≡ state.watches → new ≡ old → IsWatchReply (unchanged state (refusal_lines refusal)) state new (Refused refusal)
 left_alone state refusal old new is same = record { watching = ap watching_of same ∙ is; lines = λ version. refl; unchanged = refl; collection = refl; slots = refl; files = refl }
 
-form_by : State → Form → Bool → Reply
-form_by state form b = if b then record { lines = watch_line state.watches.next ∷ []; after = state_watching state form } else unchanged state (refusal_lines TooManyWatches)
-
 how_many : (state : State) (old : WatchListContent) (b : Bool) → watching_of old ≡ state.watches → nat_lt (length old.live) most_watches ≡ b → nat_lt (length state.watches.live) most_watches ≡ b
 how_many state old b is few =
     ap (λ (w : Watches). nat_lt (length w.live) most_watches) (sym is) ∙ ap (λ (n : ℕ). nat_lt n most_watches) (length-map old.live watched_of) ∙ few
@@ -72,10 +55,8 @@ how_many state old b is few =
 -- there is room for a watch more
 pub watched : (state : State) (old new : WatchListContent) (expr : Expr) (number : ℕ) → watching_of old ≡ state.watches → length old.live < most_watches → new ≡ with_live old expr → number ≡ old.next →
     IsWatchReply (form_reply state (form_of expr)) state new (Watching number)
-unfolding form_by
 watched state old new expr number is room with given =
-    subst (λ (b : Bool). IsWatchReply (form_by state (form_of expr) b) state new (Watching number)) (sym (how_many state old true is (below_is (length old.live) most_watches room)))
-    (record {
+    rw (how_many state old true is (below_is (length old.live) most_watches room)) (record {
       watching = ap watching_of with ∙ begun old expr ∙ ap (λ (w : Watches). with_watch w (form_of expr)) is;
       lines = λ version. ap (λ (n : ℕ). watch_line n ∷ []) (sym (given ∙ ap (λ (w : Watches). w.next) is));
       unchanged = refl;
@@ -86,15 +67,13 @@ watched state old new expr number is room with given =
 
 -- there is none
 pub too_many : (state : State) (old new : WatchListContent) (form : Form) → watching_of old ≡ state.watches → length old.live ≡ most_watches → new ≡ old → IsWatchReply (form_reply state form) state new (Refused TooManyWatches)
-unfolding form_by
 too_many state old new form is full same =
-    subst (λ (b : Bool). IsWatchReply (form_by state form b) state new (Refused TooManyWatches)) (sym (how_many state old false is (not_below (length old.live) most_watches full)))
-    (left_alone state TooManyWatches old new is same)
+    rw (how_many state old false is (not_below (length old.live) most_watches full)) (left_alone state TooManyWatches old new is same)
 
 -- the text is no query
 pub no_query : (state : State) (old new : WatchListContent) (query : List ℕ) (fault : QueryFault) → watching_of old ≡ state.watches → refused query ≡ Some fault → new ≡ old → IsWatchReply (watch_reply state query) state new (Refused (Query fault))
 no_query state old new query fault is wrong same =
-    subst (λ (o : Option QueryFault). IsWatchReply (watch_by state o (query_form query)) state new (Refused (Query fault))) (sym wrong) (left_alone state (Query fault) old new is same)
+    rw wrong (left_alone state (Query fault) old new is same)
 
 -- the text is one
 pub a_query : (state : State) (new : WatchListContent) (query : List ℕ) (form : Form) (answer : Answer) → refused query ≡ None → query_form query ≡ Some form → IsWatchReply (form_reply state form) state new answer →
@@ -103,25 +82,20 @@ a_query state new query form answer right found replies =
     subst (λ (o : Option QueryFault). IsWatchReply (watch_by state o (query_form query)) state new answer) (sym right)
     (subst (λ (o : Option Form). IsWatchReply (watch_by state None o) state new answer) (sym found) replies)
 
-unwatch_by : State → ℕ → Bool → Reply
-unwatch_by state number b = if b then record { lines = unwatched_line number ∷ []; after = state_unwatching state number } else unchanged state (refusal_lines (NoWatch number))
-
 is_there : (state : State) (old : WatchListContent) (number : ℕ) (b : Bool) → watching_of old ≡ state.watches → has_live old.live number ≡ b → has_watch state.watches number ≡ b
 is_there state old number b is found = ap (λ (w : Watches). has_watch w number) (sym is) ∙ sym (there number old.live) ∙ found
 
 -- a watch was ended
 pub unwatched : (state : State) (old new : WatchListContent) (number : ℕ) → watching_of old ≡ state.watches → has_live old.live number ≡ true → new ≡ without_live old number →
     IsWatchReply (unwatch_reply state number) state new (Unwatched number)
-unfolding unwatch_by
 unwatched state old new number is some without =
-    subst (λ (b : Bool). IsWatchReply (unwatch_by state number b) state new (Unwatched number)) (sym (is_there state old number true is some))
+    rw (is_there state old number true is some)
     (record { watching = ap watching_of without ∙ ended old number ∙ ap (λ (w : Watches). without_watch w number) is; lines = λ version. refl; unchanged = refl; collection = refl; slots = refl; files = refl })
 
 -- no watch has the number
 pub no_watch : (state : State) (old new : WatchListContent) (number : ℕ) → watching_of old ≡ state.watches → has_live old.live number ≡ false → new ≡ old → IsWatchReply (unwatch_reply state number) state new (Refused (NoWatch number))
-unfolding unwatch_by
 no_watch state old new number is none same =
-    subst (λ (b : Bool). IsWatchReply (unwatch_by state number b) state new (Refused (NoWatch number))) (sym (is_there state old number false is none)) (left_alone state (NoWatch number) old new is same)
+    rw (is_there state old number false is none) (left_alone state (NoWatch number) old new is same)
 
 -- a line that begins or ends a watch leaves the engine and the files
 pub does_watching : (told : Option Reply) (reply : Reply) (state : State) (engine : EngineContent) (held : Option Contents) (watches : WatchListContent) (answer : Answer) → told ≡ Some reply → Keeps engine false state →

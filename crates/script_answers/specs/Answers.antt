@@ -11,25 +11,21 @@ use Rattle.gcl_model.specs.Wide.{wide}
 use Rattle.gcl_model.specs.Tokens.{tokens_of}
 use Rattle.gcl_model.specs.Collections.{Collection, width_of, text_of, has_file, with_file, without_file}
 use Rattle.gcl_model.specs.Slots.{slot_range, slots_after_add, slots_after_merge, slots_after_open}
-use Rattle.address_space.specs.Runs.{FileEntry}
 use Rattle.live_version.specs.StandsFor.{entry_of}
 use Rattle.script_lang.specs.Lines.{Line, lines, text_of_lines}
 use Rattle.script_lang.specs.Commands.{command_of}
-use Rattle.script_lang.specs.Answers.{file_line, gone_line, interval_line, total_line, watch_line, unwatched_line, change_line, merging_line, shards_line, saved_line, opened_line, record_line, refusal_line, is_refusal}
+use Rattle.script_lang.specs.Answers.{file_line, gone_line, total_line, watch_line, unwatched_line, merging_line, shards_line, saved_line, opened_line, is_refusal}
 use Rattle.script_lang.specs.declared.commands.Command.{Command}
 use Rattle.script_lang.specs.declared.commands.Command.TheVariants.{Blank, Add, Del, Find, Count, Top, Files, Merge, Shards, Save, Load, Watch, Unwatch, Wrong}
-use Rattle.script_lang.specs.declared.refusals.Refusal.{Refusal}
 use Rattle.script_lang.specs.declared.refusals.Refusal.TheVariants.{Command as NoCommand, LongLine, Query, NoFile, TooLong, NoAddresses, NotEmpty, NotImage, NoWatch, TooManyWatches}
 use Rattle.gcl_parser.specs.declared.fault.QueryFault.{QueryFault}
 use Rattle.gcl_parser.specs.Refusal.{refused}
 use Rattle.gcl_parser.specs.QueryForm.{query_form}
 use Rattle.standing_query.specs.Watches.{most_watches}
-use Rattle.standing_query.specs.Changes.{changes}
-use Rattle.standing_query.specs.declared.change.Change.{Change}
-use Rattle.standing_query.specs.declared.change.Change.TheVariants.{Went, Came}
-use Rattle.script_answers.specs.Images.{image_of, IsReading}
+use Rattle.image_file.specs.Images.{image_of}
+use Rattle.image_read.specs.Answers.{IsReading}
 use Rattle.script_answers.specs.States.{State, greatest_limits}
-use Rattle.answer_text.specs.Watching.{Watched, Watches}
+use Rattle.answer_text.specs.Watching.{Watches}
 use Rattle.script_answers.specs.declared.limits.Limits.{Limits}
 use Rattle.query_lanes.specs.declared.asks.Asked.{Asked}
 use Rattle.query_lanes.specs.declared.asks.Asked.TheVariants.{All, First, Number}

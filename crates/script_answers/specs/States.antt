@@ -1,5 +1,5 @@
 -- The state of a script, and how an engine keeps it.
-use Rattle.std.specs.Prelude.{◌≡◌, ℕ, ◌≤◌, Bool, List, [], if◌then◌else◌}
+use Rattle.std.specs.Prelude.{◌≡◌, ℕ, ◌≤◌, Bool, List, [], Option, if◌then◌else◌}
 use Rattle.outside.specs.Contents.{Contents}
 use Rattle.gcl_model.specs.Limits.{most_line, most_file, most_script, most_image, most_batch}
 use Rattle.gcl_model.specs.Collections.{File, Collection, empty_from}
@@ -8,10 +8,12 @@ use Rattle.live_version.specs.Contents.{ranges_of}
 use Rattle.live_version.specs.Changes.{empty_version}
 use Rattle.live_version.specs.StandsFor.{StandsFor}
 use Rattle.collection.specs.Engines.{EngineContent}
-use Rattle.gcl_model.specs.Forms.{Form}
-use Rattle.script_answers.specs.Images.{Images}
 use Rattle.script_answers.specs.declared.limits.Limits.{Limits}
 pub use Rattle.answer_text.specs.Watching.{Watched, Watches}
+
+-- for each content the collection that it is said to be an image of, and None where it is said to be an image of none
+abbrev pub Images : Type 0
+Images = List ℕ → Option Collection
 
 -- What the lines so far leave: the collection, the address ranges of the slots of its index, what the files hold by name, and the live
 -- watches with the number of the next one. What each content is an image of stays the same throughout

@@ -1,10 +1,10 @@
-ghost use Rattle.std.specs.Prelude.{◌≡◌, ◌+◌, ◌≤◌, ◌<◌, ◌++◌, [], ◌∷◌, ℕ, List, Option, ⊤, OnOk, OnErr, IsErrOf, length};
+ghost use Rattle.std.specs.Prelude.{◌≡◌, ◌+◌, ◌≤◌, ◌<◌, ◌++◌, [], ◌∷◌, ℕ, List, Option, ⊤, OnOk, OnErr, length};
 ghost use Rattle.gcl_model.specs.Limits.{most_script};
 ghost use Rattle.outside.specs.Contents.{Contents};
 ghost use Rattle.script_lang.specs.Lines.{Line, lines};
 ghost use Rattle.script_answers.specs.Answers.{names_kept_of, names_of};
 ghost use Rattle.script_answers.specs.inner.Asks.{AreAsked, AsksLine};
-ghost use Rattle.script_answers.specs.inner.Service.{Goes, Halts, CountsFiles, CountsSink, IsServing, KeepsFiles, Serves, ending_of, stand};
+ghost use Rattle.script_answers.specs.inner.Service.{Halts, CountsFiles, CountsSink, IsServing, KeepsFiles, Leaves, LeavesSink, Serves, Takes, ending_of, run, stand};
 ghost use Rattle.script_answers.specs.inner.Tasks.{IsActionOf, IsNamedAction, IsNamedTask, IsNothing, IsTaskOf};
 ghost use Rattle.script_answers.specs.inner.Tasks.{action_kept, action_names, completes, task_kept, task_names};
 
@@ -42,8 +42,7 @@ fn serve_batch<R: Threads + Wait + Sync, K: Sink, G: Gate + Sync>(
     ensures serving { OnOk result (IsServing opened.new progress.new 0) }
     ensures each { OnOk result (opened.new.lines ≡ opened.old.lines + length asks.old.items) }
     ensures none { OnOk result (asks.new.items ≡ []) }
-    ensures ours { ¬ IsErrOf result RunFault.Files }
-    ensures sink { CountsSink (K.faults sink.old) (K.faults sink.new) result }
+    ensures leaves { LeavesSink (K.faults sink.old) (K.faults sink.new) result }
 {
     if asks.is_empty() {
         return Ok(());
@@ -96,10 +95,8 @@ fn serve_action<R: Wait, F: Files, K: Sink, G: Gate>(
         (stand (F.held files.old) opened.old progress.old) (stand (F.held files.new) opened.new progress.new) (K.written sink.old) (K.written sink.new)) }
     ensures serving { OnOk result (IsServing opened.new progress.new 0) }
     ensures each { OnOk result (opened.new.lines ≡ opened.old.lines + 1) }
-    ensures files { KeepsFiles (action_names action.now) (action_kept action.now) (files.new ≡ files.old) (F.held files.new ≡ F.held files.old)
-        (F.unkept files.new ≡ F.unkept files.old) result }
-    ensures sink { CountsSink (K.faults sink.old) (K.faults sink.new) result }
-    ensures faults { CountsFiles (F.faults files.old) (F.faults files.new) result }
+    ensures leaves { Leaves (action_names action.now) (action_kept action.now) (files.new ≡ files.old) (F.held files.new ≡ F.held files.old)
+        (F.unkept files.new ≡ F.unkept files.old) (K.faults sink.old) (K.faults sink.new) (F.faults files.old) (F.faults files.new) result }
 {
     merge_pending(&setting.context, &mut opened.engine, &mut progress.pending)?;
     let before = pass_before(&opened.engine, &progress.watches, action)?;
@@ -149,18 +146,9 @@ fn serve_ask<R: Threads + Wait + Sync, K: Sink, G: Gate + Sync>(
 ) -> Result<(), RunFault>
     requires serving { IsServing opened.old progress.old (length asks.old.items) }
     requires room { opened.old.lines + length asks.old.items < most_script }
-    ensures goes { OnOk result ((held : Option Contents) (waiting rest : List Line) (line : Line) →
-        AreAsked asks.old.items waiting → AsksLine ask line →
-        Goes setting.now.limits (waiting ++ line ∷ rest) rest asks.new.items (stand held opened.old progress.old)
-        (stand held opened.new progress.new) (K.written sink.old) (K.written sink.new)) }
-    ensures halts { OnErr result ((held : Option Contents) (waiting rest : List Line) (line : Line) →
-        AreAsked asks.old.items waiting → AsksLine ask line →
-        Halts setting.now.limits (waiting ++ line ∷ rest) (ending_of result) ⊤ (stand held opened.old progress.old)
-        (stand held opened.new progress.new) (K.written sink.old) (K.written sink.new)) }
-    ensures serving { OnOk result (IsServing opened.new progress.new (length asks.new.items)) }
-    ensures each { OnOk result (opened.new.lines + length asks.new.items ≡ opened.old.lines + length asks.old.items + 1) }
-    ensures ours { ¬ IsErrOf result RunFault.Files }
-    ensures sink { CountsSink (K.faults sink.old) (K.faults sink.new) result }
+    ensures takes { (held : Option Contents) → Takes setting.now.limits (AsksLine ask) ⊤
+        (run opened.old progress.old asks.old.items held (K.written sink.old)) (run opened.new progress.new asks.new.items held (K.written sink.new)) result }
+    ensures leaves { LeavesSink (K.faults sink.old) (K.faults sink.new) result }
 {
     push(asks, ask)?;
     progress.asked += 1;
@@ -180,17 +168,9 @@ fn serve_nothing<R: Threads + Wait + Sync, K: Sink, G: Gate + Sync>(
 ) -> Result<(), RunFault>
     requires serving { IsServing opened.old progress.old (length asks.old.items) }
     requires room { opened.old.lines + length asks.old.items < most_script }
-    ensures goes { OnOk result ((held : Option Contents) (waiting rest : List Line) (line : Line) →
-        AreAsked asks.old.items waiting → IsNothing line →
-        Goes setting.now.limits (waiting ++ line ∷ rest) rest asks.new.items (stand held opened.old progress.old)
-        (stand held opened.new progress.new) (K.written sink.old) (K.written sink.new)) }
-    ensures halts { OnErr result ((held : Option Contents) (waiting rest : List Line) (line : Line) → AreAsked asks.old.items waiting →
-        Halts setting.now.limits (waiting ++ line ∷ rest) (ending_of result) ⊤ (stand held opened.old progress.old)
-        (stand held opened.new progress.new) (K.written sink.old) (K.written sink.new)) }
-    ensures serving { OnOk result (IsServing opened.new progress.new (length asks.new.items)) }
-    ensures each { OnOk result (opened.new.lines + length asks.new.items ≡ opened.old.lines + length asks.old.items + 1) }
-    ensures ours { ¬ IsErrOf result RunFault.Files }
-    ensures sink { CountsSink (K.faults sink.old) (K.faults sink.new) result }
+    ensures takes { (held : Option Contents) → Takes setting.now.limits IsNothing ⊤
+        (run opened.old progress.old asks.old.items held (K.written sink.old)) (run opened.new progress.new asks.new.items held (K.written sink.new)) result }
+    ensures leaves { LeavesSink (K.faults sink.old) (K.faults sink.new) result }
 {
     serve_batch(setting, sink, opened, progress, asks)?;
     opened.lines += 1;
@@ -210,21 +190,11 @@ fn serve_action_behind<R: Threads + Wait + Sync, F: Files, K: Sink, G: Gate + Sy
     requires named { IsNamedAction action.now }
     requires serving { IsServing opened.old progress.old (length asks.old.items) }
     requires room { opened.old.lines + length asks.old.items < most_script }
-    ensures goes { OnOk result ((waiting rest : List Line) (line : Line) →
-        AreAsked asks.old.items waiting → IsActionOf action.now line →
-        Goes setting.now.limits (waiting ++ line ∷ rest) rest asks.new.items (stand (F.held files.old) opened.old progress.old)
-        (stand (F.held files.new) opened.new progress.new) (K.written sink.old) (K.written sink.new)) }
-    ensures halts { OnErr result ((waiting rest : List Line) (line : Line) →
-        AreAsked asks.old.items waiting → IsActionOf action.now line →
-        Halts setting.now.limits (waiting ++ line ∷ rest) (ending_of result) (F.unkept files.new ≡ F.unkept files.old)
-        (stand (F.held files.old) opened.old progress.old)
-        (stand (F.held files.new) opened.new progress.new) (K.written sink.old) (K.written sink.new)) }
-    ensures serving { OnOk result (IsServing opened.new progress.new (length asks.new.items)) }
-    ensures each { OnOk result (opened.new.lines + length asks.new.items ≡ opened.old.lines + length asks.old.items + 1) }
-    ensures files { KeepsFiles (action_names action.now) (action_kept action.now) (files.new ≡ files.old) (F.held files.new ≡ F.held files.old)
-        (F.unkept files.new ≡ F.unkept files.old) result }
-    ensures sink { CountsSink (K.faults sink.old) (K.faults sink.new) result }
-    ensures faults { CountsFiles (F.faults files.old) (F.faults files.new) result }
+    ensures takes { Takes setting.now.limits (IsActionOf action.now) (F.unkept files.new ≡ F.unkept files.old)
+        (run opened.old progress.old asks.old.items (F.held files.old) (K.written sink.old))
+        (run opened.new progress.new asks.new.items (F.held files.new) (K.written sink.new)) result }
+    ensures leaves { Leaves (action_names action.now) (action_kept action.now) (files.new ≡ files.old) (F.held files.new ≡ F.held files.old)
+        (F.unkept files.new ≡ F.unkept files.old) (K.faults sink.old) (K.faults sink.new) (F.faults files.old) (F.faults files.new) result }
 {
     serve_batch(setting, sink, opened, progress, asks)?;
     serve_action(setting, files, sink, opened, progress, action)
@@ -243,18 +213,11 @@ fn serve_task<R: Threads + Wait + Sync, F: Files, K: Sink, G: Gate + Sync>(
     requires named { IsNamedTask task }
     requires serving { IsServing opened.old progress.old (length asks.old.items) }
     requires room { opened.old.lines + length asks.old.items < most_script }
-    ensures goes { OnOk result ((waiting rest : List Line) (line : Line) → AreAsked asks.old.items waiting → IsTaskOf task line →
-        Goes setting.now.limits (waiting ++ line ∷ rest) rest asks.new.items (stand (F.held files.old) opened.old progress.old)
-        (stand (F.held files.new) opened.new progress.new) (K.written sink.old) (K.written sink.new)) }
-    ensures halts { OnErr result ((waiting rest : List Line) (line : Line) → AreAsked asks.old.items waiting → IsTaskOf task line →
-        Halts setting.now.limits (waiting ++ line ∷ rest) (ending_of result) (F.unkept files.new ≡ F.unkept files.old)
-        (stand (F.held files.old) opened.old progress.old) (stand (F.held files.new) opened.new progress.new) (K.written sink.old) (K.written sink.new)) }
-    ensures serving { OnOk result (IsServing opened.new progress.new (length asks.new.items)) }
-    ensures each { OnOk result (opened.new.lines + length asks.new.items ≡ opened.old.lines + length asks.old.items + 1) }
-    ensures files { KeepsFiles (task_names task) (task_kept task) (files.new ≡ files.old) (F.held files.new ≡ F.held files.old)
-        (F.unkept files.new ≡ F.unkept files.old) result }
-    ensures sink { CountsSink (K.faults sink.old) (K.faults sink.new) result }
-    ensures faults { CountsFiles (F.faults files.old) (F.faults files.new) result }
+    ensures takes { Takes setting.now.limits (IsTaskOf task) (F.unkept files.new ≡ F.unkept files.old)
+        (run opened.old progress.old asks.old.items (F.held files.old) (K.written sink.old))
+        (run opened.new progress.new asks.new.items (F.held files.new) (K.written sink.new)) result }
+    ensures leaves { Leaves (task_names task) (task_kept task) (files.new ≡ files.old) (F.held files.new ≡ F.held files.old)
+        (F.unkept files.new ≡ F.unkept files.old) (K.faults sink.old) (K.faults sink.new) (F.faults files.old) (F.faults files.new) result }
 {
     match task {
         Task::Ask(ask) => serve_ask(setting, sink, opened, progress, asks, ask),

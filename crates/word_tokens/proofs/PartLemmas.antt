@@ -157,6 +157,25 @@ few_by (suc n) (b ∷ bytes) le =
 pub few_tokens : (text : List ℕ) → length (tokens_of text) ≤ length text
 few_tokens text = few_by (length text) text (omega arith)
 
+-- no token of a text has more bytes than the text
+shorter : (m n : ℕ) (text : List ℕ) → length text ≤ n → n ≤ m → AllByRecursion (λ (t : List ℕ). length t ≤ m) (tokens_of text)
+shorter m n [] le within = tt
+shorter m zero (b ∷ bytes) le within = absurd (omega arith)
+shorter m (suc n) (b ∷ bytes) le within =
+    let text : List ℕ = b ∷ bytes in
+    let fit = part_of_fits (b ∷ bytes) (omega arith) in
+    let some : 1 ≤ (part_of (b ∷ bytes)).size = fit.some in
+    let fits : (part_of (b ∷ bytes)).size ≤ length (b ∷ bytes) = fit.fits in
+    let rest : List ℕ = drop (part_of (b ∷ bytes)).size (b ∷ bytes) in
+    let less = length-drop (part_of (b ∷ bytes)).size (b ∷ bytes) in
+    subst (AllByRecursion (λ (t : List ℕ). length t ≤ m)) (sym (tokens_of-part (b ∷ bytes)))
+    (all_append (λ (t : List ℕ). length t ≤ m) (part_of (b ∷ bytes)).tokens (tokens_of rest)
+    (all_weaker (λ (t : List ℕ). length t ≤ (part_of (b ∷ bytes)).size) (λ (t : List ℕ). length t ≤ m) (λ t short. omega (arith, short, fits, le, within)) (part_of (b ∷ bytes)).tokens fit.short)
+    (shorter m n rest (omega (arith, less, some, fits, le)) (omega (arith, within))))
+
+pub tokens_within : (text : List ℕ) → AllByRecursion (λ (t : List ℕ). length t ≤ length text) (tokens_of text)
+tokens_within text = shorter (length text) (length text) text (omega arith) (omega arith)
+
 -- a text is a token where it is the one token of its first part
 pub token_from_part : (text : List ℕ) → (part_of text).size ≡ length text → (part_of text).tokens ≡ text ∷ [] → IsToken text
 token_from_part text size tokens =

@@ -1,20 +1,16 @@
 -- Queries of a batch, and the lines that answer them.
-use Rattle.std.specs.Prelude.{◌≡◌, ℕ, Bool, false, List, [], ◌∷◌, ⊤, flat_map}
-use Rattle.std.specs.List.{list_any}
+use Rattle.std.specs.Prelude.{◌≡◌, ℕ, Bool, false, List, flat_map}
+use Rattle.std.specs.List.{list_any, AllZip}
 use Rattle.gcl_model.specs.Texts.{Text}
 use Rattle.script_lang.specs.Lines.{Line, text_of_lines}
-use Rattle.script_lang.specs.Answers.{is_refusal, total_line}
+use Rattle.script_lang.specs.Answers.{is_refusal}
 use Rattle.script_lang.specs.Commands.{command_of}
 use Rattle.script_lang.specs.declared.commands.Command.{Command}
 use Rattle.script_lang.specs.declared.commands.Command.TheVariants.{Find, Count, Top}
-use Rattle.script_lang.specs.declared.refusals.Refusal.TheVariants.{Query}
 use Rattle.query_lanes.specs.Answers.{answer_in}
 use Rattle.query_lanes.specs.declared.asks.Asked.{Asked}
 use Rattle.query_lanes.specs.declared.asks.Asked.TheVariants.{All, First, Number}
 use Rattle.query_lanes.specs.declared.asks.Ask.{Ask}
-use Rattle.query_lanes.specs.declared.asks.Found.{Found}
-use Rattle.query_lanes.specs.declared.asks.Found.TheVariants.{List as Members, Total, Refused}
-use Rattle.answer_text.specs.Texts.{list_lines, refusal_lines}
 use Rattle.script_answers.specs.Answers.{query_lines}
 pub use Rattle.answer_text.specs.Texts.{found_lines}
 
@@ -49,6 +45,4 @@ pub record AsksLine (ask : Ask) (line : Line) : Type 0 where
 
 -- each query is that of the line at its place, and they are equally many
 abbrev pub AreAsked : List Ask → List Line → Type 0
-AreAsked [] [] = ⊤
-AreAsked (ask ∷ asks) (line ∷ lines) = AsksLine ask line × AreAsked asks lines
-AreAsked _ _ = ⊥
+AreAsked asks lines = AllZip AsksLine asks lines

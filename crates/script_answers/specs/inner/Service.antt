@@ -1,5 +1,5 @@
 -- How a run stands, and what becomes of it while some lines are answered.
-use Rattle.std.specs.Prelude.{◌≡◌, ℕ, ◌+◌, ◌≤◌, ◌||◌, Bool, List, [], ◌++◌, length, map, Option, Some, Result, Ok, Err, IsErrOf, ⊤, if◌then◌else◌}
+use Rattle.std.specs.Prelude.{◌≡◌, ℕ, ◌+◌, ◌≤◌, ◌||◌, Bool, List, [], ◌∷◌, ◌++◌, length, Option, Some, Result, Ok, Err, IsErrOf, OnErr, OnOk, ⊤, if◌then◌else◌}
 use Rattle.std.specs.List.{list_any}
 use Rattle.std.specs.Io.KnownBytes.{Appends}
 use Rattle.gcl_model.specs.Limits.{most_readers}
@@ -9,15 +9,12 @@ use Rattle.image_file.specs.Images.{CanBeSaved}
 use Rattle.live_version.specs.StandsFor.{StandsFor}
 use Rattle.collection.specs.Engines.{EngineContent}
 use Rattle.collection.specs.declared.engine.Opened.{Opened}
-use Rattle.gcl_model.specs.FormOf.{form_of}
 use Rattle.standing_query.specs.Watches.{AreWellFormedWatches, WatchListContent}
-use Rattle.standing_query.specs.declared.watch.Watch.{Watch}
 use Rattle.query_lanes.specs.Readers.{AreOf}
 use Rattle.query_lanes.specs.declared.asks.Ask.{Ask}
 use Rattle.script_lang.specs.Lines.{Line, text_of_lines}
 use Rattle.script_lang.specs.Answers.{is_refusal}
 use Rattle.script_answers.specs.States.{State, Keeps}
-use Rattle.answer_text.specs.Watching.{Watched, Watches}
 use Rattle.script_answers.specs.Answers.{answers, state_after, AllAnswered, AreRead}
 use Rattle.script_answers.specs.Stopped.{Ending, HoldsBut, IsStopped, finished, write_failed, files_failed, out_of_memory}
 use Rattle.script_answers.specs.inner.Asks.{AreAsked}
@@ -144,3 +141,40 @@ pub record KeepsFiles {T : Type 0} (names kept : List (List ℕ)) (untouched unc
   pub quiet : names ≡ [] → untouched
   pub unsaved : kept ≡ [] → unchanged
   pub sure : IsSureOfFiles result → all_kept
+
+-- what a call that asks no file leaves: no fault of theirs, and what was counted meanwhile of the faults of the sink
+pub record LeavesSink {T : Type 0} (sink_then sink_now : ℕ) (result : Result T RunFault) : Type 0 where
+  pub ours : ¬ IsErrOf result Files
+  pub sink : CountsSink sink_then sink_now result
+
+-- what a call leaves of the files, and what was counted meanwhile of the faults of the sink, and of those of the files
+pub record Leaves {T : Type 0} (names kept : List (List ℕ)) (untouched unchanged all_kept : Type 0) (sink_then sink_now faults_then faults_now : ℕ) (result : Result T RunFault) : Type 0 where
+  pub files : KeepsFiles names kept untouched unchanged all_kept result
+  pub sink : CountsSink sink_then sink_now result
+  pub faults : CountsFiles faults_then faults_now result
+
+-- A run at a call: its engine and readers, how far it is, the queries that wait for their batch, what the files hold, and what was written
+pub record Run : Type 0 where
+  pub opened : Opened
+  pub progress : Progress
+  pub asks : List Ask
+  pub held : Option Contents
+  pub written : Option (List ℕ)
+
+-- of these
+abbrev pub run : Opened → Progress → List Ask → Option Contents → Option (List ℕ) → Run
+run opened progress asks held written = record { opened = opened; progress = progress; asks = asks; held = held; written = written }
+
+-- how it stands
+abbrev pub stand_of : Run → Stand
+stand_of r = stand r.held r.opened r.progress
+
+-- A line came that asks for something: it was served behind those that waited, or its query waits with them, and the run goes on. Or the run
+-- ended among these lines
+pub record Takes {T : Type 0} (limits : Limits) (asks_for : Line → Type 0) (kept : Type 0) (before after : Run) (result : Result T RunFault) : Type 0 where
+  pub goes : OnOk result ((waiting rest : List Line) (line : Line) → AreAsked before.asks waiting → asks_for line →
+      Goes limits (waiting ++ line ∷ rest) rest after.asks (stand_of before) (stand_of after) before.written after.written)
+  pub halts : OnErr result ((waiting rest : List Line) (line : Line) → AreAsked before.asks waiting → asks_for line →
+      Halts limits (waiting ++ line ∷ rest) (ending_of result) kept (stand_of before) (stand_of after) before.written after.written)
+  pub serving : OnOk result (IsServing after.opened after.progress (length after.asks))
+  pub each : OnOk result (after.opened.lines + length after.asks ≡ before.opened.lines + length before.asks + 1)

@@ -1,19 +1,18 @@
 -- What a line asks for, once it is read, and what its answer says.
-use Rattle.std.specs.Prelude.{◌≡◌, ℕ, ◌+◌, ◌≤◌, ◌<◌, Bool, true, false, List, [], ◌∷◌, length, map, Option, Some, None, IfSome, ⊤, if◌then◌else◌}
+use Rattle.std.specs.Prelude.{◌≡◌, ℕ, ◌+◌, ◌≤◌, ◌<◌, Bool, true, false, List, [], ◌∷◌, length, Option, Some, None, IfSome, ⊤, if◌then◌else◌}
 use Rattle.std.specs.Option.{option_map}
-use Rattle.gcl_model.specs.Collections.{text_of}
 use Rattle.gcl_model.specs.Names.{is_name}
-use Rattle.live_version.specs.Contents.{VersionContent, files_of}
+use Rattle.live_version.specs.Contents.{VersionContent}
 use Rattle.collection.specs.Engines.{EngineContent}
 use Rattle.image_file.specs.Images.{CanBeSaved}
 use Rattle.gcl_model.specs.Limits.{merge_end, version_end}
 use Rattle.standing_query.specs.Watches.{AreWellFormedWatches, WatchListContent}
 use Rattle.outside.specs.Contents.{Contents}
 use Rattle.script_lang.specs.Lines.{Line}
-use Rattle.script_lang.specs.Answers.{file_line, gone_line, merging_line, opened_line, saved_line, shards_line, watch_line, unwatched_line}
+use Rattle.script_lang.specs.Answers.{merging_line, shards_line}
 use Rattle.script_answers.specs.Answers.{Reply, add_reply, answer, asks_query, del_reply, files_lines, names_kept_of_line, names_of_line, open_reply, save_reply, state_merged, telling, unchanged, unwatch_reply, watch_reply, IsRead}
-use Rattle.answer_text.specs.Texts.{listing_lines, refusal_lines}
-use Rattle.script_answers.specs.Images.{IsReading}
+use Rattle.answer_text.specs.Texts.{refusal_lines}
+use Rattle.image_read.specs.Answers.{IsReading}
 use Rattle.script_answers.specs.States.{State, Keeps}
 use Rattle.script_lang.specs.declared.commands.Command.{Command}
 use Rattle.script_lang.specs.declared.commands.Command.TheVariants.{Blank, Add as ToAdd, Del, Files as ToList, Merge as ToMerge, Shards, Save as ToSave, Load, Watch as ToWatch, Unwatch as ToUnwatch, Wrong}
@@ -23,7 +22,6 @@ use Rattle.answer_text.specs.Watching.{watching_of}
 use Rattle.answer_text.specs.declared.action.Action.{Action}
 use Rattle.answer_text.specs.declared.action.Action.TheVariants.{Add, Delete, ListFiles, Merge, CountSlots, Save, Open, Watch, Unwatch, Refuse}
 use Rattle.answer_text.specs.declared.answer.Answer.{Answer}
-use Rattle.answer_text.specs.declared.answer.Answer.TheVariants.{Added, Gone, Files, Merging, Slots, Saved, Opened, Watching, Unwatched, Refused}
 use Rattle.script_answers.specs.declared.task.Task.{Task}
 use Rattle.script_answers.specs.declared.task.Task.TheVariants.{Nothing, Ask, Act}
 use Rattle.script_answers.specs.declared.limits.Limits.{Limits}

@@ -1,11 +1,10 @@
-use Rattle.std.proofs.Common.{◌≡◌, ◌+◌, ◌≤◌, refl, sym, ap, ◌∙◌, subst, arith, rules}
-use Rattle.gcl_model.proofs.Cases.{on_err}
+use Rattle.std.proofs.Common.{◌≡◌, refl, sym, ap, subst, arith, rules}
 use Rattle.live_version.specs.Contents.{VersionContent}
 use Rattle.standing_query.specs.Watches.{AreWellFormedWatches, WatchListContent}
 use Rattle.script_answers.specs.States.{Keeps}
 use Rattle.script_answers.specs.inner.Service.{merges_pending, stand}
 use Rattle.script_answers.proofs.SaveReplies.{fresh_savable}
-use Rattle.query_run.proofs.Told.{told_answered, told_halts, told_left, told_serves, told_within}
+use Rattle.query_run.proofs.Told.{told_serves, told_within}
 use Rattle.query_run.proofs.stream.serve_all.Goals as goal
 
 pub serve_script-requires-clause-serving : goal.serve_script-requires-clause-serving

@@ -1,13 +1,12 @@
 use Rattle.std.proofs.Common.{◌≡◌, ℕ, ◌+◌, ◌≤◌, false, List, [], ◌++◌, length, sym, ap, ◌∙◌, subst, arith, rules}
 use Rattle.std.specs.Prelude.{Err}
 use Rattle.gcl_model.proofs.Cases.{on_err}
-use Rattle.script_lang.specs.Feeds.{Feed}
 use Rattle.script_lang.specs.Lines.{ended, lines}
 use Rattle.script_answers.specs.Answers.{names_kept_of, names_kept_of_line, names_of, names_of_line}
-use Rattle.script_answers.specs.inner.Service.{Halts, Serves, stand}
+use Rattle.script_answers.specs.inner.Service.{Serves, stand}
 use Rattle.script_answers.proofs.Service.{halts_as}
 use Rattle.query_run.specs.Faults.{of_read, of_run}
-use Rattle.query_run.specs.inner.Streams.{ReadsOn, ServesWithin, ending_of, fault_ending}
+use Rattle.query_run.specs.inner.Streams.{ServesWithin}
 use Rattle.query_run.specs.declared.read.ReadFault.TheVariants.{TooLong as ReadTooLong}
 use Rattle.query_run.proofs.StreamLemmas.{at_script, come_last, come_next, ended_few, ending_is, fed_piece, hands_all, hands_over, hands_piece, long_ended, no_files, none_among, read_long, reads_all, reads_halts, reads_served, reads_stop, reads_within, run_ending, sure_run, takes_handed, takes_more}
 use Rattle.query_run.proofs.stream.serve_script.Goals as goal

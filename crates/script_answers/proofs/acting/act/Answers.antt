@@ -1,15 +1,7 @@
 use Rattle.std.proofs.Common.{◌≡◌, ℕ, List, [], ◌∷◌, false, Result, Ok, Err, IfOk, OnOk, refl, sym, ap, ◌∙◌, subst, arith, rules}
-use Rattle.collection.specs.Engines.{EngineContent}
-use Rattle.image_file.specs.Images.{CanBeSaved}
-use Rattle.standing_query.specs.Watches.{WatchListContent}
-use Rattle.answer_text.specs.Given.{IsLocal, merges}
-use Rattle.answer_text.specs.declared.answer.Answer.{Answer}
-use Rattle.script_answers.specs.inner.Service.{StepsOn}
+use Rattle.script_answers.proofs.Prelude.{action_kept, action_names, merges, unchanged, unwatch_reply, Action, Answer, CanBeSaved, EngineContent, IsLocal, IsReadByAction, StepsOn, WatchListContent}
 use Rattle.script_answers.specs.inner.Telling.{ActsOn}
 use Rattle.std.proofs.lemmas.Result.{IfOk-weaker}
-use Rattle.script_answers.specs.Answers.{unchanged, unwatch_reply}
-use Rattle.script_answers.specs.inner.Tasks.{IsReadByAction, action_kept, action_names}
-use Rattle.answer_text.specs.declared.action.Action.{Action}
 use Rattle.answer_text.specs.declared.action.Action.TheVariants.{Add, Delete, ListFiles, Merge, CountSlots, Save, Open, Watch, Unwatch, Refuse}
 use Rattle.script_answers.proofs.WatchReplies.{does_attend, does_other, listed, slots_counted}
 use Rattle.script_answers.proofs.acting.act.Goals as goal
@@ -93,9 +85,6 @@ returns-in-Add-clause-quiet g c = λ none. absurd (asked_name c.args.action.now 
 pub returns-in-Add-clause-named : goal.returns-in-Add-clause-named
 returns-in-Add-clause-named g c = λ failed none. asked_name c.args.action.now (Add c.in-Add.name) _ c.in-Add.is refl none
 
-pub returns-in-Add-clause-unsaved : goal.returns-in-Add-clause-unsaved
-returns-in-Add-clause-unsaved g c = λ none. c.add.ensures.same
-
 pub returns-in-Add-clause-steps : goal.returns-in-Add-clause-steps
 returns-in-Add-clause-steps g c = acts c.add.result c.args.action.now (Add c.in-Add.name) c.args.engine.now c.add.new.engine c.args.watches.now c.in-Add.is refl c.add.ensures.steps c.add.ensures.local
 
@@ -110,9 +99,6 @@ returns-in-Save-clause-unsaved g c = λ none. absurd (kept_name c.args.action.no
 
 pub returns-in-Open-clause-named : goal.returns-in-Open-clause-named
 returns-in-Open-clause-named g c = λ failed none. asked_name c.args.action.now (Open c.in-Open.name) _ c.in-Open.is refl none
-
-pub returns-in-Open-clause-unsaved : goal.returns-in-Open-clause-unsaved
-returns-in-Open-clause-unsaved g c = λ none. c.open.ensures.same
 
 pub returns-in-Open-clause-steps : goal.returns-in-Open-clause-steps
 returns-in-Open-clause-steps g c = acts c.open.result c.args.action.now (Open c.in-Open.name) c.args.engine.now c.open.new.engine c.args.watches.now c.in-Open.is refl c.open.ensures.steps c.open.ensures.local

@@ -1,24 +1,12 @@
 use Rattle.std.proofs.Common.{◌≡◌, ℕ, ◌+◌, ◌++◌, true, false, List, length, nat_lt, if◌then◌else◌, inl, inr, Option, Some, Ok, refl, sym, ap, ◌∙◌, subst, arith, length-append}
 use Rattle.std.specs.Option.{option_map}
 use Rattle.std.proofs.lemmas.Bool.{cases_Bool, lt-ltb, le-ltb}
-use Rattle.gcl_model.specs.Limits.{address_end}
-use Rattle.gcl_model.specs.Collections.{width_of}
-use Rattle.gcl_model.specs.Tokens.{tokens_of}
+use Rattle.script_answers.proofs.Prelude.{add_reply, address_end, content_reply, refusal_lines, tokens_of, unchanged, width_of, Answer, BeginsContent, Contents, EngineContent, FileError, Follows, Gives, IsAt, Limits, Loads, State}
 use Rattle.gcl_model.proofs.Cases.{IfSome-at}
-use Rattle.outside.specs.Contents.{BeginsContent, Contents, Loads}
-use Rattle.outside.specs.declared.faults.FileError.{FileError}
 use Rattle.outside.specs.declared.files.Loaded.{Loaded}
 use Rattle.outside.specs.declared.files.Loaded.TheVariants.{Long, Whole}
-use Rattle.collection.specs.Engines.{EngineContent}
 use Rattle.script_lang.specs.declared.refusals.Refusal.TheVariants.{TooLong}
-use Rattle.answer_text.specs.Texts.{refusal_lines}
-use Rattle.answer_text.specs.declared.answer.Answer.{Answer}
 use Rattle.answer_text.specs.declared.answer.Answer.TheVariants.{Refused}
-use Rattle.script_answers.specs.States.{State}
-use Rattle.script_answers.specs.Answers.{add_reply, content_reply, unchanged}
-use Rattle.script_answers.specs.declared.limits.Limits.{Limits}
-use Rattle.script_answers.specs.inner.Service.{IsAt}
-use Rattle.script_answers.specs.inner.Tasks.{Follows, Gives}
 use Rattle.script_answers.proofs.changes.add.Goals as goal
 
 -- a file that is too long is refused

@@ -1,5 +1,5 @@
 use Rattle.std.proofs.Common.{refl}
-use Rattle.script_answers.proofs.ImageLemmas.{reads_none}
+use Rattle.image_read.proofs.Readings.{reads_none}
 use Rattle.script_answers.proofs.SaveReplies.{reading_refused}
 use Rattle.script_answers.proofs.saving.open_content.Goals as goal
 

@@ -1,17 +1,12 @@
 use Rattle.std.proofs.Common.{◌≤◌, length, map, refl, sym, ap, ◌∙◌, subst, arith, rules}
 use Rattle.std.proofs.lemmas.List.{length-map}
 use Rattle.gcl_model.proofs.Cases.{on_err}
-use Rattle.gcl_model.specs.Collections.{text_of}
-use Rattle.live_version.specs.Contents.{version_text}
-use Rattle.query_lanes.specs.Answers.{answer_in}
-use Rattle.gcl_model.specs.Limits.{most_readers}
+use Rattle.script_answers.proofs.Prelude.{answer_in, fault_ending, most_readers, of_write, text_of, version_text}
 use Rattle.query_lanes.specs.Readers.{AreOf}
-use Rattle.script_answers.specs.Faults.{of_write}
-use Rattle.script_answers.specs.declared.run_fault.RunFault.TheVariants.{Write, Files, NoMemory}
-use Rattle.script_answers.specs.inner.Service.{fault_ending}
+use Rattle.script_answers.specs.declared.run_fault.RunFault.TheVariants.{Files, NoMemory}
 use Rattle.script_answers.proofs.BatchLemmas.{merged_keeps}
 use Rattle.script_answers.proofs.BatchSteps.{halts_batch, serves_batch, waits_batch}
-use Rattle.script_answers.proofs.Exits.{calm, calm_done, err_of, merged_number, not_files, savable_still, short_files, short_write, sink_ended, whole_row, within_done, asked_done, numbered_done}
+use Rattle.script_answers.proofs.Exits.{done_sink, err_of, merged_number, not_files, savable_still, short_sink, sink_ended, whole_row, within_done, asked_done, numbered_done}
 use Rattle.script_answers.proofs.Service.{ending_is, lost_write, no_files}
 use Rattle.script_answers.proofs.serving.serve_batch.Goals as goal
 
@@ -36,17 +31,14 @@ returns-clause-serves g c = λ held batch are.
     (λ state keeps. merged_keeps c.args.progress.now.pending c.args.opened.now.engine c.answer_batch.new.engine state c.in_ok-answers.ensures.merged keeps)
     (λ state keeps. c.in_ok-answers.ensures.answers state.collection keeps.stands ∙ ap (map (answer_in (text_of state.collection))) c.as_slice.ensures.value) (search rules) c.in_ok-progress.ensures.written
 
-pub returns-in_err-answers-clause-sink : goal.returns-in_err-answers-clause-sink
-returns-in_err-answers-clause-sink g c = calm _ _ c.from_residual.result NoMemory Write refl c.from_residual.ensures.1 short_write
+pub returns-in_err-answers-clause-leaves : goal.returns-in_err-answers-clause-leaves
+returns-in_err-answers-clause-leaves g c = short_sink _ _ c.from_residual.result c.from_residual.ensures.1 refl
 
-pub returns-in_err-answers-clause-ours : goal.returns-in_err-answers-clause-ours
-returns-in_err-answers-clause-ours g c = λ of. short_files (err_of c.from_residual.result NoMemory Files c.from_residual.ensures.1 of)
-
-pub returns-in_err-progress-clause-sink : goal.returns-in_err-progress-clause-sink
-returns-in_err-progress-clause-sink g c = sink_ended _ _ _ c.from_residual-in_err-progress.result c.in_err-progress.field-0.0 refl c.from_residual-in_err-progress.ensures.1 c.in_err-progress.ensures.counts c.in_err-progress.ensures.cause
-
-pub returns-in_err-progress-clause-ours : goal.returns-in_err-progress-clause-ours
-returns-in_err-progress-clause-ours g c = λ of. not_files c.in_err-progress.field-0.0 (err_of c.from_residual-in_err-progress.result (of_write c.in_err-progress.field-0.0) Files c.from_residual-in_err-progress.ensures.1 of)
+pub returns-in_err-progress-clause-leaves : goal.returns-in_err-progress-clause-leaves
+returns-in_err-progress-clause-leaves g c = record {
+  ours = λ of. not_files c.in_err-progress.field-0.0 (err_of c.from_residual-in_err-progress.result (of_write c.in_err-progress.field-0.0) Files c.from_residual-in_err-progress.ensures.1 of);
+  sink = sink_ended _ _ _ c.from_residual-in_err-progress.result c.in_err-progress.field-0.0 refl c.from_residual-in_err-progress.ensures.1 c.in_err-progress.ensures.counts c.in_err-progress.ensures.cause;
+}
 
 pub returns-clause-serving : goal.returns-clause-serving
 returns-clause-serving g c =
@@ -65,6 +57,3 @@ returns-clause-serving g c =
       watches = serving.watches;
       numbered = numbered_done _ _ _ _ serving.numbered lines;
     }
-
-pub returns-clause-sink : goal.returns-clause-sink
-returns-clause-sink g c = calm_done _ _ Write c.in_ok-progress.ensures.counts

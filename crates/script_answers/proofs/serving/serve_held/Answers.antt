@@ -1,4 +1,4 @@
-use Rattle.std.proofs.Common.{◌≡◌, ◌≤◌, ◌+◌, ◌++◌, [], length, drop, refl, sym, ap, ◌∙◌, arith, rules}
+use Rattle.std.proofs.Common.{refl, sym, ap, ◌∙◌, arith, rules}
 use Rattle.std.proofs.lemmas.List.{drop_all}
 use Rattle.gcl_model.proofs.Cases.{on_err}
 use Rattle.script_lang.specs.Lines.{line_of_cut, lines}
@@ -28,14 +28,14 @@ returns-in_err-serve_task-clause-halts g c = on_err _ c.from_residual-in_err-ser
     (rw (ending_is c.from_residual-in_err-serve_task.result c.in_err-serve_task.field-0.0 c.from_residual-in_err-serve_task.ensures.1)
     (goes_halts c.args.setting.now.limits (lines c.args.setting.now.limits.line c.args.script.now) _ c.loop-cut.asks.items _ _ _ _ _ _ _ _ c.loop-cut.invariant.goes (λ waiting are. rw c.in-Some.ensures.line
     (halts_as c.args.setting.now.limits _ _ _ _ _ _ _ _ (λ kept. kept ∙ sym (c.loop-cut.invariant.files.sure tt))
-    (c.in_err-serve_task.ensures.halts waiting _ (line_of_cut c.args.script.now c.in-Some.cut) are c.in_ok-task.ensures.task)))))
+    (c.in_err-serve_task.ensures.takes.halts waiting _ (line_of_cut c.args.script.now c.in-Some.cut) are c.in_ok-task.ensures.task)))))
 
 pub returns-in_err-serve_task-clause-files : goal.returns-in_err-serve_task-clause-files
 returns-in_err-serve_task-clause-files g c =
     let line = line_of_cut c.args.script.now c.in-Some.cut in
     let task = c.in_ok-task.ensures.task in
     keeps_on _ _ _ _ _ _ _ _ _ c.args.setting.now.limits _ _ _ line c.loop-cut.asks.items _ _ _ _ _ _ _ c.from_residual-in_err-serve_task.result c.in-Some.ensures.line c.loop-cut.invariant.goes
-    (task_names_are c.in_ok-task.task line task) (task_kept_are c.in_ok-task.task line task) c.loop-cut.invariant.files c.in_err-serve_task.ensures.files
+    (task_names_are c.in_ok-task.task line task) (task_kept_are c.in_ok-task.task line task) c.loop-cut.invariant.files c.in_err-serve_task.ensures.leaves.files
     (sure_as c.from_residual-in_err-serve_task.result c.in_err-serve_task.field-0.0 c.from_residual-in_err-serve_task.ensures.1)
 
 pub loop-cut-preserved : goal.loop-cut-preserved
@@ -44,16 +44,16 @@ loop-cut-preserved g c =
     let task = c.in_ok-task.ensures.task in
     let further = c.in-Some.ensures.places.further in
     let within = c.in-Some.ensures.places.in_text in
-    let each = c.in_ok-serve_task.ensures.each in
+    let each = c.in_ok-serve_task.ensures.takes.each in
     let room = c.loop-cut.invariant.room in
     record {
       within = within;
       room = omega (arith, further, within, each, room);
-      serving = c.in_ok-serve_task.ensures.serving;
+      serving = c.in_ok-serve_task.ensures.takes.serving;
       goes = goes_on c.args.setting.now.limits (lines c.args.setting.now.limits.line c.args.script.now) _ _ line c.loop-cut.asks.items _ _ _ _ _ _ _ c.in-Some.ensures.line c.loop-cut.invariant.goes
-          (λ waiting are. c.in_ok-serve_task.ensures.goes waiting _ line are task);
+          (λ waiting are. c.in_ok-serve_task.ensures.takes.goes waiting _ line are task);
       files = keeps_on _ _ _ _ _ _ _ _ _ c.args.setting.now.limits _ _ _ line c.loop-cut.asks.items _ _ _ _ _ _ _ _ c.in-Some.ensures.line c.loop-cut.invariant.goes
-          (task_names_are c.in_ok-task.task line task) (task_kept_are c.in_ok-task.task line task) c.loop-cut.invariant.files c.in_ok-serve_task.ensures.files (λ due. due);
+          (task_names_are c.in_ok-task.task line task) (task_kept_are c.in_ok-task.task line task) c.loop-cut.invariant.files c.in_ok-serve_task.ensures.leaves.files (λ due. due);
       sink_same = search rules;
       files_same = search rules;
     }

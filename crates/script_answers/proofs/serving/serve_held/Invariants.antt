@@ -1,4 +1,4 @@
-use Rattle.std.proofs.Common.{◌≡◌, ◌+◌, ◌-◌, ◌≤◌, List, length, drop, Ok}
+use Rattle.std.proofs.Common.{◌≡◌, ◌+◌, ◌-◌, ◌≤◌, length, drop, Ok}
 use Rattle.script_lang.specs.Lines.{lines}
 use Rattle.script_answers.specs.Answers.{names_kept_of, names_of}
 use Rattle.script_answers.specs.inner.Service.{Goes, IsServing, KeepsFiles, stand}

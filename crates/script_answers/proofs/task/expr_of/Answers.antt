@@ -1,6 +1,5 @@
-use Rattle.std.proofs.Common.{◌≡◌, refl}
+use Rattle.std.proofs.Common.{refl}
 use Rattle.gcl_model.specs.FormOf.{form_of}
-use Rattle.script_lang.specs.declared.refusals.Refusal.TheVariants.{Query}
 use Rattle.script_answers.proofs.BatchLemmas.{lines_of_form, lines_of_fault, no_fault}
 use Rattle.script_answers.proofs.task.expr_of.Goals as goal
 

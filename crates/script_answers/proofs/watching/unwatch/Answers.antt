@@ -1,4 +1,3 @@
-use Rattle.std.proofs.Common.{refl, rules}
 use Rattle.script_answers.proofs.WatchReplies.{no_watch, unwatched}
 use Rattle.script_answers.proofs.watching.unwatch.Goals as goal
 

@@ -1,4 +1,4 @@
-use Rattle.std.proofs.Common.{◌≡◌, refl, rules}
+use Rattle.std.proofs.Common.{refl}
 use Rattle.std.proofs.lemmas.Result.{IfOk-weaker}
 use Rattle.gcl_model.specs.FormOf.{form_of}
 use Rattle.gcl_parser.proofs.QueryForms.{query_forms_are_of_queries}

@@ -1,29 +1,20 @@
--- The terms of some words, and what an image of them says.
-use Rattle.std.proofs.Common.{◌≡◌, ℕ, zero, suc, ◌^◌, ◌<◌, ◌≤◌, Bool, true, false, ◌||◌, List, [], ◌∷◌, length, map, drop, bytes_eq, nat_cmp, Ordering, Option, Some, None, inl, inr, refl, sym, ap, ◌∙◌, subst, arith, length-drop}
+-- The terms of some words, made from the last word on, are their terms, and there are no others.
+use Rattle.std.proofs.Common.{◌≡◌, ℕ, ◌+◌, ◌<◌, ◌≤◌, Bool, true, false, ◌||◌, List, [], ◌∷◌, length, map, bytes_eq, nat_cmp, Ordering, inl, inr, refl, sym, ap, ◌∙◌, subst, arith}
 use Rattle.std.specs.declared.cmp.Ordering.TheVariants.{Less, Equal, Greater}
 use Rattle.std.specs.Cmp.Lexicographic.{slice_cmp}
 use Rattle.std.specs.List.{AllByRecursion, list_any}
 use Rattle.std.proofs.lemmas.Bool.{cases_Bool}
 use Rattle.std.proofs.lemmas.Cmp.{nat_list_cmp_total}
+use Rattle.std.proofs.lemmas.List.{length-map}
 use Rattle.std.proofs.lemmas.Map.Lookups.{exact_bytes}
 use Rattle.std.proofs.lemmas.Slice.Eq.{bytes_eq-Decides}
 use Rattle.gcl_model.specs.Texts.{Word, places}
-use Rattle.gcl_model.specs.Collections.{Collection, words_of}
-use Rattle.gcl_model.specs.Tokens.{tokens_of}
-use Rattle.gcl_model.proofs.Lists.{all_append, all_map, all_weaker}
+use Rattle.gcl_model.proofs.Lists.{all_map, all_weaker}
 use Rattle.gcl_model.proofs.Cases.{or_swap}
-use Rattle.word_tokens.specs.Lexemes.{part_of}
-use Rattle.word_tokens.proofs.PartLemmas.{part_of_fits, tokens_of-part}
 use Rattle.index_shard.specs.Tables.{TermEntry, ComesBefore, postings_of}
-use Rattle.image_file.specs.declared.format.Format.{Format}
-use Rattle.image_file.specs.declared.format.Format.TheVariants.{One, Two}
-use Rattle.image_file.specs.Fields.{image_bytes}
-use Rattle.image_file.specs.Images.{AreTermsOf, HasShortTokens, Spells, TermsRise, fields_of, forgotten, most_term}
-use Rattle.image_file.proofs.TermTables.{one_table, reversed}
-use Rattle.image_file.proofs.ImageLaws.{spells_one}
-use Rattle.image_read.specs.Answers.{IsNoImage}
-use Rattle.script_answers.specs.Images.{with_token, token_by, tokens_in_order, term_of, terms_of, image_of, IsReading}
 use Rattle.live_version.specs.Terms.{has_term as is_among}
+use Rattle.image_file.specs.Images.{AreTermsOf, TermsRise, term_of, terms_of, token_by, tokens_in_order, with_token}
+use Rattle.image_file.proofs.TermTables.{one_table, reversed}
 
 -- what holds of a token and of others holds of all of them together
 all_with : (P : List ℕ → Type 0) (t : List ℕ) (ts : List (List ℕ)) → P t → AllByRecursion P ts → AllByRecursion P (with_token t ts)
@@ -138,7 +129,6 @@ each_some (w ∷ words) =
     all_with (HasPlaces (w ∷ words)) w.token (tokens_in_order words) (own_place w words)
     (all_weaker (HasPlaces words) (HasPlaces (w ∷ words)) (λ t some. more_places w words t some) (tokens_in_order words) (each_some words))
 
--- they are the terms of the words
 pub terms_are : (words : List Word) → AreTermsOf words (terms_of words)
 terms_are words = record {
   rising = terms_rise words (tokens_in_order words) (order_rises words);
@@ -150,12 +140,36 @@ terms_are words = record {
     by_token t true is = found words (tokens_in_order words) t (among_order words t ∙ is)
     by_token t false is = missed words (tokens_in_order words) t (among_order words t ∙ is) ∙ sym (no_places words t is)
 
--- the one image of a collection in version 2
-pub image_is : (c : Collection) (bytes : List ℕ) → Spells Two bytes (forgotten c) → bytes ≡ image_of c
-image_is c bytes s =
-    s.spelled.1.bytes ∙ ap (λ terms. image_bytes Two (fields_of c terms)) (one_table (words_of c) s.spelled.0 (terms_of (words_of c)) s.spelled.1.terms (terms_are (words_of c)))
+-- ---- no more terms than words
 
--- tokens that are short where they stand as terms are short in the words
+with_longer : (t : List ℕ) (ts : List (List ℕ)) → length (with_token t ts) ≤ length ts + 1
+with_longer t [] = omega arith
+with_longer t (u ∷ us) = by_order (slice_cmp nat_cmp t u) (with_token t us) (with_longer t us)
+  where
+    by_order : (o : Ordering) (rest : List (List ℕ)) → length rest ≤ length us + 1 → length (token_by o t u us rest) ≤ length (u ∷ us) + 1
+    by_order Less rest later = omega arith
+    by_order Equal rest later = omega arith
+    by_order Greater rest later = omega arith
+
+order_few : (words : List Word) → length (tokens_in_order words) ≤ length words
+order_few [] = omega arith
+order_few (w ∷ words) = let rest = order_few words in let here = with_longer w.token (tokens_in_order words) in omega arith
+
+pub few_terms : (words : List Word) (terms : List TermEntry) → AreTermsOf words terms → length terms ≤ length words
+few_terms words terms is =
+    let few = order_few words in
+    let long = length-map (tokens_in_order words) (term_of words) in
+    subst (λ es. length es ≤ length words) (one_table words (terms_of words) terms (terms_are words) is) (omega (arith, few, long))
+
+-- ---- what holds of the tokens of all words holds of all terms, and the other way
+
+order_all : (P : List ℕ → Type 0) (words : List Word) → AllByRecursion (λ (w : Word). P w.token) words → AllByRecursion P (tokens_in_order words)
+order_all P [] all = tt
+order_all P (w ∷ words) all = all_with P w.token (tokens_in_order words) all.0 (order_all P words all.1)
+
+pub terms_all : (P : List ℕ → Type 0) (words : List Word) → AllByRecursion (λ (w : Word). P w.token) words → AllByRecursion (λ (e : TermEntry). P e.term) (terms_of words)
+terms_all P words all = all_map (λ (e : TermEntry). P e.term) (term_of words) (tokens_in_order words) (order_all P words all)
+
 all_terms : (P : List ℕ → Type 0) (words : List Word) (ts : List (List ℕ)) → AllByRecursion (λ (e : TermEntry). P e.term) (map (term_of words) ts) → AllByRecursion P ts
 all_terms P words [] all = tt
 all_terms P words (t ∷ ts) all = (all.0, all_terms P words ts all.1)
@@ -164,46 +178,5 @@ all_words : (P : List ℕ → Type 0) (words : List Word) → AllByRecursion P (
 all_words P [] all = tt
 all_words P (w ∷ words) all = let both = with_all P w.token (tokens_in_order words) all in (both.here, all_words P words both.rest)
 
-within_most : (format : Format) → most_term format ≤ 2 ^ 56
-within_most One = omega arith
-within_most Two = omega arith
-
--- a collection that has an image has no token too long to be written
-pub spelled_short : (format : Format) (bytes : List ℕ) (c : Collection) → Spells format bytes c → HasShortTokens c
-spelled_short format bytes c s =
-    let words : List Word = words_of c in
-    let most : most_term format ≤ 2 ^ 56 = within_most format in
-    let short = subst (AllByRecursion (λ (e : TermEntry). length e.term < most_term format)) (one_table words s.spelled.0 (terms_of words) s.spelled.1.terms (terms_are words)) s.spelled.1.short in
-    all_words (λ (t : List ℕ). length t < 2 ^ 56) words
-    (all_weaker (λ (t : List ℕ). length t < most_term format) (λ (t : List ℕ). length t < 2 ^ 56) (λ t less. omega (arith, less, most)) (tokens_in_order words)
-    (all_terms (λ (t : List ℕ). length t < most_term format) words (tokens_in_order words) short))
-
--- no token of a text has more bytes than the text
-shorter : (m n : ℕ) (text : List ℕ) → length text ≤ n → n ≤ m → AllByRecursion (λ (t : List ℕ). length t ≤ m) (tokens_of text)
-shorter m n [] le within = tt
-shorter m zero (b ∷ bytes) le within = absurd (omega arith)
-shorter m (suc n) (b ∷ bytes) le within =
-    let text : List ℕ = b ∷ bytes in
-    let fit = part_of_fits (b ∷ bytes) (omega arith) in
-    let some : 1 ≤ (part_of (b ∷ bytes)).size = fit.some in
-    let fits : (part_of (b ∷ bytes)).size ≤ length (b ∷ bytes) = fit.fits in
-    let rest : List ℕ = drop (part_of (b ∷ bytes)).size (b ∷ bytes) in
-    let less = length-drop (part_of (b ∷ bytes)).size (b ∷ bytes) in
-    subst (AllByRecursion (λ (t : List ℕ). length t ≤ m)) (sym (tokens_of-part (b ∷ bytes)))
-    (all_append (λ (t : List ℕ). length t ≤ m) (part_of (b ∷ bytes)).tokens (tokens_of rest)
-    (all_weaker (λ (t : List ℕ). length t ≤ (part_of (b ∷ bytes)).size) (λ (t : List ℕ). length t ≤ m) (λ t short. omega (arith, short, fits, le, within)) (part_of (b ∷ bytes)).tokens fit.short)
-    (shorter m n rest (omega (arith, less, some, fits, le)) (omega (arith, within))))
-
-pub tokens_short : (text : List ℕ) → length text < 2 ^ 56 → AllByRecursion (λ (t : List ℕ). length t < 2 ^ 56) (tokens_of text)
-tokens_short text few =
-    all_weaker (λ (t : List ℕ). length t ≤ length text) (λ (t : List ℕ). length t < 2 ^ 56) (λ t short. omega (arith, short, few)) (tokens_of text) (shorter (length text) (length text) text (omega arith) (omega arith))
-
--- bytes that are an image are read as one of its collection
-pub reads : (bytes : List ℕ) (o : Option Collection) (format : Format) (c : Collection) → Spells format bytes c → IsReading bytes o → o ≡ Some c
-reads bytes None format c spells reading = absurd (reading format c spells)
-reads bytes (Some d) format c spells reading = ap Some (spells_one reading.0 format bytes d c reading.1 spells)
-
--- and others as one of none
-pub reads_none : (bytes : List ℕ) (o : Option Collection) → IsNoImage bytes → IsReading bytes o → o ≡ None
-reads_none bytes None none reading = refl
-reads_none bytes (Some c) none reading = absurd (none reading.0 c reading.1)
+pub words_all : (P : List ℕ → Type 0) (words : List Word) → AllByRecursion (λ (e : TermEntry). P e.term) (terms_of words) → AllByRecursion (λ (w : Word). P w.token) words
+words_all P words all = all_words P words (all_terms P words (tokens_in_order words) all)
