@@ -89,16 +89,10 @@ fn answer_made<R: Threads + Wait + Sync + RandomSource, G: Gate + Sync>(
         &mut told,
         &mut completed,
     );
-    // let go by name: where control leaves this takes long to prove
-    drop(files);
-    drop(source);
     let refused = match status {
         Status::Done => false,
         Status::DoneWithRefusals => true,
-        _ => {
-            drop(told);
-            return None;
-        }
+        _ => return None,
     };
     Some(MadeAnswers {
         told,

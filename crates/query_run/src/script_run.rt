@@ -60,12 +60,10 @@ pub fn run_script<
     );
     let Opened {
         engine,
-        readers: used,
+        readers: _readers,
         lines,
     } = opened;
     engine.end(context.rt);
-    // let go by name: at the end of its block this takes long to prove
-    drop(used);
     *completed = lines;
     status
 }

@@ -185,10 +185,7 @@ pub fn serve<R: Threads + Wait + Sync, F: Files, S: Source, K: Sink, G: Gate + S
     };
     let mut progress = Progress::new(alloc);
     let ended = serve_all(&setting, files, source, sink, opened, &mut progress);
-    let refused = progress.refused;
-    // let go by name: at the end of its block this takes long to prove
-    drop(progress);
-    status_of(ended, refused)
+    status_of(ended, progress.refused)
 }
 
 /// How a run over a source that ended so is told to its caller.

@@ -25,15 +25,7 @@ pub fn expanded(alloc: Global, version: &Version, expr: Arc<Expr>) -> Result<Arc
     if !has_prefix_terms(&expr) {
         return Ok(expr);
     }
-    let expansion = match expansion_of(alloc, version, &expr) {
-        Ok(expansion) => expansion,
-        Err(fault) => {
-            // let go by name: where control leaves this takes long to prove
-            drop(expr);
-            return Err(fault);
-        }
-    };
-    drop(expr);
+    let expansion = expansion_of(alloc, version, &expr)?;
     match Arc::new(alloc, expansion) {
         Ok(expansion) => Ok(expansion),
         Err(_) => Err(AllocError),

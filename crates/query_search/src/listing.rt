@@ -42,14 +42,7 @@ impl Listing {
     {
         let mut rest = search;
         let size = most.min(PAGE);
-        let found = match rest.page(alloc, size) {
-            Ok(found) => found,
-            Err(fault) => {
-                // let go by name: where control leaves this takes long to prove
-                drop(rest);
-                return Err(fault);
-            }
-        };
+        let found = rest.page(alloc, size)?;
         let limit = most - size;
         Ok(Listing { found, rest, limit })
     }
@@ -79,8 +72,6 @@ impl Listing {
         let page = self.rest.page(alloc, most)?;
         self.limit -= most;
         if page.len() == 0 {
-            // let go by name: where control leaves this takes long to prove
-            drop(page);
             return Ok(None);
         }
         Ok(Some(page))

@@ -102,8 +102,6 @@ pub(crate) fn where_wide(merging: Option<Merging>, expansion: &Expr) -> Option<M
     ensures { (members : List Extent) → IfSome merging (λ list. list ≡ members) → IfSome result (λ list. list ≡ members) }
 {
     if !is_wide(expansion) {
-        // let go by name: where control leaves this takes long to prove
-        drop(merging);
         return None;
     }
     merging

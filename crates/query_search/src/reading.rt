@@ -63,18 +63,9 @@ pub fn page_from<S: Ledger>(
     let Some(mut reading) = readers.take() else {
         return pass_list_from(alloc, pass, expr, from, most, steps);
     };
-    // what is not kept is let go by name: where control leaves this takes long to prove
-    let page = match pass_read_from(alloc, pass, &mut reading, expr, from, most, steps) {
-        Ok(page) => page,
-        Err(fault) => {
-            drop(reading);
-            return Err(fault);
-        }
-    };
+    let page = pass_read_from(alloc, pass, &mut reading, expr, from, most, steps)?;
     if page.len() as u64 == most {
         *readers = Some(reading);
-        return Ok(page);
     }
-    drop(reading);
     Ok(page)
 }

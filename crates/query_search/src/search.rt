@@ -54,15 +54,7 @@ impl Search {
         ensures few { IfOk result (λ search. length search ≤ address_end) }
     {
         let merging = merging_of(alloc, &pass, &expr);
-        let expr = match expanded(alloc, pass.version(), expr) {
-            Ok(expr) => expr,
-            Err(fault) => {
-                // let go by name: where control leaves this takes long to prove
-                drop(merging);
-                drop(pass);
-                return Err(fault);
-            }
-        };
+        let expr = expanded(alloc, pass.version(), expr)?;
         let merging = where_wide(merging, &expr);
         Ok(Search::with(alloc, pass, expr, merging))
     }
@@ -130,11 +122,7 @@ impl Search {
             return;
         }
         if let Ok(pages) = merging.pages() {
-            // let go by name: at the end of its block this takes long to prove
-            drop(merging);
             self.pages = pages;
-            return;
         }
-        drop(merging);
     }
 }

@@ -4,4 +4,4 @@ use Rattle.query_search.proofs.listing.Listing.of.Goals as goal
 
 pub returns : goal.returns
 returns c =
-    page_and_more c.args.most c.min-size.result c.args.search c.in-Ok.found c.page.new.self (omega (arith, c.min-size.ensures)) c.in-Ok.ensures.ok c.in-Ok.ensures.rest
+    page_and_more c.args.most c.min-size.result c.args.search c.in_ok-found.found c.page.new.self (omega (arith, c.min-size.ensures)) c.in_ok-found.ensures.ok c.in_ok-found.ensures.rest
