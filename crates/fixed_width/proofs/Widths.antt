@@ -11,7 +11,7 @@ use Rattle.gcl_model.proofs.Minimal.{filter_has, has_filter, has_extent, same_tr
 use Rattle.gcl_model.proofs.Meanings.{IsOf, each_of_text, concordance_rises}
 use Rattle.fixed_width.specs.Widths.{width_list}
 
--- the first member from k on, where none that lies from k on starts before it
+-- the first member at or after k, if none that lies at or after k starts before it
 first_found : (list : List Extent) → IsRising list → (k : ℕ) (b : Extent) → Has list b → k ≤ b.start → ((d : Extent) → Has list d → k ≤ d.start → b.start ≤ d.start) → Some b ≡ first_start list k
 first_found [] r k b m le least = absurd m
 first_found (x ∷ xs) r k b (inl same) le least =
@@ -31,7 +31,7 @@ last_missing : (list : List Extent) (k : ℕ) → ((d : Extent) → Has list d �
 last_missing [] k behind = refl
 last_missing (x ∷ xs) k behind = rw (← last_missing xs k (λ d n. behind d (inr n)), lt-leb x.end k (behind x (inl refl))) refl
 
--- the last member up to k, where none that ends by k ends after it
+-- the last member up to k, if none that ends by k ends after it
 last_found : (list : List Extent) → IsRising list → (k : ℕ) (b : Extent) → Has list b → b.end ≤ k → ((d : Extent) → Has list d → d.end ≤ k → d.end ≤ b.end) → Some b ≡ last_end list k
 last_found [] r k b m le most = absurd m
 last_found (x ∷ xs) r k b (inl same) le most =
@@ -99,14 +99,14 @@ module _ (text : Text) (n : ℕ) where
   pub last_end_none : (k : ℕ) → min text.next (k + 1) < text.first + n → None ≡ last_end (width_list text n) k
   last_end_none k past = last_missing (width_list text n) k (λ d m. let w = is_wide d m in let above = w.above in let below = w.below in let wide = w.wide in omega arith)
 
-  -- one starts at each address from the first one on, as long as n addresses are left
+  -- one starts at each address, starting at the first, while n addresses are left
   pub width_counted : (m : ℕ) → 1 ≤ n → m ≡ ((text.next - text.first) + 1) - n → text.first ≤ text.next → m ≡ length (width_list text n)
   width_counted m some is ordered =
       sym (starts_counted (width_list text n) (concordance_rises text (width n)) text.first m
       (λ d h. let w = is_wide d h in let above = w.above in let below = w.below in let wide = w.wide in (above, omega arith))
       (λ p lo hi. (extent p (p + (n - 1)), (has_wide p (p + (n - 1)) lo (omega arith) (omega arith) (omega arith), refl))))
 
-  -- by the end is by the start, so many addresses before
+  -- by the end is by the start, n - 1 addresses before
   pub first_end_is : (k : ℕ) → 1 ≤ n → first_start (width_list text n) (k - (n - 1)) ≡ first_end (width_list text n) k
   first_end_is k some =
       find_agree_on (λ c. leb (k - (n - 1)) c.start) (λ c. leb k c.end) (width_list text n) (λ d m.

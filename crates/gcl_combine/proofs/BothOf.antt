@@ -55,7 +55,7 @@ some_step Forward s a w false rest e = grind (arith, nat_tests)
 some_step Backward s a w true rest e = grind (arith, nat_tests)
 some_step Backward s a w false rest e = grind (arith, nat_tests)
 
--- each list covers (k, w) just where w lies as far as their farthest answer from k on
+-- each list covers (k, w) exactly if w lies as far as their farthest answer at k
 step_cases : (way : Direction) (k w s : ℕ) (list : List Extent) (lists : List (List Extent)) → IsRising list →
     ((s : ℕ) → (is_as_far way s w && all_cover lists (between way k w)) ≡ reaches way (farthest way lists k s) w) →
     (o : Option Extent) → near_access way list k ≡ o →
@@ -94,7 +94,7 @@ farthest_is way (list ∷ lists) k s =
     ∙ farthest_step way s rest (farthest way lists k) (farthest_is way lists k) (near_access way list k)
     ∙ fold_cases (farther way) (far_side way) s (near_access way list k) rest
 
--- the farthest of the answers: what the loop computes from the first answer on
+-- the farthest of the answers: what the loop computes, starting with the first answer
 first_answer : (f : ℕ → ℕ → ℕ) (place : Extent → ℕ) (o : Option Extent) (rest : Option (List Extent)) →
     option_and_then (λ answers. reduce f (map place answers)) (option_and_then (λ a. option_map (λ answers. a ∷ answers) rest) o)
     ≡ option_and_then (λ a. option_map (λ answers. fold f (place a) (map place answers)) rest) o
@@ -143,7 +143,7 @@ first_start-both text forms some k = first_start_by _ _ _ (both_node text forms 
 pub last_end-both : (text : Text) (forms : Forms) → 1 ≤ forms_count forms → (k : ℕ) → last_end (concordance text (both forms)) k ≡ last_by (greatest_end (operands text forms)) (least_start (operands text forms)) k
 last_end-both text forms some k = last_end_by _ _ _ (both_node text forms some) k
 
--- an answer from k on lies as far as k: a loop may begin with k
+-- an answer at k lies as far as k: a loop may begin with k
 answer_is_farther : (way : Direction) (list : List Extent) → AllByRecursion IsProper list → (k : ℕ) (a : Extent) → near_access way list k ≡ Some a → farther way k (far_side way a) ≡ far_side way a
 answer_is_farther Forward list proper k a is =
     let m = find_gives (λ x. leb k x.start) list a is in

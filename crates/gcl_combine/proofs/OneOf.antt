@@ -17,7 +17,7 @@ use Rattle.gcl_model.specs.declared.direction.Direction.{Direction}
 use Rattle.gcl_model.specs.declared.direction.Direction.TheVariants.{Forward, Backward}
 use Rattle.gcl_combine.specs.Directions.{better}
 
--- c lies from k on, this way
+-- c lies at or after k, in this direction
 abbrev pub IsFrom : Direction → ℕ → Extent → Type 0
 IsFrom Forward k c = k ≤ c.start
 IsFrom Backward k c = c.end ≤ k
@@ -27,13 +27,13 @@ abbrev pub IsAsGood : Direction → Extent → Extent → Type 0
 IsAsGood Forward a c = EndsFirst a c
 IsAsGood Backward a c = StartsLast a c
 
--- a is covered, and as good as whatever is covered from k on
+-- a is covered, and as good as whatever is covered at or after k
 record IsBest (way : Direction) (cover : Extent → Bool) (k : ℕ) (a : Extent) : Type 0 where
   pub here : cover a ≡ true
   pub from : IsFrom way k a
   pub best : (c : Extent) → IsFrom way k c → cover c ≡ true → IsAsGood way a c
 
--- an answer is the best that is covered, and none tells that nothing is
+-- an answer is the best that is covered, and no answer means that nothing is covered
 abbrev Answers : Direction → (Extent → Bool) → ℕ → Option Extent → Type 0
 Answers way cover k None = (c : Extent) → IsFrom way k c → cover c ≡ false
 Answers way cover k (Some a) = IsBest way cover k a

@@ -17,7 +17,7 @@ abbrev pub reaches : Direction → Option ℕ → ℕ → Bool
 reaches Forward = at_most
 reaches Backward = at_least
 
--- the answer from k on tells what is covered from k on
+-- the answer at k determines what is covered at or after k
 pub covers_by : (way : Direction) (list : List Extent) → IsRising list → (k w : ℕ) → covers list (between way k w) ≡ reaches way (option_map (far_side way) (near_access way list k)) w
 covers_by Forward list r k w = (list_reaches list r).forward_is k w
 covers_by Backward list r k w = (list_reaches list r).backward_is w k

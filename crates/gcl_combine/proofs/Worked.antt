@@ -20,21 +20,21 @@ nearer_back-greatest_start = refl
 nearer_back-tie : nearer_back (Some (extent 1 6)) (Some (extent 1 4)) ≡ Some (extent 1 4)
 nearer_back-tie = refl
 
--- of three lists, one of which has no member from 2 on
+-- of three lists, one of which has no member at or after 2
 best_forward-three : best_forward ((extent 0 0 ∷ []) ∷ (extent 2 5 ∷ []) ∷ (extent 1 1 ∷ extent 3 4 ∷ []) ∷ []) 2 None ≡ Some (extent 3 4)
 best_forward-three = refl
 
 best_backward-three : best_backward ((extent 9 9 ∷ []) ∷ (extent 2 5 ∷ []) ∷ (extent 1 1 ∷ extent 3 4 ∷ []) ∷ []) 5 None ≡ Some (extent 3 4)
 best_backward-three = refl
 
--- two lists whose first members from 2 on are (2, 5) and (3, 4), and whose last up to 5 are the same
+-- two lists whose first members at or after 2 are (2, 5) and (3, 4), and whose last up to 5 are the same
 abbrev two : List (List Extent)
 two = (extent 2 5 ∷ []) ∷ (extent 1 1 ∷ extent 3 4 ∷ []) ∷ []
 
 greatest_end-two : greatest_end two 2 ≡ Some 5
 greatest_end-two = refl
 
--- the first list has no member from 3 on
+-- the first list has no member at or after 3
 greatest_end-none : greatest_end two 3 ≡ None
 greatest_end-none = refl
 
@@ -51,7 +51,7 @@ end_so_far-two = refl
 start_so_far-two : start_so_far two 5 1 ≡ Some 1
 start_so_far-two = refl
 
--- where "to" and "be" stand in `to be or not to be` at 1 to 6: both of them from 2 on, and up to 5
+-- the places of "to" and "be" in `to be or not to be` at 1 to 6: both of them at or after 2, and up to 5
 abbrev to_and_be : List (List Extent)
 to_and_be = (extent 1 1 ∷ extent 5 5 ∷ []) ∷ (extent 2 2 ∷ extent 6 6 ∷ []) ∷ []
 

@@ -6,7 +6,7 @@ use Rattle.gcl_model.specs.declared.direction.Direction.TheVariants.{Forward, Ba
 use Rattle.gcl_combine.specs.Farthest.{end_so_far, start_so_far}
 use Rattle.gcl_combine.specs.Better.{nearer, nearer_back, best_forward, best_backward}
 
--- both of: the farthest of a place and of the far sides of the lists' answers at k; forward, of 4 and the answers (1, 6) and (2, 3) it is 6
+-- both of: the farthest of an address and of the far sides of the lists' answers at k; forward, of 4, (1, 6) and (2, 3) it is 6
 abbrev pub farthest : Direction → List (List Extent) → (k so_far : ℕ) → Option ℕ
 farthest Forward = end_so_far
 farthest Backward = start_so_far

@@ -1,4 +1,4 @@
--- What an access of a rising list tells of all its members.
+-- What an access of a rising list says about all its members.
 use Rattle.std.proofs.Common.{◌≡◌, ℕ, ◌<◌, ◌≤◌, Bool, true, false, cond, leb, List, [], ◌∷◌, Option, Some, None, inl, inr, refl, sym, ap, ◌∙◌, subst, arith, find, le_refl}
 use Rattle.std.proofs.lemmas.Bool.{true≢false, or_cases, or_left, or_right, leb-true, leb-false, cases_Bool, false_from_ne_true}
 use Rattle.gcl_model.specs.Extents.{Extent, is_nested, covers, is_inside, IsAhead, IsRising}
@@ -25,7 +25,7 @@ from_same a b e = subst (IsFromOn a) e (from_itself a)
 from_ahead : (a b : Extent) → IsAhead a b → IsFromOn a b
 from_ahead a b h = let p = h.0 in let q = h.1 in (omega arith, omega arith)
 
--- b is the first member that lies from p on
+-- b is the first member that lies at or after p
 pub record IsFirst (place : Extent → ℕ) (list : List Extent) (p : ℕ) (b : Extent) : Type 0 where
   pub member : Has list b
   pub far : p ≤ place b
@@ -100,7 +100,7 @@ pub found_last : (place : Extent → ℕ) (list : List Extent) → IsRising list
 found_last place [] r p b is = absurd cc
 found_last place (x ∷ xs) r p b is = last_step place x xs r p b (found_last place xs r.1 p) (find_last (λ a. leb (place a) p) xs) refl (leb (place x) p) refl is
 
--- of two members the one of lesser place is ahead
+-- of two members the one with the lesser place is ahead
 pub ahead_by_place : (place : Extent → ℕ) → IsPlace place → (list : List Extent) → IsRising list → (a b : Extent) → Has list a → Has list b → place a < place b → IsAhead a b
 ahead_by_place place rises [] r a b m n lt = absurd m
 ahead_by_place place rises (x ∷ xs) r a b (inl p) (inl q) lt = let e : place a ≡ place b = ap place (sym p) ∙ ap place q in absurd (omega arith)
@@ -108,7 +108,7 @@ ahead_by_place place rises (x ∷ xs) r a b (inl p) (inr n) lt = subst (λ y. Is
 ahead_by_place place rises (x ∷ xs) r a b (inr m) (inl q) lt = let h = rises b a (subst (λ y. IsAhead y a) q (of_each (IsAhead x) xs a r.0 m)) in absurd (omega arith)
 ahead_by_place place rises (x ∷ xs) r a b (inr m) (inr n) lt = ahead_by_place place rises xs r.1 a b m n lt
 
--- of two members the one of no lesser place is the same or a later one
+-- of two members the one whose place is not less is the same or a later one
 pub from_by_place : (place : Extent → ℕ) → IsPlace place → (list : List Extent) → IsRising list → (a c : Extent) → Has list a → Has list c → place a ≤ place c → IsFromOn a c
 from_by_place place rises [] r a c m n le = absurd m
 from_by_place place rises (x ∷ xs) r a c (inl p) (inl q) le = from_same a c (sym p ∙ q)

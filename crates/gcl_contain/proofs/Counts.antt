@@ -40,7 +40,7 @@ count_more p q h (x ∷ xs) a (inr m) f t =
     let step : cond (p x) 1 0 + (count_of p xs + 1) ≤ cond (q x) 1 0 + count_of q xs = count_step (p x) (q x) (count_of p xs + 1) (count_of q xs) (h x) le in
     omega arith
 
--- how many turns brought the loop to k: the lesser number of members that lie before it; where the turn goes to the
+-- how many turns brought the loop to k: the lesser number of members that lie before it; if the turn goes to the
 -- place of b itself, and not after it, b counts as one before it (slack 1)
 abbrev pub turns_forward : (Extent → ℕ) → ℕ → List Extent → List Extent → ℕ → ℕ
 turns_forward place slack members others k = min (count_of (λ c. ltb (place c) k) members) (count_of (λ d. ltb (place d) (k + slack)) others)
@@ -95,7 +95,7 @@ turns_backward_rise place slack members others upto next a m le lt used =
     (le-ltb upto (place b + slack) x) (lt-ltb next (place b + slack) y) in
     omega arith
 
--- what each kind's turn uses up, where the loop goes on
+-- what each kind's turn uses up, if the loop goes on
 pub containing_uses : (others : List Extent) (a : Extent) (o : Option Extent) (from next : ℕ) → o ≡ first_start others a.start → from ≤ a.end → go_to next ≡ containing_move a o → IsUsed (λ d. d.end) 1 others from next
 containing_uses others a None from next asked le is = absurd cc
 containing_uses others a (Some b) from next asked le is =

@@ -20,7 +20,7 @@ pub right_backward : (kind : Kind) → BackwardIsRight kind → (members others 
     o ≡ kind.ask others a → move ≡ kind.move a o → IsRightBackward kind.place (kind.keeps others) members a move
 right_backward kind law members others r a o move asked is = subst (IsRightBackward kind.place (kind.keeps others) members a) (ap (kind.move a) (sym asked) ∙ sym is) (law members others a r)
 
--- the members from k on that lie before `from` are not kept
+-- the members at or after k that lie before `from` are not kept
 pub record IsPassed (place : Extent → ℕ) (keeps : Extent → Bool) (members : List Extent) (k from : ℕ) : Type 0 where
   pub later : k ≤ from
   pub passed : (c : Extent) → Has members c → k ≤ place c → place c < from → keeps c ≡ false
@@ -36,7 +36,7 @@ passed_none place keeps members k = record { later = omega arith; passed = λ c 
 pub passed_none_back : (place : Extent → ℕ) (keeps : Extent → Bool) (members : List Extent) (k : ℕ) → IsPassedBack place keeps members k k
 passed_none_back place keeps members k = record { earlier = omega arith; passed = λ c m le lt. absurd (omega arith) }
 
--- the first member of a filter from k on
+-- the first member of a filter at or after k
 first_kept : (place : Extent → ℕ) → IsPlace place → (keeps : Extent → Bool) (list : List Extent) → IsRising list → (k : ℕ) (a : Extent) → Has list a → k ≤ place a → keeps a ≡ true →
     ((c : Extent) → Has list c → k ≤ place c → place c < place a → keeps c ≡ false) → Some a ≡ find (λ c. leb k (place c)) (filter keeps list)
 first_kept place rises keeps [] r k a m le t before = absurd m
@@ -158,8 +158,8 @@ no_less : (place : Extent → ℕ) → IsPlace place → (list : List Extent) �
 no_less place rises list r a c m n on =
     elim (cases_lt (place c) (place a)) [ inl lt ↦ let ahead = (ahead_by_place place rises list r c a n m lt).0 in let x = on.0 in absurd (omega arith) | inr ge ↦ ge ]
 
--- the form of access that is not the loop's own: where it gives a, it is the loop's form from the place of a on,
--- in the operand's list and in the node's
+-- the form of access that is not the loop's own: if it gives a, it is the loop's form at the place of a, in the operand's
+-- list and in the node's
 module _ (place other : Extent → ℕ) (rises : IsPlace place) (other_rises : IsPlace other) (members : List Extent) (r : IsRising members) (k : ℕ) where
   module _ (list : List Extent) (within : (c : Extent) → Has list c → Has members c) where
     forward_within : (a : Extent) → Some a ≡ find (λ c. leb k (other c)) members → find (λ c. leb k (other c)) list ≡ find (λ c. leb (place a) (place c)) list
@@ -205,7 +205,7 @@ module _ (place other : Extent → ℕ) (rises : IsPlace place) (other_rises : I
     pub enters_backward_none : None ≡ find_last (λ c. leb (other c) k) members → None ≡ find_last (λ c. leb (other c) k) (filter keeps members)
     enters_backward_none none = last_of_none other keeps members k (λ c m le. let lt = none_upto other members k (sym none) c m in absurd (omega arith))
 
--- where the loop came to a, it has passed all before the place of a
+-- when the loop comes to a, it has passed all before the place of a
 pub arrives_forward : (place : Extent → ℕ) → IsPlace place → (keeps : Extent → Bool) (members : List Extent) → IsRising members → (k from : ℕ) → IsPassed place keeps members k from →
     (a : Extent) → Some a ≡ find (λ c. leb from (place c)) members → IsPassed place keeps members k (place a)
 arrives_forward place rises keeps members r k from p a found =

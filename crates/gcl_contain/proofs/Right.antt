@@ -114,7 +114,7 @@ module _ (members others : List Extent) (a : Extent) (r : IsRising others) where
             rw e (fails a (from_itself a) short, short, all_from_has (λ c. IsFromOn c a → b.end < c.end → is_inside others c ≡ false) members (λ c m. fails c))
       ]
 
-  -- where all members from an address on fail, the address before it is right
+  -- if all members at or after an address fail, the address before it is right
   before_is_right : (place : Extent → ℕ) (keeps : Extent → Bool) (n : ℕ) → n ≤ place a → ((c : Extent) → IsFromOn c a → n ≤ place c → keeps c ≡ false) → IsRightBackward place keeps members a (before_move n)
   before_is_right place keeps zero le fails = (fails a (from_itself a) le, all_from_has (λ c. IsFromOn c a → keeps c ≡ false) members (λ c m on. fails c on (omega arith)))
   before_is_right place keeps (suc k) le fails =

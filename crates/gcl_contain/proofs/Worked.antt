@@ -4,7 +4,7 @@ use Rattle.gcl_model.specs.Extents.{Extent, extent}
 use Rattle.gcl_contain.specs.Moves.{accept, go_to, finish, containing_move, contained_in_move, not_containing_move, not_contained_in_move, containing_move_back, contained_in_move_back, not_containing_move_back, not_contained_in_move_back}
 use Rattle.gcl_contain.specs.Kinds.{Kind, containing, contained_in, not_containing, not_contained_in, containing_back, contained_in_back, not_containing_back, not_contained_in_back, first_from, last_upto}
 
--- where "to" and "be" stand in `<file!> to be or not to be </file!>`
+-- the places of "to" and "be" in `<file!> to be or not to be </file!>`
 abbrev be : List Extent
 be = extent 2 2 ∷ extent 6 6 ∷ []
 
@@ -51,7 +51,7 @@ not_containing_back-moves = refl
 not_contained_in_back-moves : map (λ a. not_contained_in_move_back a (Some (extent 1 4))) (extent 2 3 ∷ extent 2 5 ∷ []) ≡ go_to 0 ∷ accept ∷ []
 not_contained_in_back-moves = refl
 
--- where there is no answer, the two that keep what has none accept
+-- if there is no answer, the two that keep what has none accept
 without_an_answer : map (λ (kind : Kind). kind.move (extent 2 3) None) (containing ∷ contained_in ∷ not_containing ∷ not_contained_in ∷ []) ≡ finish ∷ finish ∷ accept ∷ accept ∷ []
 without_an_answer = refl
 

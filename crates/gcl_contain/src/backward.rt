@@ -1,6 +1,13 @@
 ghost use Rattle.std.specs.Prelude.{◌≡◌, ◌<◌, IfSome};
 ghost use Rattle.gcl_model.specs.Limits.{far};
-ghost use Rattle.gcl_contain.specs.Moves.{move_of, contained_in_move_back, containing_move_back, not_containing_move_back, not_contained_in_move_back, before_move};
+ghost use Rattle.gcl_contain.specs.Moves.{
+  move_of,
+  contained_in_move_back,
+  containing_move_back,
+  not_containing_move_back,
+  not_contained_in_move_back,
+  before_move,
+};
 
 use crate::turn::Turn;
 use gcl_model::Interval;

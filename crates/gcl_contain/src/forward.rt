@@ -5,7 +5,7 @@ ghost use Rattle.gcl_contain.specs.Moves.{move_of, containing_move, contained_in
 use crate::turn::Turn;
 use gcl_model::Interval;
 
-/// Contained in: `a` is the first member that starts from the loop's address on, and `b` the first of the other
+/// Contained in: `a` is the first member that starts at or after the loop's address, and `b` the first of the other
 /// list that ends at the end of `a` or after it. At (1, 2) with (3, 5) the loop goes on at 3.
 pub fn in_turn(a: Interval, b: Option<Interval>) -> Turn
     requires a_below { a.end < far }
@@ -19,7 +19,7 @@ pub fn in_turn(a: Interval, b: Option<Interval>) -> Turn
     }
 }
 
-/// Containing: `a` is the first member that ends from the loop's address on, and `b` the first of the other list
+/// Containing: `a` is the first member that ends at or after the loop's address, and `b` the first of the other list
 /// that starts at the start of `a` or after it. At (1, 2) with (2, 4) the loop goes on at 4.
 pub fn has_turn(a: Interval, b: Option<Interval>) -> Turn
     requires a_below { a.end < far }
@@ -33,7 +33,7 @@ pub fn has_turn(a: Interval, b: Option<Interval>) -> Turn
     }
 }
 
-/// Not containing: `a` is the first member that starts from the loop's address on, and `b` the first of the other
+/// Not containing: `a` is the first member that starts at or after the loop's address, and `b` the first of the other
 /// list that starts at the start of `a` or after it. At (1, 4) with (2, 3) the loop goes on at 3.
 pub fn not_has_turn(a: Interval, b: Option<Interval>) -> Turn
     requires a_below { a.end < far }
@@ -46,7 +46,7 @@ pub fn not_has_turn(a: Interval, b: Option<Interval>) -> Turn
     }
 }
 
-/// Not contained in: `a` is the first member that ends from the loop's address on, and `b` the first of the other
+/// Not contained in: `a` is the first member that ends at or after the loop's address, and `b` the first of the other
 /// list that ends at the end of `a` or after it. At (2, 3) with (1, 4) the loop goes on at 5.
 pub fn not_in_turn(a: Interval, b: Option<Interval>) -> Turn
     requires a_below { a.end < far }

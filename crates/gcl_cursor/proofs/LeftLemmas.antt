@@ -1,11 +1,11 @@
--- The members from an address on, of those that are left to readers.
+-- The members at or after an address, of those that are left to readers.
 use Rattle.std.proofs.Common.{◌≡◌, ℕ, ◌≤◌, ◌<◌, List, [], ◌∷◌, inl, inr, refl, ap, arith}
 use Rattle.std.proofs.lemmas.Bool.{cases_Bool, lt-leb, leb-false}
 use Rattle.std.proofs.Common.{leb}
 use Rattle.gcl_model.specs.Extents.{Extent}
 use Rattle.gcl_eval.specs.Members.{members_from}
 
--- from a later address on it is the same whether the earlier ones are left out or not
+-- at or after a later address it is the same whether the earlier ones are left out or not
 pub from_later : (k j : ℕ) (list : List Extent) → k ≤ j → members_from (members_from list k) j ≡ members_from list j
 from_later k j [] le = refl
 from_later k j (x ∷ list) le =

@@ -36,15 +36,14 @@ IsLimited (Leaping leaps readers) = ⊤
 IsLimited (Reading readers) = ⊤
 IsLimited Free = ⊥
 
--- how many look-ups it may still make in all, whatever it is asked, where `most` is the number of look-ups that one call of the leaves may
--- make: those that are left to leaping, of which the last may go beyond by those of an element, and those that are left to a merge of the
--- whole lists of all parts of the expression
+-- how many look-ups it may still make in all, whatever it is asked, if one call of the leaves may make `most` of them: those left to
+-- leaping, which the last may exceed by those of an element, and those left to a merge of the whole lists of all parts of the expression
 abbrev pub left_of : Text → (most : ℕ) → Form → Cursor → ℕ
 left_of text most form (Leaping leaps readers) = leaps + 3 * most + cost_left text most form readers
 left_of text most form (Reading readers) = cost_left text most form readers
 left_of text most form Free = 0
 
--- how many it may make for so many members: without a limit an access for each, and one more
+-- how many it may make for the given number of members: without a limit one access for each, and one more
 abbrev pub allowed : Text → (most : ℕ) → Form → Cursor → (members : ℕ) → ℕ
 allowed text most form (Leaping leaps readers) members = leaps + 3 * most + cost_left text most form readers
 allowed text most form (Reading readers) members = cost_left text most form readers

@@ -22,16 +22,16 @@ use std::sync::ledger::Ledger;
 /// How the next members of an expression are found.
 #[derive(Drop)]
 pub enum Cursor {
-    /// By leaping, while this many look-ups are left. Readers that have passed no member wait.
+    /// By leaping, while this many look-ups are left. Readers that have passed no member are waiting.
     Leaping(u64, Readers),
     /// By readers.
     Reading(Readers),
-    /// By leaping without a limit: there was no memory, or readers have passed members that are asked for again.
+    /// By leaping without a limit: there was no memory, or readers have passed members that may be asked for again.
     Free,
 }
 
 impl Cursor {
-    /// A cursor before all members of the expression, over whatever text it will be asked, that makes so many look-ups by leaping. All
+    /// A cursor before all members of the expression, over whatever text it will be asked, that makes `leaps` look-ups by leaping. All
     /// memory that it takes besides the pages is taken here.
     pub fn new(alloc: Global, expr: &Expr, leaps: u64) -> Cursor
         ensures at { (text : Text) (k : ℕ) → IsAt text (form_of expr.now) k result }
@@ -44,8 +44,8 @@ impl Cursor {
         }
     }
 
-    /// The members of the page, of which none was passed. Where the page is full, the next one begins behind the start of its last member;
-    /// where it is not, any page can be next. `Err` is out of memory: then the page can be asked for again, and leaping has no limit.
+    /// The members of the page, none of which was passed. If the page is full, the next one begins after the start of its last member; if
+    /// not, any page can be next. `Err` means out of memory: then the page can be asked for again, and leaping has no limit.
     pub fn page<L: Leaves, B: Ledger>(
         &mut self,
         alloc: Global,
@@ -118,7 +118,7 @@ impl Cursor {
         Ok(members)
     }
 
-    /// How many members are to come from `from` on, where this many came before. It takes no memory. Readers go to the end for it, and
+    /// How many members start at or after `from`, if `given` members come before. It takes no memory. Readers go to the end for it, and
     /// pages after that are found by leaping without a limit.
     pub fn count<L: Leaves, B: Ledger>(
         &mut self,

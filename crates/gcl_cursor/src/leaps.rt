@@ -1,4 +1,4 @@
-//! Leaping, as long as look-ups are left.
+//! Leaping, while look-ups are left.
 
 ghost use Rattle.std.specs.Prelude.{◌≡◌, ◌+◌, ◌*◌, ◌<◌, ◌≤◌, length, take, IfOk, IfSome};
 ghost use Rattle.gcl_model.specs.Limits.{far};
@@ -13,7 +13,7 @@ use std::alloc::{AllocError, Global};
 use std::mem;
 use std::sync::ledger::Ledger;
 
-/// The members of the page, or None where that takes more look-ups than are left.
+/// The members of the page, or None if that takes more look-ups than are left.
 pub(crate) fn leap<L: Leaves, B: Ledger>(
     alloc: Global,
     expr: &Expr,
@@ -41,7 +41,7 @@ pub(crate) fn leap<L: Leaves, B: Ledger>(
     Ok(Some(members))
 }
 
-/// The number of all members, or None where that takes more look-ups than are left.
+/// The number of all members, or None if that takes more look-ups than are left.
 pub(crate) fn leap_count<L: Leaves, B: Ledger>(
     expr: &Expr,
     leaves: &L,

@@ -26,7 +26,7 @@ use Rattle.gcl_eval.proofs.CostLemmas.{cost_in_le}
 use Rattle.gcl_eval.proofs.ContainLoops.{IsAt}
 use Rattle.gcl_eval.proofs.ContainSteps.{node_enters, node_enters_none}
 
--- each member of "containing" from k on holds an answer from k on, so it ends where the first of these does, or later
+-- each member of "containing" at or after k holds an answer at or after k, so it ends where the first of these does, or later
 pub element_begins : (text : Text) (a b : Form) (k : ℕ) (d : Extent) → Some d ≡ first_start (concordance text b) k → (m : Extent) → Some m ≡ first_end (concordance text a) d.end → k ≤ m.start →
     IsBeginning (concordance text a) (concordance text (containing a b)) k m
 element_begins text a b k d answered m behind low =

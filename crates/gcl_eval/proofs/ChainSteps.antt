@@ -52,7 +52,7 @@ pub farther_below : (direction : Direction) (side : ℕ) (a : Extent) → side <
 farther_below Forward side a p q = omega arith
 farther_below Backward side a p q = omega arith
 
--- the best of all operands, where none is left
+-- the best of all operands, if none is left
 pub best_all : (direction : Direction) (text : Text) (exprs : List Expr) (i k : ℕ) (so_far : Option Extent) → length exprs ≤ i →
     best direction (operand_lists text (drop i exprs)) k so_far ≡ best direction (operand_lists text exprs) k None → so_far ≡ near_access direction (concordance text (one (operand_forms exprs))) k
 best_all direction text exprs i k so_far le kept =

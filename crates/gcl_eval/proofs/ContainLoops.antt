@@ -69,14 +69,14 @@ backward_uses ContainedIn others a o next asked is = contained_in_back_uses othe
 backward_uses NotContaining others a o next asked is = not_containing_back_uses others a o a.end next asked (le_refl a.end) is
 backward_uses NotContainedIn others a o next asked is = not_contained_in_back_uses others a o a.start next asked (le_refl a.start) is
 
--- the first member from k on, and the last up to it, by a place
+-- the first member at or after k, and the last up to it, by a place
 abbrev find_from : (Extent → ℕ) → List Extent → ℕ → Option Extent
 find_from place list k = find (λ c. leb k (place c)) list
 
 abbrev find_upto : (Extent → ℕ) → List Extent → ℕ → Option Extent
 find_upto place list k = find_last (λ c. leb (place c) k) list
 
--- where the members between two places are not kept, the search among the kept ones is the same from either
+-- if the members between two places are not kept, the search among the kept ones is the same from either
 passed_same : (place : Extent → ℕ) (keeps : Extent → Bool) (members : List Extent) (k from : ℕ) → IsPassed place keeps members k from →
     find_from place (filter keeps members) k ≡ find_from place (filter keeps members) from
 passed_same place keeps members k from p = find_agree_on (λ c. leb k (place c)) (λ c. leb from (place c)) (filter keeps members) (λ c m.

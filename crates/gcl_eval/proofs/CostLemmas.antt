@@ -18,7 +18,7 @@ cost_in_le rounds le text most (contained_in a b) = le_refl (cost text most (con
 cost_in_le rounds le text most (not_containing a b) = le_refl (cost text most (not_containing a b))
 cost_in_le rounds le text most (not_contained_in a b) = le_refl (cost text most (not_contained_in a b))
 
--- what is within so many near accesses is within so many accesses
+-- what is within a number of near accesses is within that many accesses
 pub within_cost : (text : Text) (most : ℕ) (form : Form) (old new accesses : ℕ) → new ≤ old + accesses * near_cost text most form → new ≤ old + accesses * cost text most form
 within_cost text most form old new accesses le =
     let more : accesses * near_cost text most form ≤ accesses * cost text most form = mul-le-mul_left accesses (cost_in_le 2 (omega arith) text most form) in

@@ -1,4 +1,4 @@
--- The member of two terms followed by each other, where the leaves have it at hand.
+-- The member of two terms followed by each other, if the leaves have it available.
 use Rattle.std.proofs.Common.{◌≡◌, ℕ, ◌+◌, ◌-◌, ◌<◌, ◌≤◌, leb, List, [], ◌∷◌, Option, Some, None, IfSome, zero, suc, refl, sym, ap, ◌∙◌, subst, arith}
 use Rattle.std.specs.Prelude.{if◌then◌else◌}
 use Rattle.std.specs.Option.{option_map, option_and_then}
@@ -62,7 +62,7 @@ module _ (text : Text) (first second : List ℕ) (sound : IsText text) where
   pub back_below : (i p : ℕ) → Some p ≡ previous_place text.words first i → p ≤ i
   back_below i p back = (found_last (λ c. c.end) firsts (concordance_rises text (term first)) i (point p) (sym (term_found LastEnd text first first i (Some p) sound refl back))).near
 
-  -- where a place is at j or later, the next one from j on is not missing
+  -- if a place is at j or later, the next one at or after j is not missing
   pub no_place : (k j at : ℕ) → Some at ≡ next_place text.words second k → j ≤ at → None ≡ next_place text.words second j → ⊥
   no_place k j at found le none =
       let f = found_first (λ c. c.start) seconds (concordance_rises text (term second)) k (point at) (sym (term_found FirstStart text second second k (Some at) sound refl found)) in
@@ -96,7 +96,7 @@ module _ (text : Text) (first second : List ℕ) (sound : IsText text) where
       ∙ ap (option_and_then (λ found. on_again Forward (concordance text (seq both_terms)) (seconds ∷ []) text.first text.next k (walk Backward (firsts ∷ []) found)))
       (sym (term_found FirstEnd text second second k None sound refl none))
 
-  -- a place of the second token is the first one from itself on
+  -- a place of the second token is the first one at or after itself
   next_here : (e : ℕ) → Has seconds (point e) → Some e ≡ next_place text.words second e
   next_here e m = by_place (next_place text.words second e) refl
     where
@@ -111,7 +111,7 @@ module _ (text : Text) (first second : List ℕ) (sound : IsText text) where
           let same : e ≡ x = omega arith in
           ap Some same
 
-  -- and a place of the first one the last one up to i, where each place up to i is up to it
+  -- and a place of the first token is the last one up to i, if each place up to i is up to it
   previous_here : (i p : ℕ) → Has firsts (point p) → p ≤ i → ((d : Extent) → Has firsts d → d.end ≤ i → d.start ≤ p) → Some p ≡ previous_place text.words first i
   previous_here i p m le last = by_place (previous_place text.words first i) refl
     where
@@ -151,7 +151,7 @@ module _ (text : Text) (first second : List ℕ) (sound : IsText text) where
         reached = λ far. element_up_to-is k a (record { at = is.at; found = is.found; behind = is.behind; back = is.back; on = is.on; reaches = far });
       }
 
--- what the leaves have at hand for the tokens of an expression
+-- what the leaves have available for the tokens of an expression
 module _ (e : Expr) (text : Text) (sound : IsText text) (first second a b : List ℕ) (k : ℕ) (is : form_of e ≡ element_form first second) (a_is : a ≡ first) (b_is : b ≡ second)
     (wanted : Access) where
   pub from_at_hand : wanted ≡ FirstStart → (o : Option Extent) → IfSome o (IsElementFrom text.words a b k) → IfSome o (λ x. Some x ≡ access_of wanted (concordance text (form_of e)) k)
@@ -188,7 +188,7 @@ module _ (e : Expr) (text : Text) (sound : IsText text) (first second a b : List
   each_onward None leads = tt
   each_onward (Some f) leads = onward_at f leads
 
--- one that is at hand
+-- one that is available
 pub onward_at_hand : (list : List Extent) → IsRising list → (from k : ℕ) (a : Extent) → Some a ≡ first_end list k → IsOnTheWay list from k a
 onward_at_hand list r from k a is =
     let f = found_first (λ c. c.end) list r k a (sym is) in

@@ -1,4 +1,4 @@
--- The access of the other form: the nearest member that it passes over, and on from there.
+-- The access of the other form: the nearest member that it passes, and on from there.
 use Rattle.std.proofs.Common.{◌≡◌, ℕ, zero, suc, ◌+◌, ◌<◌, ◌≤◌, true, leb, List, [], ◌∷◌, Option, Some, None, refl, sym, ap, ◌∙◌, arith, le_refl, inl, inr}
 use Rattle.std.specs.List.{AllByRecursion}
 use Rattle.std.specs.Option.{option_and_then}
@@ -35,7 +35,7 @@ other_forward : (list : List Extent) → IsRising list → (first next : ℕ) �
 other_forward list r first next from zero = first_end_from_0 list first from
 other_forward list r first next from (suc k) = let e : suc k ≡ k + 1 = omega arith in ap (first_end list) e ∙ forward_cases list r first next k from (last_end list k) refl
 
--- backward: where a is the first member from k + 1 on, those that start by k are those that end before it ends
+-- backward: if a is the first member that starts at or after k + 1, those that start by k are those that end before it ends
 starts_by_k : (list : List Extent) → IsRising list → (k v : ℕ) (a : Extent) → first_start list (k + 1) ≡ Some a → a.end ≡ v + 1 → (c : Extent) → Has list c → leb c.start k ≡ leb c.end v
 starts_by_k list r k v a is end c m =
     let found = find_gives (λ x. leb (k + 1) x.start) list a is in
@@ -58,7 +58,7 @@ starts_by_k list r k v a is end c m =
       | inr ge ↦ le-leb c.start k ge
     ])
 
--- where none starts after k, all start by it
+-- if none starts after k, all start by it
 all_start_by : (list : List Extent) → IsRising list → (k : ℕ) → first_start list (k + 1) ≡ None → (c : Extent) → Has list c → c.start ≤ k
 all_start_by list r k is c m =
     elim (cases_lt k c.start) [

@@ -29,7 +29,7 @@ abbrev passes : (Extent → Bool) → Option Extent → Bool
 passes q None = true
 passes q (Some a) = q a
 
--- where one test says yes, so does the other
+-- if one test says yes, so does the other
 abbrev IsNarrower : (q p : Extent → Bool) → Type 0
 IsNarrower q p = (a : Extent) → q a ≡ true → p a ≡ true
 
@@ -110,7 +110,7 @@ known_kept lists known are i last is j =
 none_known : (n i : ℕ) → get_or (replicate {A = Option Known} n None) i None ≡ None
 none_known n i = elim (cases_lt i n) [ inl lt ↦ get_or-replicate n i None None lt | inr ge ↦ get_or_past (replicate n None) i None (omega (arith, length-replicate {A = Option Known} n None)) ]
 
--- where nothing is known yet
+-- nothing is known yet
 pub nothing_known : (lists : List (List Extent)) (n : ℕ) → AreKnown lists (replicate n None)
 nothing_known lists n i = subst (λ o. IsKnown FirstStart (get_or lists i []) o) (sym (none_known n i)) tt
 
@@ -120,7 +120,7 @@ operand_list_at text [] i x lt is = absurd (omega arith)
 operand_list_at text (y ∷ ys) zero x lt is = ap (λ e. concordance text (form_of e)) (sym is)
 operand_list_at text (y ∷ ys) (suc i) x lt is = operand_list_at text ys i x (omega arith) is
 
--- where nothing is known yet of the second operand of a containment
+-- nothing is known yet of the second operand of a containment
 pub second_unknown : (direction : Direction) (text : Text) (form : Form) → KnowsSecond direction text form None
 second_unknown direction text (term t) = tt
 second_unknown direction text (phrase ts) = tt
@@ -133,7 +133,7 @@ second_unknown direction text (contained_in a b) = tt
 second_unknown direction text (not_containing a b) = tt
 second_unknown direction text (not_contained_in a b) = tt
 
--- where nothing is known yet of any
+-- nothing is known yet of any operand
 pub none_is_known : (n : ℕ) (text : Text) (form : Form) → KnowsOperands text form (replicate n None)
 none_is_known n text (one fs) = nothing_known (operands text fs) n
 none_is_known n text (term t) = subst (λ o. KnowsSecond Forward text (term t) o) (sym (none_known n 0)) (second_unknown Forward text (term t))

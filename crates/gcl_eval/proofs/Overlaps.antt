@@ -23,7 +23,7 @@ use Rattle.gcl_eval.specs.Members.{AreApart, members_from}
 use Rattle.gcl_eval.specs.Operands.{element_form}
 use Rattle.gcl_eval.proofs.ChainRules.{near_access-seq}
 
--- a member is the first one from its own start on
+-- a member is the first one at or after its own start
 own_by : (list : List Extent) → IsRising list → (c : Extent) → Has list c → (o : Option Extent) → first_start list c.start ≡ o → Some c ≡ first_start list c.start
 own_by list r c m None is = let far = none_from (λ a. a.start) list c.start is c m in absurd (omega (arith, far))
 own_by list r c m (Some b) is =
@@ -116,14 +116,14 @@ module _ (text : Text) (first second : List ℕ) (sound : IsText text) where
   containment_apart NotContaining b = kept_apart _ _ (not_containing_list text (element_form first second) b)
   containment_apart NotContainedIn b = kept_apart _ _ (not_contained_in_list text (element_form first second) b)
 
--- members that agree on a test are the same from there on
+-- two tests that agree on all members keep the same ones
 filter_same_on : (p q : Extent → Bool) (list : List Extent) → ((a : Extent) → Has list a → p a ≡ q a) → filter p list ≡ filter q list
 filter_same_on p q [] same = refl
 filter_same_on p q (x ∷ xs) same =
     let rest = filter_same_on p q xs (λ a m. same a (inr m)) in
     rw (same x (inl refl)) (ap (λ l. cond (q x) (x ∷ l) l) rest)
 
--- from the end of a member on the members are those after its start
+-- the members at or after the end of a member are those after its start
 pub from_end : (list : List Extent) → IsRising list → AreApart list → (k : ℕ) (c : Extent) → Some c ≡ first_start list k → c.start < c.end → members_from list c.end ≡ members_from list (c.start + 1)
 from_end list r apart k c found proper =
     filter_same_on (λ a. leb c.end a.start) (λ a. leb (c.start + 1) a.start) list (λ a m. same_truth (leb c.end a.start) (leb (c.start + 1) a.start)

@@ -4,7 +4,7 @@ use Rattle.std.proofs.Math.Nat.{mul-le-mul_right}
 use Rattle.std.proofs.lemmas.List.{length-append, length-take}
 use Rattle.gcl_model.specs.Extents.{Extent}
 
--- what so many accesses and one more may cost is what one for each member of the page may, and one more
+-- what an access for each member found and one more may cost is within what one for each member of the page and one more may
 pub within_page : (members rest all : List Extent) → members ++ rest ≡ all → (most : ℕ) → length members ≤ most → (old new cost : ℕ) → new ≤ old + (length members + 1) * cost →
     new ≤ old + (length (take most all) + 1) * cost
 within_page members rest all kept most few old new cost le =

@@ -1,4 +1,4 @@
--- What is known of a phrase that is one word again and again.
+-- What is known of a phrase that repeats one word.
 use Rattle.std.proofs.Common.{◌≡◌, ℕ, ◌<◌, true, List, [], ◌∷◌, Option, Some, None, IfSome, is_some, get_or, set, inl, inr, sym, ap, ◌∙◌, subst}
 use Rattle.std.proofs.lemmas.Bool.{cases_Bool}
 use Rattle.gcl_model.specs.Limits.{address_end}
@@ -21,7 +21,7 @@ run_row text tokens (Some known) k row knows is =
       | inr f ↦ let none : None ≡ Some row = rw f at is in absurd cc
     ]
 
--- where something is known, it is of such a phrase
+-- if something is known, it is of such a phrase
 pub known_run : (text : Text) (tokens : List (List ℕ)) (last : Option Known) → KnowsRun text tokens last → is_some last ≡ true → is_one_word tokens ≡ true
 known_run text tokens None knows is = absurd cc
 known_run text tokens (Some known) knows is = knows.one_word

@@ -24,7 +24,7 @@ first_end-term text token k = find_agree_on (λ a. leb k a.start) (λ a. leb k a
 last_start-term : (text : Text) (token : List ℕ) (k : ℕ) → last_end (concordance text (term token)) k ≡ last_start (concordance text (term token)) k
 last_start-term text token k = find_last_agree_on (λ a. leb a.end k) (λ a. leb a.start k) (concordance text (term token)) (λ a m. ap (λ n. leb n k) (sym (starts_where_it_ends text token a m)))
 
--- the access, where a look-up of the same bytes gave o
+-- the access, if a look-up of the same bytes gave o
 pub term_found : (access : Access) (text : Text) (token bytes : List ℕ) (k : ℕ) (o : Option ℕ) → IsText text → bytes ≡ token → o ≡ place_of access text.words bytes k →
     option_map point o ≡ access_of access (concordance text (term token)) k
 term_found FirstStart text token bytes k o sound same is = first_start-term_found text token bytes k o sound same is

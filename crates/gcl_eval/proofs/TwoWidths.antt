@@ -1,4 +1,4 @@
--- How many intervals of one width a containment keeps beside those of another.
+-- How many intervals of one width a containment with those of another keeps.
 use Rattle.std.proofs.Common.{◌≡◌, ℕ, suc, ◌+◌, ◌-◌, ◌<◌, ◌≤◌, Bool, true, false, cond, not, ◌&&◌, leb, min, List, [], ◌∷◌, length, filter, refl, sym, ap, ◌∙◌, inl, inr, arith}
 use Rattle.std.proofs.lemmas.Bool.{and_parts, and_from, leb-true, le-leb}
 use Rattle.gcl_model.specs.Extents.{Extent, extent, covers, is_inside}
@@ -17,7 +17,7 @@ use Rattle.fixed_width.specs.Widths.{width_list, HasSpan}
 use Rattle.fixed_width.proofs.Widths.{is_wide, has_wide}
 use Rattle.gcl_eval.specs.TwoWidths.{keeps_all}
 
--- a test that answers alike of each member keeps all of them, or none
+-- a test that gives the same answer for each member keeps all of them, or none
 filter_alike : (test : Extent → Bool) (list : List Extent) (b : Bool) → ((a : Extent) → Has list a → test a ≡ b) → length (filter test list) ≡ cond b (length list) 0
 filter_alike test [] true alike = refl
 filter_alike test [] false alike = refl

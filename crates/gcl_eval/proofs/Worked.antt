@@ -17,7 +17,7 @@ use Rattle.gcl_model.specs.declared.direction.Direction.TheVariants.{Forward, Ba
 abbrev members : List Extent
 members = extent 2 2 ∷ extent 4 5 ∷ extent 6 6 ∷ []
 
--- the first that ends at 3 or later: (2, 2) is passed over, and the search goes on at 3
+-- the first that ends at 3 or later: (2, 2) is passed, and the search goes on at 3
 first_end-at_3 : access_of FirstEnd members 3 ≡ Some (extent 4 5)
 first_end-at_3 = refl
 
@@ -38,7 +38,7 @@ last_start-at_5 = refl
 resume_back-at_5 : resume Backward 0 8 (passed Backward members 8 5) ≡ Some 5
 resume_back-at_5 = refl
 
--- from the last address on nothing is looked for, and the search goes back from the edge
+-- at or after the last address nothing is looked for, and the search goes back from the edge
 resume_back-at_edge : resume Backward 0 8 (passed Backward members 8 9) ≡ Some 7
 resume_back-at_edge = refl
 
@@ -98,7 +98,7 @@ on_again-short = refl
 outside-at_3 : outside Forward 8 3 ≡ Some 2
 outside-at_3 = refl
 
--- where a look-up is one step: a term takes one, and each of a pair of terms at most four
+-- if a look-up is one step: a term takes one, and each of a pair of terms at most four
 abbrev to : Form
 to = term (codes "to")
 

@@ -50,8 +50,8 @@ abbrev pub goes_by : Direction → Kind → List Extent → ℕ → Option Exten
 goes_by Forward = first_from
 goes_by Backward = last_upto
 
--- the loop of "containing" may begin at this member of the first operand: by ends, the node has the same member from its end on as from k on by
--- starts; beside (11, 11) of (1, 3), (4, 6) and (9, 12) at 2 that is (9, 12), and (4, 6), too
+-- the loop of "containing" may begin at this member of the first operand: the node's first member that ends at or after its end is the
+-- first that starts at or after k; with (11, 11), of (1, 3), (4, 6) and (9, 12) at 2 that is (9, 12), and (4, 6), too
 pub record IsBeginning (members node : List Extent) (k : ℕ) (a : Extent) : Type 0 where
   pub found : Some a ≡ first_end members a.end
   pub answer : first_end node a.end ≡ first_start node k

@@ -1,4 +1,4 @@
--- The accesses, and what a chain does, by the direction in which its operands are gone through.
+-- The accesses, and what a chain does, by the direction in which its operands are visited.
 -- Going forward, the near side of a member is its start and the far side its end; going backward it is the other way round.
 use Rattle.std.specs.Prelude.{◌≤◌, ℕ, ◌+◌, List, [], ◌∷◌, ◌++◌, Option, Some, None, nat_le, nat_lt, Bool, if◌then◌else◌}
 use Rattle.std.specs.Option.{option_and_then}
@@ -26,7 +26,7 @@ place_of FirstEnd = next_place
 place_of LastEnd = previous_place
 place_of LastStart = previous_place
 
--- forward for the first member from a position on, backward for the last up to it
+-- forward for the first member at or after a position, backward for the last up to it
 abbrev pub direction_of : Access → Direction
 direction_of FirstStart = Forward
 direction_of FirstEnd = Forward
@@ -48,12 +48,12 @@ abbrev pub walk : Direction → List (List Extent) → Extent → Option Extent
 walk Forward = walk_forward
 walk Backward = walk_backward
 
--- from the near side of the near one to the far side of the far one; backward, of (4, 4) and (1, 2) it is (1, 4)
+-- from the near side of the near answer to the far side of the far answer; backward, of (4, 4) and (1, 2) it is (1, 4)
 abbrev pub join : Direction → Extent → Extent → Extent
 join Forward near far = joined near far
 join Backward near far = joined far near
 
--- the near one starts before the far one ends in this direction: forward, (1, 2) and (4, 4) can be joined
+-- the near answer starts before the far one ends in this direction: forward, (1, 2) and (4, 4) can be joined
 abbrev pub CanJoin : Direction → Extent → Extent → Type 0
 CanJoin Forward near far = near.start ≤ far.end
 CanJoin Backward near far = far.start ≤ near.end
@@ -79,7 +79,7 @@ resume Forward first next (Some a) = Some (a.start + 1)
 resume Backward first next None = address_before next
 resume Backward first next (Some a) = address_before a.end
 
--- followed by: the node's next member past the near side of this one, or from the edge of the text where there is none:
+-- followed by: the node's next member past the near side of this one, or from the edge of the text if there is none:
 -- forward, of (1, 2) and (5, 6) past (1, 1) it is (5, 6)
 abbrev pub next_past : Direction → (node : List Extent) → (first next : ℕ) → Option Extent → Option Extent
 next_past direction node first next near = option_and_then (near_access direction node) (resume direction first next near)

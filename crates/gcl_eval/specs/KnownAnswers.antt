@@ -29,17 +29,17 @@ lies_beyond FirstEnd k a = nat_le k a.end
 lies_beyond LastEnd k a = nat_le a.end k
 lies_beyond LastStart k a = nat_le a.start k
 
--- the access at k does not pass over the member that it found before: `FirstStart` at 4 not over (5, 6), and at 6 it does
+-- the access at k does not pass the member that it found before: `FirstStart` at 4 does not pass (5, 6), and at 6 it does
 abbrev pub stays : Access → Option Extent → ℕ → Bool
 stays access None k = true
 stays access (Some a) k = lies_beyond access k a
 
--- the answer that is known, where it is that at k, too: (5, 6), which `FirstStart` found at 2, at 4, and none at 6
+-- the known answer, if it is also the one at k: for (5, 6), which `FirstStart` found at 2, it is (5, 6) at 4, and none at 6
 abbrev pub told : Access → Option Known → ℕ → Option (Option Extent)
 told access None k = None
 told access (Some known) k = if goes_on access known.at k && stays access known.answer k then Some known.answer else None
 
--- the answer that is known was asked for further back than the place right before k: that at 2 was so at 6, and not at 3
+-- the known answer was asked for further back than the place right before k: if asked for at 2, it was for 6, and not for 3
 abbrev pub was_leap : Option Known → ℕ → Bool
 was_leap None k = false
 was_leap (Some known) k = nat_lt known.at (k - 1)
@@ -49,7 +49,7 @@ abbrev pub starts_before : Option Extent → ℕ → Bool
 starts_before None k = false
 starts_before (Some a) k = nat_lt a.start k && (k - a.start == 1)
 
--- the member that is known, where it starts right before k: (5, 6) at 6
+-- the known member, if it starts right before k: (5, 6) at 6
 abbrev pub right_before : Option Known → ℕ → Option Extent
 right_before None k = None
 right_before (Some known) k = if starts_before known.answer k then known.answer else None
@@ -59,7 +59,7 @@ pub record IsAnswer (access : Access) (list : List Extent) (known : Known) : Typ
   pub found : known.answer ≡ access_of access list known.at
   pub within : IfSome known.answer (λ a. a.end < address_end)
 
--- where an answer of the access of the list is known, it is one that the access gave
+-- if an answer of the access of the list is known, it is one that the access gave
 abbrev pub IsKnown : Access → List Extent → Option Known → Type 0
 IsKnown access list known = IfSome known (IsAnswer access list)
 
@@ -75,16 +75,16 @@ KnowsSecond direction text (not_containing a b) known = IsKnown (asks direction 
 KnowsSecond direction text (not_contained_in a b) known = IsKnown (asks direction NotContainedIn) (concordance text b) known
 KnowsSecond direction text _ known = Unit {0}
 
--- what is known of a phrase that is one word again and again is an answer of its first start; of no other is anything known
+-- what is known of a phrase that repeats one word is an answer of its first start; of no other phrase is anything known
 pub record IsRunAnswer (text : Text) (tokens : List (List ℕ)) (known : Known) : Type 0 where
   pub one_word : is_one_word tokens ≡ true
   pub answer : IsAnswer FirstStart (concordance text (phrase tokens)) known
 
--- the same where something is known
+-- the same if something is known
 abbrev pub KnowsRun : Text → List (List ℕ) → Option Known → Type 0
 KnowsRun text tokens known = IfSome known (IsRunAnswer text tokens)
 
--- what is known from member to member: of each operand of "one of", of the second one of a containment, or of a phrase
+-- what is known from member to member: of each operand of "one of", of the second operand of a containment, or of a phrase
 abbrev pub KnowsOperands : Text → Form → List (Option Known) → Type 0
 KnowsOperands text (one forms) known = AreKnown (operands text forms) known
 KnowsOperands text (phrase tokens) known = KnowsRun text tokens (get_or known 0 None)

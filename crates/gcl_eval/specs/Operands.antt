@@ -17,7 +17,7 @@ operand_forms exprs = forms_from (map form_of exprs)
 abbrev pub operand_lists : Text → List Expr → List (List Extent)
 operand_lists text exprs = operands text (operand_forms exprs)
 
--- how many look-ups one access of each of them may make in all: of two terms 2, where a look-up is one step
+-- how many look-ups one access of each of them may make in all: of two terms 2, if a look-up is one step
 abbrev pub operand_costs : Text → ℕ → List Expr → ℕ
 operand_costs text most exprs = costs text most (operand_forms exprs)
 

@@ -4,9 +4,9 @@
 //! its end the far one; going backward it is the other way round. So `first_start` and `last_end` are the near accesses,
 //! `first_end` and `last_start` the far ones. A chain has its near accesses by those of its operands, and "both of" and
 //! "one of" have their far ones by their own near ones: first the nearest member that lies before `k`, and then the next
-//! one. Of (2, 2), (4, 5) and (6, 6) the first that ends at 3 or later is sought so: (2, 2) is the last that ends before
-//! 3, and (4, 5) the first that starts after it does. "Followed by" asks its last operand first, from where the way leads
-//! back: of "or" and "be" at 3 and 6, (6, 6) leads back to (3, 3), and (3, 6) is the member.
+//! one. Of (2, 2), (4, 5) and (6, 6) the first that ends at 3 or later is found as follows: (2, 2) is the last that ends
+//! before 3, and (4, 5) the first that starts after it does. "Followed by" asks its last operand first, from where the way
+//! leads back: of "or" and "be" at 3 and 6, (6, 6) leads back to (3, 3), and (3, 6) is the member.
 
 ghost use Rattle.std.specs.Prelude.{◌≡◌, ◌+◌, ◌<◌, ◌≤◌, IfSome, ℕ, IfOk};
 ghost use Rattle.gcl_model.specs.Limits.{address_end, far};
@@ -26,7 +26,7 @@ use crate::term::term_access;
 use crate::width::width_access;
 use gcl_model::{CountedLeaves, Expr, Interval};
 
-/// An access of an expression: the element that is at hand, else by its operands' accesses.
+/// An access of an expression: the element that is available, else by its operands' accesses.
 #[inline(always)]
 #[cycle(access)]
 pub(crate) fn access<C: CountedLeaves>(

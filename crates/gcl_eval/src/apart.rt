@@ -13,7 +13,7 @@ use crate::containment::operands;
 use crate::elements::element_tokens;
 use gcl_model::{Expr, Interval};
 
-/// Where the search goes on after a member: past its start, and at its end where no two members overlap.
+/// Where the search goes on after a member: past its start, and at its end if no two members overlap.
 #[inline]
 pub(crate) fn next_from(expr: &Expr, member: Interval) -> u64
     requires { member.end < address_end }
@@ -28,7 +28,7 @@ pub(crate) fn next_from(expr: &Expr, member: Interval) -> u64
     member.start + 1
 }
 
-/// Whether the members are elements: intervals from one token to another, or those of them that a containment keeps.
+/// Whether the members are elements: intervals from one token to another, or such intervals that a containment keeps.
 #[inline]
 fn are_apart(expr: &Expr) -> bool
     ensures { IsTrue result → (text : Text) → IsText text → AreApart (concordance text (form_of expr.now)) }

@@ -176,7 +176,7 @@ fn both_of<C: CountedLeaves>(
     Ok(Some(between(direction, near, far)))
 }
 
-/// The farthest side of the operands' answers at `k`, or `k` where that is farther.
+/// The farthest side of the operands' answers at `k`, or `k` if that is farther.
 #[cycle(access)]
 fn farthest<C: CountedLeaves>(
     operands: &[Expr],
@@ -322,7 +322,8 @@ fn next_past<C: CountedLeaves>(
     requires operands { AreOperands (operand_forms operands.now) }
     requires within { IfSome near (λ a. a.end < address_end) }
     ensures answer { IfOk result (λ found. found ≡
-        next_past direction (concordance (C.text source.now) (seq (operand_forms operands.now))) (C.text source.now).first (C.text source.now).next near) }
+        next_past direction (concordance (C.text source.now) (seq (operand_forms operands.now))) (C.text source.now).first
+        (C.text source.now).next near) }
     ensures counted { C.count counter.old ≤ C.count counter.new }
     ensures cost { IfOk result (λ _. C.count counter.new ≤
         C.count counter.old + 2 * operand_costs (C.text source.now) (C.most source.now) operands.now) }

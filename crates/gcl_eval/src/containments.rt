@@ -20,7 +20,7 @@ use gcl_contain::Turn;
 use gcl_model::{Containment, CountedLeaves, Expr, Interval};
 
 /// An access of a containment: from member to member of the first operand, each with one access of the second, which is
-/// not asked again where its last answer still holds.
+/// not asked again while its last answer still holds.
 #[cycle(access)]
 pub(crate) fn containment_access<C: CountedLeaves>(
     expr: &Expr,
@@ -46,7 +46,7 @@ pub(crate) fn containment_access<C: CountedLeaves>(
     access_from_ahead(expr, wanted, source, k, ahead, known, counter)
 }
 
-/// The same where the element ahead is known, if there is one.
+/// The same once the element ahead is known, if there is one.
 #[inline(always)]
 #[cycle(access)]
 fn access_from_ahead<C: CountedLeaves>(
@@ -122,8 +122,8 @@ fn first_member<C: CountedLeaves>(
     }
 }
 
-/// Where "containing" is asked by starts: an element at which its loop may begin, ahead of the first operand's next
-/// member. None is where three look-ups find none, or where nothing was asked further back.
+/// If "containing" is asked by starts: an element at which its loop may begin, ahead of the first operand's next member.
+/// Returns None if three look-ups find none, or if nothing was asked further back.
 #[inline(always)]
 #[cycle(access)]
 fn element_ahead<C: CountedLeaves>(
@@ -155,8 +155,8 @@ fn element_ahead<C: CountedLeaves>(
     }
 }
 
-/// The first element that ends where the second operand's first answer from `k` on does, or later. Each member of
-/// "containing" from `k` on holds an answer from there on, so it ends there or later, too.
+/// The first element that ends where the second operand's first answer at or after `k` does, or later. Each member of
+/// "containing" at or after `k` holds an answer at or after `k`, so it ends there or later, too.
 #[inline]
 #[cycle(access)]
 fn element_behind_answer<C: CountedLeaves>(
@@ -171,19 +171,21 @@ fn element_behind_answer<C: CountedLeaves>(
     requires below { k < far }
     requires known { IsKnown FirstStart (concordance (C.text source.now) (form_of second.now)) known.old }
     ensures begins { IfOk result (λ found. IfSome found (IsBeginning
-        (concordance (C.text source.now) (form_of first.now)) (concordance (C.text source.now) (containing (form_of first.now) (form_of second.now))) k)) }
+        (concordance (C.text source.now) (form_of first.now)) (concordance (C.text source.now)
+        (containing (form_of first.now) (form_of second.now))) k)) }
     ensures within { IfOk result (λ found. IfSome found (λ a. a.end < address_end)) }
     ensures known { IfOk result (λ _. IsKnown FirstStart (concordance (C.text source.now) (form_of second.now)) known.new) }
     ensures counted { C.count counter.old ≤ C.count counter.new }
     ensures cost { IfOk result (λ _. C.count counter.new + near_cost (C.text source.now) (C.most source.now) (form_of first.now) ≤
         C.count counter.old +
-        cost (C.text source.now) (C.most source.now) (form_of first.now) + cost (C.text source.now) (C.most source.now) (form_of second.now)) }
+        cost (C.text source.now) (C.most source.now) (form_of first.now) +
+        cost (C.text source.now) (C.most source.now) (form_of second.now)) }
     ensures capped { (cap : ℕ) → C.Caps source.now cap → C.count counter.old ≤ cap → C.count counter.new ≤ cap }
 {
     if !was_leap(known, k) {
         return Ok(None);
     }
-    // any other first operand is not found by three look-ups
+    // no other first operand is found by three look-ups
     let Some(_tokens) = element_tokens(first) else {
         return Ok(None);
     };

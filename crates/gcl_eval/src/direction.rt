@@ -18,7 +18,7 @@ pub(crate) enum Access {
 }
 
 impl Access {
-    /// Forward for the first member from a position on, backward for the last up to it.
+    /// Forward for the first member at or after a position, backward for the last up to it.
     #[inline(always)]
     pub(crate) fn direction(self) -> Direction
         ensures { result ≡ direction_of self }

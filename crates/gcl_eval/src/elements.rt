@@ -1,4 +1,4 @@
-//! Elements: intervals from one token to another, such as the tags of a line, which the leaves may have at hand.
+//! Elements: intervals from one token to another, such as the tags of a line, which the leaves may have available.
 
 ghost use Rattle.std.specs.Prelude.{◌≡◌, ◌+◌, ◌*◌, ◌<◌, ◌≤◌, None, Some, IfSome, IsNone, ℕ, IfOk};
 ghost use Rattle.gcl_model.specs.Forms.{term, no_forms, more_forms};
@@ -16,7 +16,7 @@ ghost use Rattle.gcl_eval.specs.Operands.{operand_forms, element_form};
 use crate::direction::Access;
 use gcl_model::{Bytes, CountedLeaves, Expr, Interval};
 
-/// The tokens of two operands that are terms, where there are no others.
+/// The tokens of two operands that are terms, if there are no others.
 #[inline(always)]
 fn two_terms(operands: &[Expr]) -> Option<(&Bytes, &Bytes)>
     ensures { IfSome result (λ p. operand_forms operands.now ≡ more_forms (term p.0.now) (more_forms (term p.1.now) no_forms)) }
@@ -41,7 +41,7 @@ pub(crate) fn element_tokens(expr: &Expr) -> Option<(&Bytes, &Bytes)>
     }
 }
 
-/// An access of "followed by" for two terms, where its answer is at hand. Going backward, and of any other expression,
+/// An access of "followed by" for two terms, if its answer is available. Going backward, and for any other expression,
 /// none is.
 #[inline(always)]
 pub(crate) fn element_access<C: CountedLeaves>(
@@ -64,7 +64,7 @@ pub(crate) fn element_access<C: CountedLeaves>(
     let Some((first, second)) = element_tokens(expr) else {
         return Ok(None);
     };
-    // the span tells that the words rise
+    // the contract of `span` gives that the words rise
     let _span = source.span();
     match wanted {
         Access::FirstStart => source.element_from(first.as_slice(), second.as_slice(), k, counter),
@@ -73,8 +73,8 @@ pub(crate) fn element_access<C: CountedLeaves>(
     }
 }
 
-/// The first element that ends at or after `k`: the one at hand, else by its three look-ups. None is also where these lead
-/// to one that ends before `k`, and of any other expression.
+/// The first element that ends at or after `k`: the available one, else by its three look-ups. Returns None also if these
+/// lead to one that ends before `k`, and for any other expression.
 #[inline]
 pub(crate) fn element_up_to<C: CountedLeaves>(
     expr: &Expr,
@@ -97,8 +97,8 @@ pub(crate) fn element_up_to<C: CountedLeaves>(
     three_look_ups(first.as_slice(), second.as_slice(), source, k, counter)
 }
 
-/// The element from the last `first` before the next `second` that stands at or after `k`, up to the next `second` after
-/// that, where this one stands at or after `k`, too.
+/// The element from the last `first` before the next `second` at or after `k`, up to the next `second` after that `first`,
+/// if this is at or after `k`, too.
 fn three_look_ups<C: CountedLeaves>(
     first: &[u8],
     second: &[u8],
@@ -131,8 +131,8 @@ fn three_look_ups<C: CountedLeaves>(
     }
 }
 
-/// The first element that starts at or after `k`, where it is at hand: its three look-ups are counted then, and none where it is not. None
-/// is also of any other expression.
+/// The first element that starts at or after `k`, if it is available: its three look-ups are counted then, and none otherwise. Returns
+/// None also for any other expression.
 pub fn element_at_hand<C: CountedLeaves>(
     expr: &Expr,
     source: &C,
@@ -153,11 +153,11 @@ pub fn element_at_hand<C: CountedLeaves>(
     element_access(expr, Access::FirstStart, source, k, counter)
 }
 
-/// An element on the way to the first one that ends at or after `k`, by three look-ups: no element before it ends there. `Some(None)` is
-/// that none ends at `k` or later. None is that these look-ups lead to no element which starts at `from` or later, and is of any other
-/// expression.
+/// An element on the way to the first one that ends at or after `k`, by three look-ups: no element before it ends there. `Some(None)`
+/// means that none ends at `k` or later. Returns None if these look-ups lead to no element that starts at `from` or later, and for any
+/// other expression.
 ///
-/// With `first` at 1, 2 and 7 and `second` at 4 and 9 it is (7, 9) for 5, from 3 on.
+/// With `first` at 1, 2 and 7 and `second` at 4 and 9 it is (7, 9) if `from` is 3 and `k` is 5.
 pub fn element_onward<C: CountedLeaves>(
     expr: &Expr,
     source: &C,
@@ -191,8 +191,8 @@ pub fn element_onward<C: CountedLeaves>(
     )
 }
 
-/// The interval from the last `first` before the next `second` that stands at or after `k`, up to the next `second` after that, where it
-/// starts at `from` or later. `Some(None)` is that no `second` stands at `k` or later.
+/// The interval from the last `first` before the next `second` at or after `k`, up to the next `second` after that `first`, if it starts
+/// at `from` or later. `Some(None)` means that no `second` is at `k` or later.
 fn onward_by_look_ups<C: CountedLeaves>(
     first: &[u8],
     second: &[u8],

@@ -1,8 +1,8 @@
 //! Answers that are known.
 //!
-//! What an access found at one position it finds wherever that position is passed and the member is not: the first member
-//! that starts at 2 or later, (5, 6), is the first from 4 on, too. So who asks at positions that go on keeps the last
-//! answer, and asks again where it was passed.
+//! What an access found at one position, it finds at each further position that does not pass the member: the first member
+//! that starts at 2 or later, (5, 6), is also the first that starts at 4 or later. So a caller that asks at positions that
+//! go on keeps the last answer, and asks again once it was passed.
 
 ghost use Rattle.std.specs.Prelude.{◌≡◌, ◌+◌, ◌<◌, ◌≤◌, IfSome, ℕ, IfOk};
 ghost use Rattle.gcl_model.specs.Limits.{address_end, far};
@@ -24,7 +24,7 @@ pub(crate) struct Known {
     answer: Option<Interval>,
 }
 
-/// Whether `k` is a position where the access, asked at `at` before, comes to.
+/// Whether the access, asked at `at` before, comes to position `k` as it goes on.
 #[inline(always)]
 fn goes_on(access: Access, at: u64, k: u64) -> bool
     ensures { result ≡ goes_on access at k }
@@ -48,7 +48,7 @@ fn lies_beyond(access: Access, k: u64, member: Interval) -> bool
     }
 }
 
-/// Whether the access at `k` does not pass over the member that it found before, where there was one.
+/// Whether the access at `k` does not pass the member that it found before, if there was one.
 #[inline(always)]
 fn stays(access: Access, answer: Option<Interval>, k: u64) -> bool
     ensures { result ≡ stays access answer k }
@@ -59,7 +59,7 @@ fn stays(access: Access, answer: Option<Interval>, k: u64) -> bool
     }
 }
 
-/// The answer that is known, where it is that at `k`, too.
+/// The known answer, if it is also the answer at `k`.
 #[inline(always)]
 fn told(access: Access, known: Option<Known>, k: u64) -> Option<Option<Interval>>
     ensures { result ≡ told access known k }
@@ -83,8 +83,8 @@ pub(crate) fn asked_at(at: u64, answer: &Option<Interval>) -> Known
     }
 }
 
-/// Whether the answer that is known was asked for further back than the place right before `k`, as it is where an element
-/// was passed since, or several members were.
+/// Whether the known answer was asked for further back than the place right before `k`, as it is if an element or several
+/// members were passed since.
 #[inline(always)]
 pub(crate) fn was_leap(known: &Option<Known>, k: u64) -> bool
     ensures { result ≡ was_leap known.now k }
@@ -95,7 +95,7 @@ pub(crate) fn was_leap(known: &Option<Known>, k: u64) -> bool
     }
 }
 
-/// The member that is known, where it starts right before `k`.
+/// The known member, if it starts right before `k`.
 #[inline(always)]
 pub(crate) fn right_before(known: &Option<Known>, k: u64) -> Option<Interval>
     ensures { result ≡ right_before known.now k }
@@ -117,7 +117,7 @@ fn starts_before(answer: Option<Interval>, k: u64) -> bool
     }
 }
 
-/// An access of an expression: the answer that is known where it holds, else a new one, which is kept in its place.
+/// An access of an expression: the known answer if it holds, else a new one, which is kept in its place.
 #[inline]
 #[cycle(access)]
 pub(crate) fn known_access<C: CountedLeaves>(

@@ -18,7 +18,7 @@ use gcl_model::{
 use std::alloc::{AllocError, Global};
 use std::sync::ledger::Ledger as Brand;
 
-/// The number of members. Those of one width are not gone through, nor those of a containment of two.
+/// The number of members. Those of one width are not visited, nor those of a containment of two widths.
 pub fn count<L: Leaves, S: Ledger>(expr: &Expr, leaves: &L, steps: &mut Steps<S>) -> u64
     requires well_formed { IsWellFormed (form_of expr.now) }
     ensures value { result ≡ length (concordance (L.text leaves.now) (form_of expr.now)) }
@@ -48,7 +48,7 @@ fn number_of_members<C: CountedLeaves>(
         C.count counter.old + (found + 1) * near_cost (C.text source.now) (C.most source.now) (form_of expr.now)) }
     ensures capped { (cap : ℕ) → C.Caps source.now cap → C.count counter.old ≤ cap → C.count counter.new ≤ cap }
 {
-    // the span tells that the words rise
+    // the contract of `span` gives that the words rise
     let _span = source.span();
     let mut known = [None; MOST_KNOWN];
     let mut members = 0;
@@ -60,8 +60,8 @@ fn number_of_members<C: CountedLeaves>(
     Ok(members)
 }
 
-/// The number of members, unless that takes more look-ups than the counter may show. The last one may go beyond that, as that of an element
-/// does.
+/// The number of members, unless that takes more look-ups than `limit` lets the counter show. The last one may exceed that, as that of an
+/// element does.
 pub fn count_within<L: Leaves, B: Brand>(
     expr: &Expr,
     leaves: &L,
@@ -79,7 +79,7 @@ pub fn count_within<L: Leaves, B: Brand>(
     number_of_members(expr, &LimitedLeaves::<L, B>::new(leaves, limit), steps)
 }
 
-/// The first `most` members, or all where there are fewer.
+/// The first `most` members, or all if there are fewer.
 pub fn list<L: Leaves, S: Ledger>(
     alloc: Global,
     expr: &Expr,
@@ -91,14 +91,16 @@ pub fn list<L: Leaves, S: Ledger>(
     ensures ok { IfOk result (λ members. members ≡ take most (concordance (L.text leaves.now) (form_of expr.now))) }
     ensures counted { steps.old ≤ steps.new }
     ensures cost { steps.new ≤ steps.old +
-        (length (take most (concordance (L.text leaves.now) (form_of expr.now))) + 1) * cost (L.text leaves.now) (L.most leaves.now) (form_of expr.now) }
+        (length (take most (concordance (L.text leaves.now) (form_of expr.now))) + 1) *
+        cost (L.text leaves.now) (L.most leaves.now) (form_of expr.now) }
     ensures near_cost { steps.new ≤ steps.old +
-        (length (take most (concordance (L.text leaves.now) (form_of expr.now))) + 1) * near_cost (L.text leaves.now) (L.most leaves.now) (form_of expr.now) }
+        (length (take most (concordance (L.text leaves.now) (form_of expr.now))) + 1) *
+        near_cost (L.text leaves.now) (L.most leaves.now) (form_of expr.now) }
 {
     list_from(alloc, expr, leaves, 0, most, steps)
 }
 
-/// The first `most` members that start at or after `k`, or all of these where there are fewer.
+/// The first `most` members that start at or after `k`, or all of these if there are fewer.
 pub fn list_from<L: Leaves, S: Ledger>(
     alloc: Global,
     expr: &Expr,
@@ -130,8 +132,8 @@ pub struct Page {
     pub most: u64,
 }
 
-/// The members of the page, unless that takes more look-ups than the counter may show. The last one may go beyond that, by those of an
-/// element.
+/// The members of the page, unless that takes more look-ups than `limit` lets the counter show. The last one may exceed that, by those of
+/// an element.
 pub fn list_within<L: Leaves, B: Brand>(
     alloc: Global,
     expr: &Expr,
@@ -171,7 +173,7 @@ fn members_of<C: CountedLeaves>(
         near_cost (C.text source.now) (C.most source.now) (form_of expr.now)) }
     ensures capped { (cap : ℕ) → C.Caps source.now cap → C.count counter.old ≤ cap → C.count counter.new ≤ cap }
 {
-    // the span tells that the words rise
+    // the contract of `span` gives that the words rise
     let _span = source.span();
     let mut known = [None; MOST_KNOWN];
     let mut members = IntervalList::new(alloc);

@@ -1,8 +1,8 @@
 //! From member to member of an expression.
 //!
-//! Of "one of", the last answer of each operand is kept, and of a containment that of the second one: it is asked again
-//! only where its member was passed. Of 64 words one is looked up at each member, and the other 63 are known. So is all
-//! but the last word of the next row of "ha ha ha".
+//! Of "one of", the last answer of each operand is kept, and of a containment that of the second operand: it is asked
+//! again only if its member was passed. Of 64 words one is looked up at each member, and the other 63 are known. So is
+//! all but the last word of the next row of "ha ha ha".
 
 ghost use Rattle.std.specs.Prelude.{◌≡◌, ◌+◌, ◌<◌, ◌≤◌, length, IfSome, set, get_or, None, ℕ, IfOk};
 ghost use Rattle.gcl_model.specs.Limits.{address_end, far};
@@ -24,10 +24,10 @@ use crate::known::{Known, asked_at, known_access, right_before};
 use gcl_model::{CountedLeaves, Direction, Expr, Interval, TokenList};
 use phrase_walk::{counted_first_start, counted_next_row, has_one_word};
 
-/// How many operands have a place for their last answer. A count takes no memory, so these places stand in an array.
+/// How many operands have a place for their last answer. A count takes no memory, so these places are in an array.
 pub(crate) const MOST_KNOWN: usize = 64;
 
-/// The first member from `k` on, and what is known of the operands after it.
+/// The first member that starts at or after `k`, and what is known of the operands after it.
 #[inline]
 pub(crate) fn next_member<C: CountedLeaves>(
     expr: &Expr,
@@ -58,7 +58,7 @@ pub(crate) fn next_member<C: CountedLeaves>(
     }
 }
 
-/// "One of": the best of the operands' answers, of which those that are known are not asked for again.
+/// "One of": the best of the operands' answers. Known answers are not asked for again.
 fn first_of_one<C: CountedLeaves>(
     operands: &[Expr],
     source: &C,
@@ -114,7 +114,7 @@ fn first_of_containment<C: CountedLeaves>(
     Ok(answer)
 }
 
-/// A phrase: of one that is one word again and again, the last row has the first place, and only the address right behind it is looked at.
+/// A phrase: if it repeats one word, the last row has the first place, and only the address right after that row is looked at.
 fn first_of_phrase<C: CountedLeaves>(
     tokens: &TokenList,
     source: &C,
@@ -133,7 +133,7 @@ fn first_of_phrase<C: CountedLeaves>(
         C.count counter.old + cost (C.text source.now) (C.most source.now) (phrase tokens.now)) }
     ensures capped { (cap : ℕ) → C.Caps source.now cap → C.count counter.old ≤ cap → C.count counter.new ≤ cap }
 {
-    // the span tells that the words rise
+    // the contract of `span` gives that the words rise
     let _span = source.span();
     let last = known_of(known, 0);
     let answer = row_from(tokens, source, k, &last, counter)?;
@@ -143,7 +143,7 @@ fn first_of_phrase<C: CountedLeaves>(
     Ok(answer)
 }
 
-/// The first row from `k` on, by the row right before it where that is known.
+/// The first row at or after `k`, by the row right before it if that is known.
 #[inline]
 fn row_from<C: CountedLeaves>(
     tokens: &TokenList,
@@ -179,7 +179,7 @@ fn known_of(known: &[Option<Known>; MOST_KNOWN], number: usize) -> Option<Known>
     }
 }
 
-/// Keeps what is known of the operand with this number, where it has a place.
+/// Keeps what is known of the operand with this number, if it has a place.
 #[inline(always)]
 fn keep(known: &mut [Option<Known>; MOST_KNOWN], number: usize, last: Option<Known>)
     ensures { known.new ≡ set known.old number last }

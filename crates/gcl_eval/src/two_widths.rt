@@ -1,4 +1,4 @@
-//! Counts of widths, and of containments of one width and another, which go through no member.
+//! Counts of widths, and of containments of one width and another, which visit no member.
 
 ghost use Rattle.std.specs.Prelude.{◌≡◌, ◌≤◌, length, IfSome};
 ghost use Rattle.gcl_model.specs.Texts.{Text};
@@ -14,10 +14,11 @@ use crate::containment::operands;
 use fixed_width::width_count;
 use gcl_model::{Containment, Expr, Span};
 
-/// How many members a width has, or a containment of two; None of any other expression.
+/// How many members a width has, or a containment of two; None for any other expression.
 pub(crate) fn count_at_once(expr: &Expr, span: Span) -> Option<u64>
     requires { IsWellFormed (form_of expr.now) }
-    ensures { IfSome result (λ count. (text : Text) → HasSpan text span.first span.next → count ≡ length (concordance text (form_of expr.now))) }
+    ensures { IfSome result (λ count. (text : Text) → HasSpan text span.first span.next → count ≡
+        length (concordance text (form_of expr.now))) }
 {
     if let Expr::Width(n) = expr {
         return Some(width_count(*n, span));
@@ -80,7 +81,7 @@ fn count_of_widths(widths: TwoWidths, span: Span) -> u64
     }
 }
 
-/// Whether the containment keeps each interval of the first width in so many addresses, and not none of them.
+/// Whether the containment keeps each interval of the first width in `room` addresses, rather than none of them.
 fn keeps_all(widths: TwoWidths, room: u64) -> bool
     ensures { result ≡ keeps_all widths.containment widths.first widths.second room }
 {

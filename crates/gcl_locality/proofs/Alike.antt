@@ -9,7 +9,7 @@ use Rattle.gcl_model.proofs.Covers.{Nested, nested_tells, Has, covered_tells, co
 use Rattle.gcl_model.proofs.Minimal.{filter_has, has_filter, has_extent, same_truth}
 use Rattle.gcl_model.proofs.Meanings.{IsOf, AreOf, each_of_text, minimal_list, contains_tells}
 
--- a member that passes a test, where some member does, and back
+-- a member that passes a test, if some member does, and back
 pub any_tells : (test : Extent → Bool) (list : List Extent) → list_any test list ≡ true → (a : Extent) × Has list a × (test a ≡ true)
 any_tells test [] e = absurd (true≢false (sym e))
 any_tells test (x ∷ xs) e =
@@ -77,7 +77,7 @@ all_from : (test : Extent → Bool) (list : List Extent) → ((d : Extent) → H
 all_from test [] each = refl
 all_from test (x ∷ xs) each = and_from _ _ (each x (inl refl)) (all_from test xs (λ d m. each d (inr m)))
 
--- what is in order from p on up to q leaves room for it
+-- what is in order from p up to q leaves room for it
 room : (text : Text) (lists : List (List Extent)) → AreOf text lists → (p q : ℕ) → ends_in_order lists p q ≡ true → p ≤ q + 1
 room text [] of p q e = let is : p ≡ q + 1 = eqb-true p (q + 1) e in omega arith
 room text (list ∷ lists) of p q e =
@@ -103,13 +103,13 @@ kept_goes old new S test other keep keeps go same c s m =
     let k = has_filter other (all_extents new.first new.next) c (go c s (filter_has test (all_extents old.first old.next) c h.0 parts.0)) in
     filter_has (λ c. other c && keeps c) (all_extents new.first new.next) c k.0 (and_from (other c) (keeps c) k.1 (same c s of.proper parts.1))
 
--- the same of both sides, with a test that both pass alike
+-- the same of both sides, with a test on which both agree
 pub kept_alike : (old new : Text) (S : Extent → Type 0) (test others keep keeps : Extent → Bool) → Alike S (extents_where old test) (extents_where new others) →
     ((c : Extent) → S c → c.start ≤ c.end → keep c ≡ true → keeps c ≡ true) → ((c : Extent) → S c → c.start ≤ c.end → keeps c ≡ true → keep c ≡ true) →
     Alike S (extents_where old (λ c. test c && keep c)) (extents_where new (λ c. others c && keeps c))
 kept_alike old new S test others keep keeps a on back = (kept_goes old new S test others keep keeps a.0 on, kept_goes new old S others test keeps keep a.1 back)
 
--- and one that both fail alike
+-- and with the opposite of such a test
 pub dropped_alike : (old new : Text) (S : Extent → Type 0) (test others keep keeps : Extent → Bool) → Alike S (extents_where old test) (extents_where new others) →
     ((c : Extent) → S c → c.start ≤ c.end → keep c ≡ true → keeps c ≡ true) → ((c : Extent) → S c → c.start ≤ c.end → keeps c ≡ true → keep c ≡ true) →
     Alike S (extents_where old (λ c. test c && not (keep c))) (extents_where new (λ c. others c && not (keeps c)))
@@ -171,7 +171,7 @@ module _ (old new : Text) (S : Extent → Type 0) (sh : AreShared old new S) whe
       (a.0.0 r.0 (sh.within r.0 c (omega arith, omega arith) s) r.1)
       (and_from _ _ parts.0 (ends_goes xss yss a.1 of.1 c s (r.0.end + 1) (omega arith) parts.1))
 
-  -- the least of two lists that are alike
+  -- the least of two lists that agree there
   minimal_goes : (xs ys : List Extent) → Alike S xs ys → Goes S (minimal xs) (minimal ys)
   minimal_goes xs ys a c s m =
       let h = has_filter (is_least xs) xs c m in

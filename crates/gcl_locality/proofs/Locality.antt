@@ -59,7 +59,7 @@ shared_from old new S within agree = record {
   words = λ c s p ge le token. (agree c s p ge le).words token;
 }
 
--- where each token stands in both texts or in neither, so does each word that a term stands for
+-- if each token is at an address in both texts or in neither, so is each word that a term stands for
 wide_goes : (words others : List Word) (token : List ℕ) (p : ℕ) → ((t : List ℕ) → holds words t p ≡ true → holds others t p ≡ true) →
     holds_wide words token p ≡ true → holds_wide others token p ≡ true
 wide_goes words others token p each e =
@@ -108,7 +108,7 @@ module _ (old new : Text) (S : Extent → Type 0) (sh : AreShared old new S) whe
   pub width_alike : (n : ℕ) → Alike S (wide old (width n)) (wide new (width n))
   width_alike n = where_alike old new S sh (is_width n) (is_width n) (λ c s le. refl)
 
-  -- what two lists that are alike cover
+  -- what two lists that agree there cover
   pub cover_on : (xs ys : List Extent) → Alike S xs ys → (c : Extent) → S c → c.start ≤ c.end → covers xs c ≡ true → covers ys c ≡ true
   cover_on xs ys a c s le e = covers_alike old new S sh xs ys a c s e
 
@@ -205,7 +205,7 @@ away_within : (low high : ℕ) (a c : Extent) → Nested a c → IsAway low high
 away_within low high a c n (inl e) = let y = n.1 in inl (omega arith)
 away_within low high a c n (inr e) = let x = n.0 in inr (omega arith)
 
--- an interval that is away from what the members of the second operand reach lies in a member of one list where it lies in one of the other
+-- an interval that is away from what the members of the second operand reach lies in a member of one list if it lies in one of the other
 inside_goes : (low high l h : ℕ) (xs ys : List Extent) → Goes (IsAway low high) xs ys → ((b : Extent) → Has xs b → low ≤ b.end → l ≤ b.start) → ((b : Extent) → Has xs b → b.start ≤ high → b.end ≤ h) →
     (c : Extent) → IsAway l h c → c.start ≤ c.end → is_inside xs c ≡ true → is_inside ys c ≡ true
 inside_goes low high l h xs ys go back on c s le e =

@@ -1,4 +1,4 @@
--- What has the words of a window tells the members that touch two addresses, by induction over expressions.
+-- What has the words of a window determines the members that touch two addresses, by induction over expressions.
 use Rattle.std.proofs.Common.{◌≡◌, ℕ, ◌+◌, ◌-◌, ◌<◌, ◌≤◌, Bool, true, ◌&&◌, leb, eqb, List, [], ◌∷◌, Option, Some, None, inl, inr, refl, sym, ap, ◌∙◌, arith, min, max, le_refl, filter}
 use Rattle.std.proofs.lemmas.Bool.{cases_Bool, cases_lt, and_parts, leb-true}
 use Rattle.gcl_model.specs.Extents.{Extent, extent, is_nested, is_inside, covers, IsAhead, IsRising}
@@ -77,7 +77,7 @@ start_most text list x = omega arith
 end_least : (text : Text) (list : List Extent) (y : ℕ) → y ≤ end_behind text list y
 end_least text list y = omega arith
 
--- two lists that are alike between the member before x and the one behind y have the same members near x and y
+-- two lists that agree between the member before x and the one after y have the same members near x and y
 module _ (text part : Text) (first : text.first ≤ part.first) (next : part.next ≤ text.next) (form : Form) (x y : ℕ) (le : x ≤ y + 1) where
   abbrev from : ℕ
   from = start_before text (concordance text form) x
@@ -209,7 +209,7 @@ module _ (text part : Text) (lo hi : ℕ) (is : IsPart part text lo hi) where
       not_contained_alike =
           dropped_alike text part (IsWithin x y) (denotes text a) (denotes part a) (is_inside (concordance text b)) (is_inside (concordance part b)) first inside_on inside_back
 
-  -- a part that has the words which tell the members from x to y has these members
+  -- a part that has the words which determine the members from x to y has these members
   mutual
     pub told_alike : (form : Form) (x y : ℕ) → lo ≤ told_from text x y form → told_upto text x y form ≤ hi → Alike (IsWithin x y) (concordance text form) (concordance part form)
     told_alike (term token) x y ge le = term_alike text part (IsWithin x y) (told_shared x y ge le) token

@@ -83,7 +83,7 @@ watched_changes_from = refl
 watched_changes_upto : changed_upto before after 10 watched ≡ 10
 watched_changes_upto = refl
 
--- were `<` and `/<` taken to change only where their operands do, from 8 to 10, this `be` would be lost unseen
+-- if `<` and `/<` were taken to change only where their operands do, from 8 to 10, the loss of this `be` would be missed
 it_went : differs (wide before watched) (wide after watched) (extent 6 6) ≡ true
 it_went = refl
 
@@ -93,14 +93,14 @@ it_does_not_touch_the_file = refl
 it_touches_what_is_looked_at : touches 5 10 (extent 6 6) ≡ true
 it_touches_what_is_looked_at = refl
 
--- the same with `<`, where it comes, and read from the other end: the file goes
+-- the same with `<`, to which the `be` is added, and read the other way: the file is removed
 it_came_inside : is_lost (wide after (contained_in be (followed to x))) (wide before (contained_in be (followed to x))) (extent 6 6) ≡ true
 it_came_inside = refl
 
 gone_changes_from : changed_from after before 8 watched ≡ 5
 gone_changes_from = refl
 
--- where the first file goes, what contains the word of the second one is looked at on its other side
+-- if the first file is removed, what contains the word of the second file is looked at on its other side
 abbrev last : Text
 last = record { first = 0; next = 11; words = word 8 (codes "<file!>") ∷ word 9 (codes "x") ∷ word 10 (codes "</file!>") ∷ [] }
 
@@ -126,7 +126,7 @@ followed_looks_not_around = refl
 watched_looks_around : looks_around (both (more_forms watched (more_forms to no_forms))) ≡ true
 watched_looks_around = refl
 
--- windows: the `be` at 6 alone does not tell that it lies in (5, 9), and the window of "be" /< ("to".."x") at 6 has what tells it
+-- windows: the `be` at 6 alone does not show that it lies in (5, 9), and the window of "be" /< ("to".."x") at 6 has what shows it
 abbrev alone : Text
 alone = record { first = 6; next = 7; words = word 6 (codes "be") ∷ [] }
 
@@ -139,11 +139,11 @@ its_window_upto = refl
 it_is_not_in_the_list : filter (touches 6 6) (wide after watched) ≡ []
 it_is_not_in_the_list = refl
 
--- the part with the words from 6 to 6 alone tells otherwise
+-- the part with the words from 6 to 6 alone gives another answer
 it_is_in_the_list_of_a_part : filter (touches 6 6) (wide alone watched) ≡ extent 6 6 ∷ []
 it_is_in_the_list_of_a_part = refl
 
--- the window of a word reaches from the one before to the one behind
+-- the window of a word reaches from the one before to the one after
 a_word_starts_before : start_before after (wide after be) 5 ≡ 2
 a_word_starts_before = refl
 

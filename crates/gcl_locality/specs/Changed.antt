@@ -1,4 +1,4 @@
--- From where, and up to where, the list of an expression may differ over two texts that are the same outside a range of addresses.
+-- From where up to where the list of an expression may differ over two texts that are the same outside a range of addresses.
 use Rattle.std.specs.Prelude.{ℕ, List, Option, None, Some, min, max, Bool, true, false, not, ◌&&◌, ◌||◌, nat_le}
 use Rattle.gcl_model.specs.Extents.{Extent, contains_extent}
 use Rattle.gcl_model.specs.Access.{first_end, last_start}
@@ -6,12 +6,12 @@ use Rattle.gcl_model.specs.Texts.{Text}
 use Rattle.gcl_model.specs.Forms.{Form, Forms, term, phrase, width, both, one, seq, containing, contained_in, not_containing, not_contained_in, no_forms, more_forms}
 use Rattle.gcl_model.specs.Wide.{wide}
 
--- the lesser of p and the start of an interval: of 8 and (5, 9) it is 5, and p where there is none
+-- the lesser of p and the start of an interval: of 8 and (5, 9) it is 5, and p if there is none
 abbrev pub earlier_start : ℕ → Option Extent → ℕ
 earlier_start p None = p
 earlier_start p (Some a) = min p a.start
 
--- the greater of p and the end of an interval: of 8 and (5, 9) it is 9, and p where there is none
+-- the greater of p and the end of an interval: of 8 and (5, 9) it is 9, and p if there is none
 abbrev pub later_end : ℕ → Option Extent → ℕ
 later_end p None = p
 later_end p (Some a) = max p a.end
@@ -25,7 +25,7 @@ abbrev pub on_to : ℕ → List Extent → ℕ → ℕ
 on_to p list k = later_end p (last_start list k)
 
 abbrev mutual
-  -- what differs ends here or later: at `from`, but for `<` and `/<`, whose second operand may contain what stands before
+  -- what differs ends here or later: at `from`, except for `<` and `/<`, whose second operand may contain what is before
   pub changed_from : Text → Text → ℕ → Form → ℕ
   changed_from old new from (term token) = from
   changed_from old new from (phrase tokens) = from
@@ -40,13 +40,13 @@ abbrev mutual
   changed_from old new from (not_contained_in a b) =
       back_to (back_to (changed_from old new from a) (wide old b) (changed_from old new from b)) (wide new b) (changed_from old new from b)
 
-  -- the least of the operands' ones
+  -- the least of the operands' addresses
   pub least_changed : Text → Text → ℕ → Forms → ℕ
   least_changed old new from no_forms = from
   least_changed old new from (more_forms form forms) = min (changed_from old new from form) (least_changed old new from forms)
 
 abbrev mutual
-  -- what differs starts here or before: at `upto`, but for `<` and `/<`, whose second operand may contain what stands after
+  -- what differs starts here or before: at `upto`, except for `<` and `/<`, whose second operand may contain what is after
   pub changed_upto : Text → Text → ℕ → Form → ℕ
   changed_upto old new upto (term token) = upto
   changed_upto old new upto (phrase tokens) = upto
@@ -61,7 +61,7 @@ abbrev mutual
   changed_upto old new upto (not_contained_in a b) =
       on_to (on_to (changed_upto old new upto a) (wide old b) (changed_upto old new upto b)) (wide new b) (changed_upto old new upto b)
 
-  -- the greatest of the operands' ones
+  -- the greatest of the operands' addresses
   pub greatest_changed : Text → Text → ℕ → Forms → ℕ
   greatest_changed old new upto no_forms = upto
   greatest_changed old new upto (more_forms form forms) = max (changed_upto old new upto form) (greatest_changed old new upto forms)

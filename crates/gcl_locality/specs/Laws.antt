@@ -25,7 +25,7 @@ MembersAreLocal = (old new : Text) (form : Form) (p q : ℕ) → looks_around fo
 abbrev pub SameAround : List Extent → List Extent → ℕ → ℕ → Type 0
 SameAround old new p q = (b : Extent) → b.start ≤ p → q ≤ b.end → contains_extent old b ≡ contains_extent new b
 
--- for `A < B` and `A /< B` it depends besides on the members of `B` that contain (p, q)
+-- for `A < B` and `A /< B` it depends also on the members of `B` that contain (p, q)
 abbrev pub ContainedAreLocalAround : (Form → Form → Form) → Type 0
 ContainedAreLocalAround operator = (old new : Text) (a b : Form) (p q : ℕ) → looks_around a ≡ false → AgreeWithin old new p q →
     SameAround (wide old b) (wide new b) p q →

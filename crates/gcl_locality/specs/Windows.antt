@@ -1,4 +1,4 @@
--- Which part of a text tells the members of an expression that touch two addresses.
+-- Which part of a text determines the members of an expression that touch two addresses.
 use Rattle.std.specs.Prelude.{◌≡◌, ℕ, ◌+◌, ◌-◌, ◌≤◌, List, Option, None, Some, min, max, filter}
 use Rattle.gcl_model.specs.Extents.{Extent}
 use Rattle.gcl_model.specs.Access.{first_start, last_end}
@@ -8,13 +8,13 @@ use Rattle.gcl_model.specs.Meaning.{concordance}
 use Rattle.gcl_locality.specs.Agreement.{AgreeWithin}
 use Rattle.gcl_locality.specs.Changed.{touches}
 
--- a part of a text: it has the same words from `low` to `high`, and no address that the text has not
+-- a part of a text: it has the same words from `low` to `high`, and no address that the text lacks
 pub record IsPart (part text : Text) (low high : ℕ) : Type 0 where
   pub same : AgreeWithin text part low high
   pub first : text.first ≤ part.first
   pub next : part.next ≤ text.next
 
--- where an interval starts, and p where there is none
+-- where an interval starts, and p if there is none
 abbrev pub start_or : ℕ → Option Extent → ℕ
 start_or p None = p
 start_or p (Some a) = a.start
@@ -24,18 +24,18 @@ abbrev pub end_or : ℕ → Option Extent → ℕ
 end_or p None = p
 end_or p (Some a) = a.end
 
--- where the last member starts that ends before x: each one that reaches x starts after it. Where there is none it is the first address. Of
--- (1, 2) and (5, 6) it is 1 for 5
+-- where the last member that ends before x starts: each member that reaches x starts after it. If there is none, it is the first address.
+-- Of (1, 2) and (5, 6) it is 1 for 5
 abbrev pub start_before : Text → List Extent → ℕ → ℕ
 start_before text list x = min x (start_or text.first (last_end list (x - 1)))
 
--- where the first member ends that starts after y, or the end of the addresses. Of (1, 2) and (5, 6) it is 6 for 2
+-- where the first member that starts after y ends, or the end of the addresses. Of (1, 2) and (5, 6) it is 6 for 2
 abbrev pub end_behind : Text → List Extent → ℕ → ℕ
 end_behind text list y = max y (end_or text.next (first_start list (y + 1)))
 
 abbrev mutual
-  -- from where on a part of the text has to have its words, so that it tells the members that lie from x to y: at x, but for `<` and `/<`,
-  -- for which it has to tell what contains these members
+  -- from where a part of the text must have its words to determine the members that lie from x to y: from x, except for `<` and `/<`, for
+  -- which it must also determine what contains these members
   pub told_from : Text → (x y : ℕ) → Form → ℕ
   told_from text x y (term token) = x
   told_from text x y (phrase tokens) = x
@@ -50,13 +50,13 @@ abbrev mutual
   told_from text x y (not_contained_in a b) =
       min (told_from text x y a) (told_from text (start_before text (concordance text b) x) (end_behind text (concordance text b) y) b)
 
-  -- the least of the operands' ones
+  -- the least of the operands' addresses
   pub all_told_from : Text → (x y : ℕ) → Forms → ℕ
   all_told_from text x y no_forms = x
   all_told_from text x y (more_forms form forms) = min (told_from text x y form) (all_told_from text x y forms)
 
 abbrev mutual
-  -- up to where it has to have them
+  -- up to where it must have them
   pub told_upto : Text → (x y : ℕ) → Form → ℕ
   told_upto text x y (term token) = y
   told_upto text x y (phrase tokens) = y
@@ -71,23 +71,23 @@ abbrev mutual
   told_upto text x y (not_contained_in a b) =
       max (told_upto text x y a) (told_upto text (start_before text (concordance text b) x) (end_behind text (concordance text b) y) b)
 
-  -- the greatest of the operands' ones
+  -- the greatest of the operands' addresses
   pub all_told_upto : Text → (x y : ℕ) → Forms → ℕ
   all_told_upto text x y no_forms = y
   all_told_upto text x y (more_forms form forms) = max (told_upto text x y form) (all_told_upto text x y forms)
 
--- the window of an expression at two addresses: the part of a text from here on
+-- the window of an expression at two addresses: the part of a text from here
 abbrev pub window_from : Text → (low high : ℕ) → Form → ℕ
 window_from text low high form =
     told_from text (start_before text (concordance text form) low) (end_behind text (concordance text form) high) form
 
--- and up to here
+-- up to here
 abbrev pub window_upto : Text → (low high : ℕ) → Form → ℕ
 window_upto text low high form =
     told_upto text (start_before text (concordance text form) low) (end_behind text (concordance text form) high) form
 
--- what has the words of the window tells the members that touch the two addresses. The first is at most one behind the second, as 5 and 4,
--- between which there is no address: were it 12 and 2, (1, 12) would touch both, and the window might have none of its words
+-- what has the words of the window determines the members that touch the two addresses. The first is at most one after the second, as 5
+-- and 4, between which there is no address: with 12 and 2, (1, 12) would touch both, and the window might have none of its words
 abbrev pub WindowsTell : Type 0
 WindowsTell = (text part : Text) (form : Form) (low high : ℕ) → low ≤ high + 1 →
     IsPart part text (window_from text low high form) (window_upto text low high form) →

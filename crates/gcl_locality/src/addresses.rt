@@ -4,7 +4,7 @@ ghost use Rattle.gcl_locality.specs.Windows.{start_or, end_or};
 
 use gcl_model::Interval;
 
-/// The lesser of an address and of the start of an interval, where there is one.
+/// The lesser of an address and of the start of an interval, if there is one.
 pub fn earlier_start(p: u64, found: Option<Interval>) -> u64
     ensures { result ≡ earlier_start p found }
 {
@@ -14,7 +14,7 @@ pub fn earlier_start(p: u64, found: Option<Interval>) -> u64
     }
 }
 
-/// The greater of an address and of the end of an interval, where there is one.
+/// The greater of an address and of the end of an interval, if there is one.
 pub fn later_end(p: u64, found: Option<Interval>) -> u64
     ensures { result ≡ later_end p found }
 {
@@ -24,7 +24,7 @@ pub fn later_end(p: u64, found: Option<Interval>) -> u64
     }
 }
 
-/// From where on a window reaches x: where the last interval starts that ends before x, or else the first address.
+/// Where a window that reaches x begins: where the last interval that ends before x starts, or else at the first address.
 pub fn start_before(first: u64, x: u64, found: Option<Interval>) -> u64
     ensures { result ≡ min x (start_or first found) }
 {
@@ -34,7 +34,7 @@ pub fn start_before(first: u64, x: u64, found: Option<Interval>) -> u64
     }
 }
 
-/// Up to where it reaches behind y: where the first interval ends that starts after y, or else the end of the addresses.
+/// Up to where it reaches after y: where the first interval that starts after y ends, or else the end of the addresses.
 pub fn end_behind(next: u64, y: u64, found: Option<Interval>) -> u64
     ensures { result ≡ max y (end_or next found) }
 {

@@ -96,7 +96,7 @@ length-filter_le t (x ∷ xs) = here (t x) (length-filter_le t xs)
     here true le = omega arith
     here false le = omega arith
 
--- where a test finds a member, one member at least does not pass its opposite
+-- if a test finds a member, at least one member does not pass its opposite
 pub length-filter_found : {X : Type 0} (t : X → Bool) (x : X) (xs : List X) → find t xs ≡ Some x → length (filter (λ y. not (t y)) xs) + 1 ≤ length xs
 length-filter_found t x [] e = absurd cc
 length-filter_found t x (y ∷ ys) e = here (t y) e (length-filter_found t x ys) (length-filter_le (λ z. not (t z)) ys)
@@ -117,7 +117,7 @@ drop_past x xs n = let e : 1 + n ≡ suc n = omega arith in ap (λ m. drop m (x 
 pub drop_here : {X : Type 0} (xs : List X) (i : ℕ) (x : X) → i < length xs → x ≡ get_or xs i x → drop i xs ≡ x ∷ drop (i + 1) xs
 drop_here xs i x lt is = drop_more xs i x lt ∙ ap (λ y. y ∷ drop (i + 1) xs) (sym is)
 
--- a list is what stands before a place, so many members from there on, and the rest
+-- a list is what comes before a place, `count` members starting there, and the rest
 pub cut_twice : {X : Type 0} (at count : ℕ) (xs : List X) → take at xs ++ (take count (drop at xs) ++ drop (at + count) xs) ≡ xs
 cut_twice zero count xs = ap (λ n. take count xs ++ drop n xs) (zero-add count) ∙ take-append-drop count xs
 cut_twice (suc at) count [] = ap (λ l. l ++ drop (suc at + count) []) (take-nil count) ∙ drop-nil (suc at + count)

@@ -9,7 +9,7 @@ use Rattle.gcl_model.specs.Access.{later_or, find_last}
 use Rattle.gcl_model.specs.Texts.{Word, AreRisingBelow, places, next_place, previous_place}
 use Rattle.gcl_model.proofs.Lists.{find_last-append}
 
--- what rises from a later address on rises from an earlier one
+-- what rises at or after a later address also rises at or after an earlier one
 pub rising_earlier : (next low later : ℕ) (words : List Word) → low ≤ later → AreRisingBelow next later words → AreRisingBelow next low words
 rising_earlier next low later [] le r = tt
 rising_earlier next low later (w ∷ ws) le r = let h = r.0 in (omega arith, r.1, r.2)

@@ -56,7 +56,7 @@ added_again = refl
 abbrev three_slots : List SlotRange
 three_slots = slot_range 0 7 ∷ slot_range 8 9 ∷ slot_range 10 17 ∷ []
 
--- so many slots of two addresses are added, from an address on
+-- the given number of slots of two addresses are added, starting at an address
 abbrev added_from : ℕ → ℕ → List SlotRange → List SlotRange
 added_from zero p ranges = ranges
 added_from (suc n) p ranges = added_from n (p + 2) (slots_after_add ranges (slot_range p (p + 1)))

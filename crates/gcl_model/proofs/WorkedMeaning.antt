@@ -52,7 +52,7 @@ no_pair_between = refl
 pub a_pair_at_the_last_address : any_pair hamlet.words (codes "to") (codes "be") 2 6 ≡ true
 a_pair_at_the_last_address = refl
 
--- "to" at 5 has "be" right after it, and "be" no "to"
+-- "to" at 5 has "be" right after it, and no "be" has "to" right after it
 pub no_pair_the_other_way : any_pair hamlet.words (codes "be") (codes "to") 0 8 ≡ false
 no_pair_the_other_way = refl
 
@@ -149,7 +149,7 @@ cost_of_both = refl
 pub cost_of_a_containment : cost hamlet 1 (contained_in t t) ≡ 8
 cost_of_a_containment = refl
 
--- the rarer token stands at one address: three turns of four look-ups
+-- the rarer token occurs at one address: three turns of four look-ups
 pub cost_of_a_phrase : cost hamlet 1 (phrase (codes "or" ∷ codes "be" ∷ [])) ≡ 12
 cost_of_a_phrase = refl
 

@@ -3,7 +3,7 @@ use Rattle.std.specs.Prelude.{◌≡◌, true, false, [], ◌∷◌, refl, codes
 use Rattle.gcl_model.specs.Extents.{extent}
 use Rattle.gcl_model.specs.Forms.{Form, term, both, seq}
 use Rattle.gcl_model.specs.Meaning.{concordance}
-use Rattle.gcl_model.specs.Wide.{is_prefix_term, begins_with, stands_for_word, wide}
+use Rattle.gcl_model.specs.Wide.{stands_for_word, wide}
 use Rattle.gcl_model.proofs.WorkedMeaning.{hamlet, t, two}
 
 abbrev t_star : Form

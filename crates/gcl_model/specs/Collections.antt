@@ -42,7 +42,7 @@ with_boundaries tokens = file_start ∷ (tokens ++ file_end ∷ [])
 abbrev pub width_of : List (List ℕ) → ℕ
 width_of tokens = length tokens + 2
 
--- the tokens at consecutive addresses from p on
+-- the tokens at consecutive addresses, starting at p
 abbrev pub words_from : ℕ → List (List ℕ) → List Word
 words_from p [] = []
 words_from p (token ∷ tokens) = record { address = p; token = token } ∷ words_from (p + 1) tokens
@@ -64,7 +64,7 @@ abbrev pub word_of_files : List File → ℕ → Option (List ℕ)
 word_of_files [] p = None
 word_of_files (file ∷ files) p = option_or (word_of_file file p) (word_of_files files p)
 
--- the token at address p: that of the one file that covers it, and none where no file does
+-- the token at address p: that of the one file that covers it, and none if no file does
 abbrev pub word_at : Collection → ℕ → Option (List ℕ)
 word_at c p = word_of_files c.files p
 
@@ -106,18 +106,18 @@ without_file c id = record {
   files = filter (λ file. not (file.id == id)) c.files;
 }
 
--- so many addresses may lie between two files whose ids leave out so many
+-- this many addresses may lie between two files with this many ids left out between them
 abbrev pub FitsHole : ℕ → ℕ → Type 0
 FitsHole addresses ids = (ids ≡ 0 → addresses ≡ 0) × (2 * ids ≤ addresses)
 
--- the files from an address and an id on fill the collection up to its end
+-- the files, starting at this address and this id, fill the collection up to its end
 abbrev pub AreFilesFrom : Collection → ℕ → ℕ → List File → Type 0
 AreFilesFrom c at id [] = (at ≤ c.next) × (id ≤ c.next_id) × FitsHole (c.next - at) (c.next_id - id)
 AreFilesFrom c at id (file ∷ files) =
     (at ≤ file.base) × (id ≤ file.id) × FitsHole (file.base - at) (file.id - id) × (is_name file.name ≡ true) × AllByRecursion IsToken file.tokens
     × AreFilesFrom c (file.base + width_of file.tokens) (file.id + 1) files
 
--- the files stand in rising ids at rising addresses, and the holes between them are as wide as the missing ids need
+-- the files have rising ids and rising addresses, and the holes between them are as wide as the missing ids need
 pub record IsSound (c : Collection) : Type 0 where
   pub ordered : c.first ≤ c.next
   pub in_range : c.next ≤ address_end

@@ -1,5 +1,5 @@
--- What is said of both ways along a list once: going forward, the near side of a member is its start and the far side its end; going backward it
--- is the other way round.
+-- What both directions along a list have in common, defined once: going forward, the near side of a member is its start and the far side
+-- its end; going backward it is the other way round.
 use Rattle.std.specs.Prelude.{ℕ, ◌≤◌, List, Option, min, max}
 use Rattle.gcl_model.specs.Extents.{Extent, extent}
 use Rattle.gcl_model.specs.Access.{first_start, first_end, last_end, last_start}
@@ -31,7 +31,7 @@ abbrev pub between : Direction → ℕ → ℕ → Extent
 between Forward near far = extent near far
 between Backward near far = extent far near
 
--- the farther one of two addresses: forward, of 4 and 6 it is 6
+-- the farther of two addresses: forward, of 4 and 6 it is 6
 abbrev pub farther : Direction → ℕ → ℕ → ℕ
 farther Forward = max
 farther Backward = min

@@ -3,16 +3,16 @@ use Rattle.std.specs.Prelude.{◌≡◌, ℕ, ◌+◌, ◌-◌, ◌<◌, ◌≤�
 use Rattle.gcl_model.specs.Extents.{Extent}
 use Rattle.gcl_model.specs.Texts.{Word, next_place, previous_place}
 
--- an interval up to the next `second` after the next `first` from k on, and from the last `first` before that: with `first` at 1, 2 and 7
--- and `second` at 4 and 9 it is (2, 4) at 1, and (7, 9) at 3
+-- an interval that ends at the next `second` after the next `first` at or after k, and starts at the last `first` before that `second`:
+-- with `first` at 1, 2 and 7 and `second` at 4 and 9 it is (2, 4) at 1, and (7, 9) at 3
 pub record IsElementFrom (words : List Word) (first second : List ℕ) (k : ℕ) (element : Extent) : Type 0 where
   pub at : ℕ
   pub found : Some at ≡ next_place words first k
   pub on : Some element.end ≡ next_place words second (at + 1)
   pub back : Some element.start ≡ previous_place words first (element.end - 1)
 
--- an interval from the last `first` before the next `second` from k on, and up to the next `second` after that, where this one stands at k
--- or later: in the same words it is (2, 4) at 3 and (7, 9) at 5; with `first` at 1 and `second` at 3 and 6 there is none at 5
+-- an interval that starts at the last `first` before the next `second` at or after k, and ends at the next `second` after that `first`, if
+-- this is at or after k: in the same words it is (2, 4) at 3 and (7, 9) at 5; with `first` at 1 and `second` at 3 and 6 there is none at 5
 pub record IsElementUpTo (words : List Word) (first second : List ℕ) (k : ℕ) (element : Extent) : Type 0 where
   pub at : ℕ
   pub found : Some at ≡ next_place words second k

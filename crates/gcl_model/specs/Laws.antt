@@ -24,7 +24,7 @@ GroupsFromLeft chain = (text : Text) (a b : Form) (rest : Forms) →
 abbrev pub TokensAreTokens : Type 0
 TokensAreTokens = (bytes : List ℕ) → AllByRecursion IsToken (tokens_of bytes)
 
--- the collection that begins at an address is sound, and adding and deleting keep soundness
+-- the collection that begins at an address is sound
 abbrev pub StartIsSound : Type 0
 StartIsSound = (first : ℕ) → first ≤ address_end → IsSound (empty_from first)
 
@@ -40,7 +40,7 @@ DeletingKeepsSoundness = (c : Collection) (id : ℕ) → IsSound c → IsSound (
 abbrev pub StepsKeepSoundness : Type 0
 StepsKeepSoundness = (c d : Collection) → IsSound c → IsStep c d → IsSound d
 
--- the words of a sound collection stand at rising addresses, between its first and its next
+-- the words of a sound collection are at rising addresses, between its first and its next
 abbrev pub WordsAreText : Type 0
 WordsAreText = (c : Collection) → IsSound c → IsText (text_of c)
 
@@ -48,13 +48,14 @@ WordsAreText = (c : Collection) → IsSound c → IsText (text_of c)
 abbrev pub WordsAreAtAddresses : Type 0
 WordsAreAtAddresses = (c : Collection) (p : ℕ) (token : List ℕ) → IsSound c → (holds (words_of c) token p ≡ true) ↔ (word_at c p ≡ Some token)
 
--- the slots rise from low on and end before end, each has two addresses or more, and each but the last is more than four times as wide as the next
+-- the slots rise, start at or after low and end before end; each has two addresses or more, and each but the last is more than four times
+-- as wide as the next
 pub record AreTiers (low end : ℕ) (ranges : List SlotRange) : Type 0 where
   pub apart : AreRangesWithin low end ranges
   pub wide : AllByRecursion (λ range. 2 ≤ slot_width range) ranges
   pub tiered : AreTiered ranges
 
--- an added file, whose addresses come after all that were given, leaves tiers
+-- adding a file whose addresses come after all that were given keeps the tiers
 abbrev pub AddingKeepsTiers : Type 0
 AddingKeepsTiers = (low next end : ℕ) (ranges : List SlotRange) (range : SlotRange) →
     AreTiers low next ranges → low ≤ range.first → next ≤ range.first → range.first ≤ range.last → range.last < end → 2 ≤ slot_width range → AreTiers low end (slots_after_add ranges range)
@@ -63,15 +64,15 @@ AddingKeepsTiers = (low next end : ℕ) (ranges : List SlotRange) (range : SlotR
 abbrev pub MergingKeepsTiers : Type 0
 MergingKeepsTiers = (low end : ℕ) (ranges : List SlotRange) (files : List File) → AreTiers low end ranges → AreTiers low end (slots_after_merge ranges files)
 
--- an opened image has them
+-- the slots of an opened image are tiers
 abbrev pub OpeningMakesTiers : Type 0
 OpeningMakesTiers = (c : Collection) → IsSound c → AreTiers c.first c.next (slots_after_open c.files)
 
--- there are at most 28 of them: the widths are more than 2, 8, 32 and so on, from the last slot to the first
+-- there are at most 28 of them: from the last slot to the first, the widths are at least 2 and more than 8, 32 and so on
 abbrev pub TiersAreFew : Type 0
 TiersAreFew = (low end : ℕ) (ranges : List SlotRange) → end ≤ address_end → AreTiers low end ranges → length ranges ≤ most_tiers
 
--- the slots after an add are the old ones and the file's, of which so many at the end are one as `tail_count` says
+-- the slots after an add are the old ones and the file's, of which the last `tail_count` are joined into one
 abbrev pub TailsAreJoined : Type 0
 TailsAreJoined = (ranges all : List SlotRange) (range : SlotRange) → all ≡ ranges ++ range ∷ [] →
     slots_after_add ranges range ≡ take (length all - tail_count all) all ++ ranges_spanned (drop (length all - tail_count all) all)

@@ -5,7 +5,7 @@ use Rattle.std.specs.Prelude.{ℕ, ◌^◌}
 abbrev pub address_end : ℕ
 address_end = 2 ^ 56
 
--- positions that are asked of an expression are below this; each address has room to go on from it
+-- positions at which an expression is asked are below this, which leaves room to go on from each address
 abbrev pub far : ℕ
 far = 2 ^ 62
 
@@ -17,11 +17,11 @@ version_end = 2 ^ 63
 abbrev pub merge_end : ℕ
 merge_end = 2 ^ 62
 
--- how many slots a version has at most, also while the last ones are not made one yet
+-- how many slots a version has at most, also before the last ones are joined
 abbrev pub most_slots : ℕ
 most_slots = 32
 
--- how many slots are left at most once the last ones are made one
+-- how many slots are left at most once the last ones are joined
 abbrev pub most_tiers : ℕ
 most_tiers = 28
 

@@ -19,22 +19,22 @@ slot_width range = range.last - range.first + 1
 abbrev pub joined : SlotRange → SlotRange → SlotRange
 joined a b = slot_range a.first b.last
 
--- The last slot with those before it, the nearest of them first: as long as four times its width is at least the width of the one
--- before it, the two become one
+-- the last slot and those before it, the nearest first: while four times its width is at least the width of the one before it, the two
+-- become one
 abbrev pub settled : SlotRange → List SlotRange → List SlotRange
 settled last [] = last ∷ []
 settled last (before ∷ earlier) = if nat_le (slot_width before) (4 * slot_width last) then settled (joined before last) earlier else last ∷ before ∷ earlier
 
--- after a file was added at these addresses: a slot of its own, and then the last slots become one as far as the rule goes
+-- after a file was added at these addresses: it gets a slot of its own, and then the rule above joins the last slots
 abbrev pub slots_after_add : List SlotRange → SlotRange → List SlotRange
 slots_after_add ranges range = reverse (settled range (reverse ranges))
 
--- how many slots the rule makes one, the last one counted: 1 where it makes none
+-- how many slots the rule joins, the last one included: 1 if it joins none
 abbrev pub joined_count : SlotRange → List SlotRange → ℕ
 joined_count last [] = 1
 joined_count last (before ∷ earlier) = if nat_le (slot_width before) (4 * slot_width last) then joined_count (joined before last) earlier + 1 else 1
 
--- how many slots at the end of a list the rule makes one: of the widths 20, 2 and 2 two, and 0 where there is no slot
+-- how many slots at the end of a list the rule joins: of the widths 20, 2 and 2 two, and 0 if there is no slot
 abbrev pub tail_count : List SlotRange → ℕ
 tail_count ranges = tail_of (reverse ranges)
   where
@@ -47,7 +47,7 @@ abbrev pub spanned : SlotRange → List SlotRange → SlotRange
 spanned a [] = a
 spanned a (b ∷ ranges) = spanned (joined a b) ranges
 
--- after all slots were merged: one slot, or none where no file survives
+-- after all slots were merged: one slot, or none if no file survives
 abbrev pub slots_after_merge : List SlotRange → List File → List SlotRange
 slots_after_merge [] files = []
 slots_after_merge (a ∷ ranges) [] = []
@@ -57,7 +57,7 @@ slots_after_merge (a ∷ ranges) (file ∷ files) = spanned a ranges ∷ []
 abbrev pub file_range : File → SlotRange
 file_range file = slot_range file.base (file.base + width_of file.tokens - 1)
 
--- from the first range to the last as one range, and none where there is none
+-- the first range to the last as one range, and none if there is none
 abbrev pub ranges_spanned : List SlotRange → List SlotRange
 ranges_spanned [] = []
 ranges_spanned (a ∷ ranges) = spanned a ranges ∷ []
@@ -66,7 +66,7 @@ ranges_spanned (a ∷ ranges) = spanned a ranges ∷ []
 abbrev pub slots_after_open : List File → List SlotRange
 slots_after_open files = ranges_spanned (map file_range files)
 
--- the ranges rise from low on without a common address, and end before end
+-- the ranges rise, start at or after low, end before end, and share no address
 abbrev pub AreRangesWithin : ℕ → ℕ → List SlotRange → Type 0
 AreRangesWithin low end [] = Unit {0}
 AreRangesWithin low end (range ∷ ranges) = (low ≤ range.first) × (range.first ≤ range.last) × (range.last < end) × AreRangesWithin (range.last + 1) end ranges

@@ -1,4 +1,4 @@
--- What an expression denotes where a term may stand for all words that begin alike: the meaning of `Meaning`, with one case more.
+-- What an expression denotes if a term may stand for all words with one prefix: the meaning of `Meaning`, with one more case.
 use Rattle.std.specs.Prelude.{ℕ, ◌-◌, Bool, ◌&&◌, ◌==◌, List, [], ◌∷◌, length, take, bytes_eq, if◌then◌else◌}
 use Rattle.std.specs.Io.BufRead.{ends_with_byte}
 use Rattle.std.specs.List.{list_any}

@@ -10,8 +10,8 @@ use crate::steps::{Ledger, Steps};
 use std::convert::Infallible;
 use std::marker::PhantomData;
 
-/// Leaves of which only the caller has the counter. Code that goes over this trait can make no counter of its own, so each of its
-/// look-ups is counted on the one that it was lent: an evaluator is written over it, and its public calls go through `LentLeaves`.
+/// Leaves whose counter only the caller has. Code generic over this trait cannot make a counter of its own, so each of its look-ups is
+/// counted on the one that it was lent. An evaluator is written over this trait, and its public calls go through `LentLeaves`.
 pub trait CountedLeaves {
     ghost use Rattle.std.specs.Prelude.{ℕ};
     ghost use Rattle.gcl_model.specs.Texts.{Text, IsText};
@@ -19,7 +19,7 @@ pub trait CountedLeaves {
     /// What look-ups are counted on.
     type Counter;
 
-    /// Why a look-up is refused: `Infallible` where none is.
+    /// Why a look-up is refused: `Infallible` if none is.
     type Stop;
 
     /// The addresses and the words at them, in rising address.
@@ -31,10 +31,10 @@ pub trait CountedLeaves {
     /// How many look-ups were counted.
     ghost count: { Self.Counter → ℕ };
 
-    /// No look-up is made that would count more than this number, if no more are counted yet.
+    /// No call takes the count above this number, if it is not above it before the call.
     ghost Caps: { Self → ℕ → Type 0 };
 
-    /// The least address from `k` on that holds the term.
+    /// The least address at or after `k` that holds the term.
     fn next(
         &self,
         term: &[u8],
@@ -60,16 +60,16 @@ pub trait CountedLeaves {
         ensures cost { count counter.new ≤ count counter.old + most self.now }
         ensures capped { (cap : ℕ) → Caps self.now cap → count counter.old ≤ cap → count counter.new ≤ cap };
 
-    /// An address from `k` on before which `second` nowhere stands right after `first`, and whether it does there, as far as it is known
-    /// without a look-up.
+    /// An address at or after `k` such that no pair, `first` with `second` right after it, starts from `k` up to before that address, and
+    /// whether a pair is known to start at it. No look-up is made.
     fn earliest_pair(&self, first: &[u8], second: &[u8], k: u64) -> Pair
         ensures from { k ≤ result.at }
         ensures none { any_pair (text self.now).words first.now second.now k result.at ≡ false }
         ensures found { IsTrue result.found → (holds (text self.now).words first.now result.at ≡ true) ×
             (holds (text self.now).words second.now (result.at + 1) ≡ true) };
 
-    /// The first interval from a `first` to the next `second`, with neither between, that starts at or after `k`, where it is at hand: its
-    /// three look-ups are counted then, and none where it is not.
+    /// The first interval from a `first` to the next `second`, with neither between, that starts at or after `k`, if it is available: its
+    /// three look-ups are counted then, and none otherwise.
     fn element_from(
         &self,
         first: &[u8],
@@ -83,8 +83,8 @@ pub trait CountedLeaves {
         ensures none { IfOk result (λ found. IsNone found → count counter.new ≡ count counter.old) }
         ensures capped { (cap : ℕ) → Caps self.now cap → count counter.old ≤ cap → count counter.new ≤ cap };
 
-    /// The first such interval that ends at or after `k`, where it is at hand, and where the `first` before the next `second` from `k` on
-    /// leads to it. It is counted alike.
+    /// The first such interval that ends at or after `k`, if it is available and the last `first` before the next `second` at or after `k`
+    /// leads to it. It is counted in the same way.
     fn element_up_to(
         &self,
         first: &[u8],
@@ -98,7 +98,7 @@ pub trait CountedLeaves {
         ensures none { IfOk result (λ found. IsNone found → count counter.new ≡ count counter.old) }
         ensures capped { (cap : ℕ) → Caps self.now cap → count counter.old ≤ cap → count counter.new ≤ cap };
 
-    /// The addresses, and what holds of the words.
+    /// The addresses. The contract also states what holds of the words.
     fn span(&self) -> Span
         ensures first { result.first ≡ (text self.now).first }
         ensures next { result.next ≡ (text self.now).next }

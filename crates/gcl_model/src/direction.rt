@@ -1,8 +1,8 @@
-/// A way along rising addresses, or the side of an address to which something is looked for.
+/// A direction along the addresses, or the side of an address on which something is looked for.
 #[derive(Clone, Copy, Debug, PartialEq, Eq)]
 pub enum Direction {
-    /// From lower addresses to higher ones. What is looked for stands at the address or after it.
+    /// From lower addresses to higher ones. What is looked for is at the address or after it.
     Forward,
-    /// From higher addresses to lower ones. What is looked for stands at the address or before it.
+    /// From higher addresses to lower ones. What is looked for is at the address or before it.
     Backward,
 }

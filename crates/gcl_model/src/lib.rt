@@ -6,9 +6,9 @@
 //! tree, the three lists as lists, and `Steps` as one number.
 //!
 //! The layers above use the definitions, the laws (`concordances_rise`, `chains_group`), and `Leaves`: words at
-//! addresses that are looked up one at a time. Over `1 to, 2 be, 5 to` the next `to` from 2 on stands at 5. An
-//! evaluator goes over `CountedLeaves`, where it can make no counter of its own, and where a look-up may be refused, as
-//! `LimitedLeaves` do once a limit is reached; whoever has no counter asks a `Question`.
+//! addresses that are looked up one at a time. In `1 to, 2 be, 5 to` the next `to` at or after 2 is at 5. An
+//! evaluator is written over `CountedLeaves`, where it cannot make a counter of its own, and where a look-up may be
+//! refused, as `LimitedLeaves` do once a limit is reached. A caller without a counter asks a `Question`.
 #![tactic(auto)]
 
 mod blanks;

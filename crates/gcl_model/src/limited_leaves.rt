@@ -1,4 +1,4 @@
-ghost use Rattle.std.specs.Prelude.{◌≡◌, ℕ, ◌+◌, ◌*◌, ◌<◌, ◌≤◌, IfOk, OnErr};
+ghost use Rattle.std.specs.Prelude.{◌≡◌, ◌+◌, ◌*◌, ◌<◌, ◌≤◌, IfOk, OnErr};
 ghost use Rattle.gcl_model.specs.Texts.{IsText};
 
 use crate::counted_leaves::CountedLeaves;
@@ -14,7 +14,7 @@ use std::sync::ledger::Ledger;
 #[derive(Clone, Copy)]
 pub struct Spent;
 
-/// Leaves that refuse a look-up once the caller's counter has reached a limit. The last one may go beyond it, as that of an element does.
+/// Leaves that refuse a look-up once the caller's counter has reached a limit. The last one may exceed it, as that of an element does.
 #[derive(Drop)]
 pub struct LimitedLeaves<'a, L: Leaves, B> {
     leaves: &'a L,
@@ -46,7 +46,7 @@ impl<L: Leaves, B: Ledger> LimitedLeaves<'_, L, B> {
         if steps.count() < self.limit {
             return Ok(());
         }
-        // the span tells that the words rise
+        // the contract of `span` gives that the words rise
         let _span = self.leaves.span();
         Err(Spent)
     }

@@ -1,5 +1,4 @@
-/// What is known, without a look-up, of where a word next stands right after another: before `at` it does not, and where `found`, it does
-/// there.
+/// What is known, without a look-up, about where a word next occurs right after another: nowhere before `at`, and at `at` if `found`.
 #[derive(Clone, Copy, Debug, PartialEq, Eq)]
 pub struct Pair {
     pub at: u64,

@@ -5,8 +5,8 @@ use std::marker::Brand;
 use std::sync::ledger;
 use std::sync::ledger::Blank;
 
-/// Something that is asked with a counter of look-ups, whatever its ledger. Whoever has no counter asks by `uncounted`, and who wants
-/// to know how many look-ups there were by `counted`.
+/// Something that is asked with a counter of look-ups, whatever its ledger. A caller without a counter asks by `uncounted`, or by
+/// `counted` to learn how many look-ups there were.
 pub trait Question {
     ghost use Rattle.std.specs.Prelude.{ℕ};
 
@@ -46,7 +46,7 @@ fn ask_uncounted<B: ledger::Ledger, Q: Question>(question: &Q, blank: Blank) -> 
     question.ask(&mut steps)
 }
 
-/// Asks, and gives the number of look-ups beside the answer.
+/// Asks, and returns the answer and the number of look-ups.
 pub fn counted<Q: Question>(question: &Q) -> (Q::Answer, u64)
     requires asked { Q.can_ask question.now }
     ensures answer { Q.answers question.now result.0 }

@@ -14,7 +14,7 @@ use Rattle.gcl_model.proofs.Covers.{covers_by_first_start, ends_by}
 use Rattle.gcl_model.proofs.Meanings.{covers_seq, concordance_rises, in_order_within}
 use Rattle.gcl_model.proofs.Reach.{AreRising, Reaches, at_most, at_least, list_reaches, first_start_by, last_end_by, operands_of, operands_rise}
 
--- the end that is found from p on, each operand after the end of the one before
+-- the end that is found going on from p, each operand after the end of the one before
 abbrev pub seq_end : List (List Extent) → ℕ → Option ℕ
 seq_end [] p = Some (p - 1)
 seq_end (list ∷ lists) p = option_and_then (λ a. seq_end lists (a.end + 1)) (first_start list p)
@@ -30,7 +30,7 @@ abbrev pub seq_start : List (List Extent) → ℕ → Option ℕ
 seq_start [] k = Some (k + 1)
 seq_start (list ∷ lists) k = start_before list (seq_start lists k)
 
--- some member lies from p on and ends before u
+-- some member starts at or after p and ends before u
 abbrev covers_before : List Extent → ℕ → Option ℕ → Bool
 covers_before list p None = false
 covers_before list p (Some zero) = false
@@ -69,7 +69,7 @@ in_order_backward (list ∷ lists) r p w =
     seq_step (λ q. in_order_within lists q w) (seq_start lists w) (λ q. in_order_backward lists r.1 q w) list p
     ∙ back_cases list r.0 p (seq_start lists w)
 
--- the first member from p on is as good as any
+-- the first member that starts at or after p is as good as any
 on_cases : (lists : List (List Extent)) (w : ℕ) (o : Option ℕ) → ((p : ℕ) → in_order_within lists p w ≡ at_least o p) → (list : List Extent) → IsRising list → (p : ℕ) →
     (f : Option Extent) → first_start list p ≡ f → covers_before list p o ≡ goes_on lists f w
 on_cases lists w None is list r p None fs = refl

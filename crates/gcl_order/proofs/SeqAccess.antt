@@ -13,7 +13,7 @@ use Rattle.gcl_model.proofs.Reach.{AreRising, operands_rise}
 use Rattle.gcl_order.proofs.InOrder.{seq_end, start_before, seq_start, first_start-seq, last_end-seq}
 use Rattle.gcl_order.specs.Walks.{address_before, joined, last_before, walk_forward, walk_backward, forward_and_back, back_and_forward}
 
--- a member is the first from its start on, and the last up to its end
+-- a member is the first that starts at or after its start, and the last that ends up to its end
 pub within_member : (list : List Extent) → IsRising list → (a : Extent) → Has list a → (u v : ℕ) → a.start ≤ u → v ≤ a.end → covers list (extent u v) ≡ true → (u ≤ a.start) × (a.end ≤ v)
 within_member list r a m u v le ge e =
     let c = covered_tells list (extent u v) e in

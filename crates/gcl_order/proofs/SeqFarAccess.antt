@@ -18,7 +18,7 @@ use Rattle.gcl_order.proofs.InOrder.{seq_end, seq_start, seq_node, first_start-s
 use Rattle.gcl_order.proofs.SeqAccess.{within_member, first_start-member, last_end-member, walk_on, forward_member, backward_member, some_forms, rise_at, rise_first, start_back, end_on, seq_forward, seq_backward}
 use Rattle.gcl_order.specs.Walks.{address_before, joined, walk_forward, walk_backward, first_past, last_short_of, forward_again, back_again, from_last, from_first}
 
--- where a search finds nothing, no member passes
+-- if a search finds nothing, no member passes
 none_passes : (test : Extent → Bool) (list : List Extent) → find test list ≡ None → (d : Extent) → Has list d → test d ≡ true → ⊥
 none_passes test [] is d m t = absurd m
 none_passes test (x ∷ xs) is d (inl e) t = let here : test x ≡ true = subst (λ y. test y ≡ true) (sym e) t in let h = rw here at is in absurd cc
@@ -47,7 +47,7 @@ first_ends_least test (x ∷ xs) r a is d (inr m) t =
       | inr f ↦ first_ends_least test xs r.1 a (rw f at is) d m t
     ]
 
--- where a search for the last finds nothing, each member fails
+-- if a search for the last finds nothing, each member fails
 last_none : (test : Extent → Bool) (list : List Extent) → find_last test list ≡ None → AllByRecursion (λ a. test a ≡ false) list
 last_none test [] is = tt
 last_none test (x ∷ xs) is = parts (find_last test xs) refl (cases_Bool (test x)) (last_none test xs)
@@ -80,7 +80,7 @@ last_starts_greatest : (test : Extent → Bool) (list : List Extent) → IsRisin
 last_starts_greatest test [] r a is d m t = absurd m
 last_starts_greatest test (x ∷ xs) r a is d m t = greatest_step test x xs r.0 (last_starts_greatest test xs r.1) (find_last test xs) refl a is d m t
 
--- where all members start by k and end before the next address, the last that starts by k is the last of all
+-- if all members start by k and end before the next address, the last that starts by k is the last of all
 pub last_start_all : (list : List Extent) (next k : ℕ) → ((c : Extent) → Has list c → (c.start ≤ k) × (c.end < next)) → last_start list k ≡ option_and_then (last_end list) (address_before next)
 last_start_all [] zero k all = refl
 last_start_all (x ∷ xs) zero k all = let h = (all x (inl refl)).1 in absurd (omega arith)
@@ -108,11 +108,11 @@ module _ (text : Text) (forms : Forms) (first last : List Extent) (rest front : 
   on_from : (h : Extent) → Has first h → (o : Option Extent) → walk_forward rest h ≡ o → (w : ℕ) → covers (concordance text (seq forms)) (extent h.start w) ≡ at_most (end_of o) w
   on_from h m o is w = node_reaches.forward_is h.start w ∙ ap (λ v. at_most v w) (end_on text forms first last rest front as_first as_last h m ∙ ap end_of is)
 
-  -- where no way leads back from a tail, no member ends by its end
+  -- if no way leads back from a tail, no member ends by its end
   none_ends_by : (t : Extent) → Has last t → walk_backward front t ≡ None → (c : Extent) → Has (concordance text (seq forms)) c → c.end ≤ t.end → ⊥
   none_ends_by t m is c n le = true≢false (sym (covered_from (concordance text (seq forms)) c (extent c.start t.end) n (le_refl c.start, le)) ∙ back_from t m None is c.start)
 
-  -- and where one does, each member that ends by the tail's end starts by the head's start
+  -- and if one does, each member that ends by the tail's end starts by the head's start
   starts_by_head : (t : Extent) → Has last t → (h : Extent) → walk_backward front t ≡ Some h → (c : Extent) → Has (concordance text (seq forms)) c → c.end ≤ t.end → c.start ≤ h.start
   starts_by_head t m h is c n le = leb-true c.start h.start (sym (back_from t m (Some h) is c.start) ∙ covered_from (concordance text (seq forms)) c (extent c.start t.end) n (le_refl c.start, le))
 
@@ -163,7 +163,7 @@ module _ (text : Text) (forms : Forms) (first last : List Extent) (rest front : 
       head_from c (last_end last c.end) (option_and_then (walk_backward front) (last_end last c.end)) refl refl
       (sym (seq_backward text forms first last rest front as_first as_last c.end) ∙ last_end-member (concordance text (seq forms)) (concordance_rises text (seq forms)) c n)
 
-  -- forward: where the last list has no member that ends at k or later, there is none
+  -- forward: if the last list has no member that ends at k or later, there is none
   forward_none : (k : ℕ) → first_end last k ≡ None → (o : Option Extent) → first_end (concordance text (seq forms)) k ≡ o → first_end (concordance text (seq forms)) k ≡ None
   forward_none k none None is = is
   forward_none k none (Some c) is =
@@ -194,7 +194,7 @@ module _ (text : Text) (forms : Forms) (first last : List Extent) (rest front : 
       at_first : Has first h
       at_first = backward_member front first rest last l h (sym as_first ∙ as_last) at_last back
 
-      -- where the way forward ends before k, the members that end at k or later are those that start past the head
+      -- if the way forward ends before k, the members that end at k or later are those that start past the head
       forward_past : (t : Extent) → walk_forward rest h ≡ Some t → t.end < k → first_end (concordance text (seq forms)) k ≡ first_start (concordance text (seq forms)) (h.start + 1)
       forward_past t on before =
           find_agree_on (λ a. leb k a.end) (λ a. leb (h.start + 1) a.start) (concordance text (seq forms)) (λ c n.
@@ -212,7 +212,7 @@ module _ (text : Text) (forms : Forms) (first last : List Extent) (rest front : 
             | inr ge ↦ le-leb k c.end ge
           ]))
 
-      -- where it ends at k or later, it ends where the way began
+      -- if it ends at k or later, it ends where the way began
       same_end : (t : Extent) → walk_forward rest h ≡ Some t → k ≤ t.end → t.end ≡ l.end
       same_end t on far =
           let tail : Has last t = forward_member front first rest last h t (sym as_first ∙ as_last) at_first on in
@@ -268,7 +268,7 @@ module _ (text : Text) (forms : Forms) (first last : List Extent) (rest front : 
   pub seq_from_last : (k : ℕ) → first_end (concordance text (seq forms)) k ≡ from_last (concordance text (seq forms)) last rest front text.first k
   seq_from_last k = forward_far k (first_end last k) refl
 
-  -- backward: where the first list has no member that starts at k or before, there is none
+  -- backward: if the first list has no member that starts at k or before, there is none
   backward_none : (k : ℕ) → last_start first k ≡ None → (o : Option Extent) → last_start (concordance text (seq forms)) k ≡ o → last_start (concordance text (seq forms)) k ≡ None
   backward_none k none None is = is
   backward_none k none (Some c) is =
@@ -299,7 +299,7 @@ module _ (text : Text) (forms : Forms) (first last : List Extent) (rest front : 
       tail_there : Has last t
       tail_there = forward_member front first rest last l t (sym as_first ∙ as_last) head_here on
 
-      -- where the way back starts after k, the members that start at k or before are those that end before the tail does
+      -- if the way back starts after k, the members that start at k or before are those that end before the tail does
       backward_short : (h : Extent) → walk_backward front t ≡ Some h → k < h.start → (n : ℕ) → t.end ≡ n → last_start (concordance text (seq forms)) k ≡ option_and_then (last_end (concordance text (seq forms))) (address_before n)
       backward_short h back after zero end =
           let d = covered_tells (concordance text (seq forms)) (extent h.start t.end) (back_covers t tail_there h back) in
@@ -330,7 +330,7 @@ module _ (text : Text) (forms : Forms) (first last : List Extent) (rest front : 
           let least : l.start ≤ h.start = leb-true l.start h.start (sym (back_from t tail_there (Some h) back l.start) ∙ on_covers l head_here t on) in
           omega arith
 
-      -- where it starts at k or before, they are those that end at the tail's end or before
+      -- if it starts at k or before, they are those that end at the tail's end or before
       backward_starts : (h : Extent) → walk_backward front t ≡ Some h → h.start ≤ k → last_start (concordance text (seq forms)) k ≡ last_end (concordance text (seq forms)) t.end
       backward_starts h back near =
           find_last_agree_on (λ a. leb a.start k) (λ a. leb a.end t.end) (concordance text (seq forms)) (λ c n.

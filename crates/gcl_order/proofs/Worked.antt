@@ -22,14 +22,14 @@ before_first = refl
 last_be-before_the_second_to : last_before be (extent 5 5) ≡ Some (extent 2 2)
 last_be-before_the_second_to = refl
 
--- on from the first "be", and back from the last
+-- forward from the first "be", and back from the last
 be_to_be-walk : walk_forward (to ∷ be ∷ []) (extent 2 2) ≡ Some (extent 6 6)
 be_to_be-walk = refl
 
 to_be_be-walk_back : walk_backward (to ∷ be ∷ []) (extent 6 6) ≡ Some (extent 1 1)
 to_be_be-walk_back = refl
 
--- "to" followed by "be": from 0 on (1, 2), from 2 on (5, 6)
+-- "to" followed by "be": (1, 2) at 0, (5, 6) at 2
 to_be-from_0 : forward_and_back to (be ∷ []) (to ∷ []) 0 ≡ Some (extent 1 2)
 to_be-from_0 = refl
 

@@ -7,15 +7,15 @@ use Rattle.gcl_model.specs.Meaning.{concordance, operands}
 use Rattle.gcl_model.specs.Access.{first_start, first_end, last_end, last_start}
 use Rattle.gcl_order.specs.Walks.{forward_and_back, back_and_forward, from_last, from_first}
 
--- the first member from k on is found by a walk forward over the operands and one back without the last:
--- of "to" and "be" at 1 to 6 it is (1, 2) from 0 on
+-- the first member that starts at or after k is found by a walk forward over the operands and one back without the last:
+-- of "to" and "be" at 1 to 6 it is (1, 2) at 0
 abbrev pub SeqGoesForward : Type 0
 SeqGoesForward = (text : Text) (forms : Forms) (first last : List Extent) (rest front : List (List Extent)) →
     operands text forms ≡ first ∷ rest → operands text forms ≡ front ++ last ∷ [] → (k : ℕ) →
     first_start (concordance text (seq forms)) k ≡ forward_and_back first rest front k
 
--- the last member up to k is found by a walk back over the operands and one forward without the first:
--- of "be" and "to" at 1 to 6 it is (2, 5) up to 6
+-- the last member that ends up to k is found by a walk back over the operands and one forward without the first:
+-- of "be" and "to" at 1 to 6 it is (2, 5) at 6
 abbrev pub SeqGoesBackward : Type 0
 SeqGoesBackward = (text : Text) (forms : Forms) (first last : List Extent) (rest front : List (List Extent)) →
     operands text forms ≡ first ∷ rest → operands text forms ≡ front ++ last ∷ [] → (k : ℕ) →

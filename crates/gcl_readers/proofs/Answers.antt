@@ -8,7 +8,7 @@ use Rattle.gcl_readers.specs.Fronts.{start_or_end}
 use Rattle.gcl_readers.specs.Agreement.{AnswersFrom, AnswersByEnds, AllAnswerFrom, AllAnswerOrEnd, AllAnswerInOrder}
 use Rattle.gcl_readers.proofs.Members.{agrees, agrees_by_ends}
 
--- from a later address on
+-- at or after a later address
 pub answers_later : (list : List Extent) (x k l : ℕ) → k ≤ l → AnswersFrom list x k → AnswersFrom list x l
 answers_later list x k l le answers = λ j from. answers j (omega arith)
 
@@ -41,6 +41,6 @@ moved_answers_by_ends list r x y k answers None is le = λ j from. agrees_by_end
 moved_answers_by_ends list r x y k answers (Some a) is le = λ j from.
     agrees_by_ends list y j (λ c m far. let on = ((found_first (λ d. d.end) list r k a (sym (answers k (le_refl k)) ∙ is)).first c m (omega arith)).0 in omega arith)
 
--- from behind a member on, a reader that went no further than to that member
+-- at or after an address, a reader that went no further than to that address
 pub answers_behind : (list : List Extent) (y : ℕ) (k : ℕ) → y ≤ k → AnswersFrom list y k
 answers_behind list y k le = λ j from. agrees list y j (λ c m far. omega arith)

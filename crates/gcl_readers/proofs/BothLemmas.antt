@@ -115,7 +115,7 @@ starts_agree (list ∷ lists) r [] w all s = absurd all
 starts_agree (list ∷ lists) r (y ∷ ys) w all s =
     start_step (start_so_far (all_left lists ys) w) (start_so_far lists w) (starts_agree lists r.1 ys w all.1) s (last_end (members_from list y) w) (last_end list w) (last_reached list r.0 y w all.0 (last_end list w) refl)
 
--- where there is an end that all reach there is a start
+-- if there is an end that all reach, there is a start
 record IsThere (lists : List (List Extent)) (w t : ℕ) : Type 0 where
   start : ℕ
   is : start_so_far lists w t ≡ Some start

@@ -31,7 +31,7 @@ use Rattle.gcl_readers.proofs.Members.{agrees, agrees_by_ends}
 use Rattle.gcl_readers.proofs.Answers.{answers_later, answers_by_ends_later, moved_answers, moved_answers_by_ends, answers_behind}
 use Rattle.gcl_readers.proofs.Standings.{take_front, drop_front, size_take, nodes_some}
 
--- asked from a member of the first operand on, the second one's reader answers as the whole list does
+-- asked at or after a member of the first operand, the second one's reader answers as the whole list does
 abbrev pub SecondAnswers : Containment → List Extent → (x : ℕ) → Extent → Type 0
 SecondAnswers Containing others x a = AnswersFrom others x a.start
 SecondAnswers ContainedIn others x a = AnswersByEnds others x a.end
@@ -71,7 +71,7 @@ right ContainedIn = contained_in_is_right
 right NotContaining = not_containing_is_right
 right NotContainedIn = not_contained_in_is_right
 
--- what the first operand's reader gives from behind a member on is what the whole list gives
+-- what the first operand's reader gives after a member is what the whole list gives
 go_by : (containment : Containment) (members : List Extent) → IsRising members → (x next : ℕ) (a : Extent) → Has members a → x ≤ a.start → (loop_of Forward containment).place a < next →
     first_from (loop_of Forward containment) (members_from members x) next ≡ first_from (loop_of Forward containment) members next
 go_by Containing members r x next a m le lt = agrees_by_ends members x next (λ c n far. let on = (from_by_place (λ d. d.end) end_is_place members r a c m n (omega arith)).0 in omega arith)

@@ -117,7 +117,7 @@ none_left text (Between a None) = refl
 none_left text (Between a (Some next)) = refl
 none_left text End = refl
 
--- what is left at a front takes in what stands from any later address on
+-- what is left at a front includes what is at or after any later address
 left_most : (text : Text) (tokens : List (List ℕ)) (front : Front) (k : ℕ) → IsUnknown front k → fewest_between text.words tokens k text.next ≤ places_left text tokens front
 left_most text tokens Before k un = fewest_between_most text.words tokens k text.next
 left_most text tokens (On a) k un = fewest_between_wider text.words tokens k text.next (a.start + 1) text.next (omega arith) (le_refl text.next)

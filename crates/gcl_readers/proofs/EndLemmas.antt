@@ -28,7 +28,7 @@ first_found list r k a is =
 none_left : (list : List Extent) (x : ℕ) → first_start (members_from list x) 0 ≡ None → (d : Extent) → Has (members_from list x) d → ⊥
 none_left list x is d m = let lt : d.start < 0 = none_from (λ c. c.start) (members_from list x) 0 is d m in omega arith
 
--- two answers by ends are the same where each passes the other's test
+-- two answers by ends are the same if each passes the other's test
 same_end : (l m : List Extent) → IsRising l → IsRising m → (k : ℕ) → ((d : Extent) → Has m d → k ≤ d.end → Has l d) → ((d : Extent) → Has l d → Has m d) → first_end l k ≡ first_end m k
 same_end l m r s k to fro = cases (first_end m k) refl
   where

@@ -1,4 +1,4 @@
--- What a clause says of a result where a `?` or a `return` ends a function with None.
+-- What a clause says of a result if a `?` or a `return` ends a function with None.
 use Rattle.std.proofs.Common.{◌≡◌, List, Option, Some, None, sym, subst}
 use Rattle.std.specs.Option.{IfSome}
 use Rattle.gcl_model.specs.Extents.{Extent}
@@ -17,7 +17,7 @@ pub none_if : {X : Type 0} (P : X → Type 0) (o : Option X) → o ≡ None → 
 none_if P None none = tt
 none_if P (Some x) none = absurd (cc none)
 
--- where "both of" has no answer, the readers of its operands owe nothing
+-- if "both of" has no answer, the readers of its operands owe nothing
 pub both_asks_none : (text : Text) (forms : Forms) (places : List Place) (o : Option Extent) → o ≡ None → Tell text (both forms) (front_at o) places
 both_asks_none text forms places None none = tt
 both_asks_none text forms places (Some x) none = absurd (cc none)

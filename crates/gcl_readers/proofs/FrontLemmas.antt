@@ -1,4 +1,4 @@
--- What a front tells of its list.
+-- What a front says about its list.
 use Rattle.std.proofs.Common.{◌≡◌, ℕ, ◌+◌, ◌<◌, ◌≤◌, List, Option, Some, None, IfSome, refl, sym, ◌∙◌, subst, arith, le_refl, ◌⊎◌, inl, inr}
 use Rattle.std.proofs.lemmas.Bool.{cases_lt}
 use Rattle.gcl_model.specs.Extents.{Extent, IsRising}

@@ -1,4 +1,4 @@
--- What the members from an address on answer, and what they have to do with the whole list.
+-- What the members at or after an address answer, and how they relate to the whole list.
 use Rattle.std.proofs.Common.{◌≡◌, ℕ, ◌<◌, ◌≤◌, Bool, true, false, cond, ◌&&◌, leb, List, [], ◌∷◌, filter, find, Option, Some, None, refl, sym, ap, ◌∙◌, arith, le_refl, inl, inr}
 use Rattle.std.proofs.lemmas.Bool.{leb-true, le-leb, cases_Bool, cases_lt}
 use Rattle.gcl_model.specs.Extents.{Extent, IsAhead, IsRising}
@@ -89,7 +89,7 @@ find-filter p q (a ∷ list) = here (q a) (find-filter p q list)
     here true rest = ap (λ o. cond (p a) (Some a) o) rest
     here false rest = rest
 
--- where all members that are asked for are left, what is left answers as the whole list does
+-- if all members that are asked for are left, what is left answers as the whole list does
 pub agrees : (list : List Extent) (x k : ℕ) → ((c : Extent) → Has list c → k ≤ c.start → x ≤ c.start) → first_start (members_from list x) k ≡ first_start list k
 agrees list x k left =
     find-filter (λ a. leb k a.start) (λ a. leb x a.start) list
@@ -123,7 +123,7 @@ agrees_below list x k le =
     both true c h = h refl
     both false c h = refl
 
--- the first member from an address on is the first from each address up to it, too
+-- the first member at or after an address is the first at or after each address up to it, too
 pub first_up_to : (list : List Extent) → IsRising list → (k j : ℕ) (a : Extent) → first_start list k ≡ Some a → k ≤ j → j ≤ a.start → first_start list j ≡ Some a
 first_up_to list r k j a is le far =
     let f = found_first (λ c. c.start) list r k a is in
@@ -153,7 +153,7 @@ last_of_left list r x k a is =
     let h = from_has list x a f.member in
     last_end_is list r k a h.0 f.near (λ d m on. elim (cases_lt d.start a.start) [ inl lt ↦ (let p = (from_by_place (λ c. c.start) start_is_place list r d a m h.0 (omega arith)).1 in p) | inr ge ↦ (f.last d (has_from list x d m (let at = h.1 in omega arith)) on).1 ])
 
--- a member is the first from its start on
+-- a member is the first at or after its start
 pub first_itself : (list : List Extent) → IsRising list → (a : Extent) → Has list a → first_start list a.start ≡ Some a
 first_itself list r a m = first_start_is list r a.start a m (le_refl a.start) (λ d n on. on)
 

@@ -22,7 +22,7 @@ use Rattle.gcl_readers.specs.Agreement.{AllAnswerInOrder}
 use Rattle.gcl_readers.proofs.Members.{has_from, from_has, rises_from}
 use Rattle.gcl_readers.proofs.Answers.{answers_behind, in_order_later}
 
--- what an access by an end and a start tells of both
+-- what an access by an end and a start says about both
 record IsBy (forward backward : ℕ → Option ℕ) (k : ℕ) (t : Extent) : Type 0 where
   end_is : forward k ≡ Some t.end
   start_is : backward t.end ≡ Some t.start
@@ -107,7 +107,7 @@ module _ (text : Text) (form : Form) (forms : Forms) (k : ℕ) where
 pub back_finds : (list : List Extent) (y k : ℕ) (a : Extent) → Has list a → y ≤ a.start → a.end ≤ k → None ≡ last_end (members_from list y) k → ⊥
 back_finds list y k a m le near e = let lt : k < a.end = none_upto (λ c. c.end) (members_from list y) k (sym e) a (has_from list y a m le) in omega arith
 
--- from behind the node's member on, each operand is asked behind where its reader stands
+-- after the start of the node's member, each operand is asked after where its reader stands
 pub in_order_alone : (list : List Extent) (y s : ℕ) → y ≤ s → AllAnswerInOrder (list ∷ []) (y ∷ []) (s + 1)
 in_order_alone list y s le = (answers_behind list y (s + 1) (omega arith), λ j from. any (first_start list j))
   where

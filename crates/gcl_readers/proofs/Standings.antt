@@ -79,7 +79,7 @@ before_same old (Between a None) e is = absurd (let h : End ≡ Before = e ∙ a
 before_same old (Between a (Some next)) e is = absurd (let h : On next ≡ Before = e ∙ ap asked_of is in cc)
 before_same old End e is = absurd (let h : End ≡ Before = e ∙ ap asked_of is in cc)
 
--- what the operands tell does not change where the reader moves among what was found
+-- what is known from the operands does not change if the reader moves among what was found
 pub tell_same : (text : Text) (form : Form) (old new : Front) (places : List Place) → asked_of new ≡ asked_of old → Tell text form old places → Tell text form new places
 tell_same text (term token) old new places e t = tt
 tell_same text (phrase tokens) old new places e t = tt
@@ -184,7 +184,7 @@ pub front_with : (places : List Place) (front : Front) → 0 < length places →
 front_with [] front some = absurd (omega arith)
 front_with (place ∷ places) front some = refl
 
--- the front where something was found
+-- the front if something was found
 pub front_found : (list : List Extent) → IsRising list → (k : ℕ) (o : Option Extent) → o ≡ first_start list k → IsFrontOf list (front_at o)
 front_found list r k None is = tt
 front_found list r k (Some a) is = first_itself list r a (first_member list k a (sym is))
@@ -197,7 +197,7 @@ pub member_front : (o : Option Extent) → member_of (front_at o) ≡ o
 member_front None = refl
 member_front (Some a) = refl
 
--- where the first member that is left is known, what is left starts there
+-- if the first member that is left is known, what is left starts there
 pub moved_on : (front : Front) (o : Option Extent) → member_of front ≡ o → start_left front ≤ start_or_end o
 moved_on Before None is = omega arith
 moved_on Before (Some a) is = absurd cc

@@ -1,4 +1,4 @@
--- What the operands' readers tell, where nothing is known from an address on.
+-- What is known from the operands' readers, if nothing is known at or after an address.
 use Rattle.std.proofs.Common.{◌≡◌, ℕ, ◌+◌, ◌≤◌, List, Option, Some, None, IfSome, refl, subst, arith, drop, take, not}
 use Rattle.gcl_model.specs.Extents.{Extent, IsRising, is_inside}
 use Rattle.gcl_model.specs.Texts.{Text}
@@ -92,7 +92,7 @@ tells_from text (not_contained_in a b) front places k is un t =
     where_unknown (concordance text (not_contained_in a b)) (AnswerByEnds text a b places) (AskByEnds text a b places k) k front is un t
     (λ found le m p. by_ends text a b places k found le (kept_has (concordance text (not_contained_in a b)) (concordance text a) found (not_in_first text a b) m) p)
 
--- where nothing is known from k on, nothing that is left starts later than k
+-- if nothing is known at or after k, what is left starts at k or before
 pub unknown_from : (front : Front) (k : ℕ) → IsUnknown front k → start_left front ≤ k
 unknown_from Before k un = omega arith
 unknown_from (On a) k un = omega arith

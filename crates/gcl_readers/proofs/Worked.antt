@@ -66,7 +66,7 @@ left-at_the_second = refl
 left-at_the_end : left_of three End ≡ []
 left-at_the_end = refl
 
--- where the next one is known too, it is the last that was looked for
+-- if the next one is known too, it is the last that was looked for
 asked-next : asked_of (Between (extent 1 2) (Some (extent 4 6))) ≡ On (extent 4 6)
 asked-next = refl
 

@@ -13,7 +13,7 @@ use Rattle.gcl_readers.specs.declared.front.Place.{Place}
 use Rattle.gcl_readers.specs.Standing.{nodes, front_of}
 
 -- the look-ups of a node for each of its members, besides those of its operands for theirs: one of a term, one of a phrase for each token,
--- and two of "both of" and of "followed by" for each operand, where `most` is the number of look-ups that one call of the leaves may make
+-- and two of "both of" and of "followed by" for each operand, with `most` the number of look-ups that one call of the leaves may make
 abbrev pub member_cost : Text → (most : ℕ) → Form → ℕ
 member_cost text most (term token) = most
 member_cost text most (phrase tokens) = length tokens * most
@@ -26,8 +26,8 @@ abbrev pub tokens_of : Form → List (List ℕ)
 tokens_of (phrase tokens) = tokens
 tokens_of form = []
 
--- the look-ups of a node that looks for a member from k on and finds this one, or that there is none: a phrase makes one more for each
--- token and each place of its rarest one that the walk leaves behind
+-- the look-ups of a node that looks for a member at or after k and finds this one, or that there is none: a phrase makes one more for each
+-- token and each place of its rarest token that the walk leaves behind
 abbrev pub find_cost : Text → (most : ℕ) → Form → ℕ → Option Extent → ℕ
 find_cost text most form k found = (fewest_between text.words (tokens_of form) k (walk_end text found) + 1) * member_cost text most form
 
@@ -57,8 +57,8 @@ not_asked list (Between a None) = 0
 not_asked list (Between a (Some next)) = length (members_from list (next.start + 1)) + 1
 not_asked list End = 0
 
--- how many places of the rarest of the tokens no walk has left behind: each token's from its place in the row that starts right after the
--- last member that was looked for
+-- how many places of the rarest of the tokens no walk has left behind, each token's counted from its place in the row that starts right
+-- after the last member that was looked for
 abbrev pub places_left : Text → List (List ℕ) → Front → ℕ
 places_left text tokens Before = fewest_places text.words tokens
 places_left text tokens (On a) = fewest_between text.words tokens (a.start + 1) text.next

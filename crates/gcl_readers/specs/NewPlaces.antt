@@ -1,4 +1,4 @@
--- The places of readers that were asked nothing yet.
+-- The places of readers that have been asked nothing yet.
 use Rattle.std.specs.Prelude.{ℕ, List, [], ◌∷◌, ◌++◌}
 use Rattle.gcl_model.specs.Forms.{Form, Forms, term, phrase, width, both, one, seq, containing, contained_in, not_containing, not_contained_in, no_forms, more_forms}
 use Rattle.gcl_readers.specs.declared.front.Front.TheVariants.{Before}

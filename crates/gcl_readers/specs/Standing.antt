@@ -39,7 +39,7 @@ abbrev pub with_front : List Place → Front → List Place
 with_front [] front = []
 with_front (place ∷ places) front = record { size = place.size; front = front } ∷ places
 
--- how many places it says that there are
+-- how many places the first one says that there are
 abbrev pub size_of : List Place → ℕ
 size_of [] = 0
 size_of (place ∷ places) = place.size
@@ -57,17 +57,17 @@ starts_at (more_forms form forms) places = start_at (take (nodes form) places) �
 abbrev pub left_to : Text → Form → List Place → List Extent
 left_to text form places = left_of (concordance text form) (front_of places)
 
--- where the operands of a containment by starts stand: both answer from behind the start of the last member on
+-- where the operands of a containment by starts stand: both answer as their whole lists do after the start of the last member
 abbrev pub AnswerByStarts : Text → (a b : Form) → List Place → Option Extent → Type 0
 AnswerByStarts text a b places found =
     AnswersFrom (concordance text a) (start_at (take (nodes a) places)) (after found) × AnswersFrom (concordance text b) (start_at (drop (nodes a) places)) (after found)
 
--- and by ends: the second one answers from behind its end on
+-- and by ends: the second one answers by ends after its end
 abbrev pub AnswerByEnds : Text → (a b : Form) → List Place → Option Extent → Type 0
 AnswerByEnds text a b places found =
     AnswersFrom (concordance text a) (start_at (take (nodes a) places)) (after found) × AnswersByEnds (concordance text b) (start_at (drop (nodes a) places)) (past found)
 
--- what the readers of the operands tell of the node's members behind the last one that was looked for
+-- what is known from the readers of the operands about the node's members after the last one that was looked for
 abbrev pub Tell : Text → Form → Front → List Place → Type 0
 Tell text (term token) front places = Unit {0}
 Tell text (phrase tokens) front places = Unit {0}
@@ -80,13 +80,14 @@ Tell text (contained_in a b) front places = WhereAsked (AnswerByEnds text a b pl
 Tell text (not_containing a b) front places = WhereAsked (AnswerByStarts text a b places) front
 Tell text (not_contained_in a b) front places = WhereAsked (AnswerByEnds text a b places) front
 
--- from k on the operands of "both of" answer as their whole lists do, or both answers end by v, before the node's own answer
+-- at or after k the operands of "both of" answer as their whole lists do, or both answers end before v, which is at most the end of the
+-- node's own answer
 pub record BothTell (node : List Extent) (lists : List (List Extent)) (starts : List ℕ) (k : ℕ) : Type 0 where
   pub v : ℕ
   pub each : AllAnswerOrEnd lists starts k v
   pub before : IfSome (first_start node k) (λ a. v ≤ a.end)
 
--- where the operands of a containment are asked: the first one from k on by starts, the second one there by starts, too
+-- where the operands of a containment are asked: the first one at or after k by starts, the second one there by starts, too
 abbrev pub AskByStarts : Text → (a b : Form) → List Place → ℕ → Type 0
 AskByStarts text a b places k =
     AnswersFrom (concordance text a) (start_at (take (nodes a) places)) k × AnswersFrom (concordance text b) (start_at (drop (nodes a) places)) k
@@ -97,7 +98,7 @@ AskByEnds text a b places k =
     AnswersFrom (concordance text a) (start_at (take (nodes a) places)) k
     × IfSome (first_start (concordance text a) k) (λ c. AnswersByEnds (concordance text b) (start_at (drop (nodes a) places)) c.end)
 
--- what the readers of the operands tell of the node's members from k on
+-- what is known from the readers of the operands about the node's members at or after k
 abbrev pub TellsFrom : Text → Form → List Place → ℕ → Type 0
 TellsFrom text (term token) places k = Unit {0}
 TellsFrom text (phrase tokens) places k = Unit {0}

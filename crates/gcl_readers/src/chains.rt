@@ -25,7 +25,7 @@ use gcl_model::{CountedLeaves, Expr, Interval};
 use gcl_order::{after, seq_join};
 use std::convert::Infallible;
 
-/// "One of": the best of an answer and of the operands' ones.
+/// "One of": the best of an answer and of the operands' answers.
 #[cycle(reading)]
 pub(crate) fn one_find<C: CountedLeaves<Stop = Infallible>>(
     operands: &[Expr],
@@ -45,7 +45,8 @@ pub(crate) fn one_find<C: CountedLeaves<Stop = Infallible>>(
     ensures len { length places.new ≡ length places.old }
     ensures tells { AllAnswerFrom (operand_lists (C.text source.now) operands.now) (starts_at (operand_forms operands.now) places.new) k }
     ensures counted { C.count counter.old ≤ C.count counter.new }
-    ensures cost { C.count counter.new + costs_left (C.text source.now) (C.most source.now) (operand_forms operands.now) places.new ≤ C.count counter.old + costs_left (C.text source.now) (C.most source.now) (operand_forms operands.now) places.old }
+    ensures cost { C.count counter.new + costs_left (C.text source.now) (C.most source.now) (operand_forms operands.now) places.new ≤
+        C.count counter.old + costs_left (C.text source.now) (C.most source.now) (operand_forms operands.now) places.old }
 {
     let Some((operand, others)) = operands.split_first() else {
         return best;
@@ -75,14 +76,16 @@ pub(crate) fn both_find<C: CountedLeaves<Stop = Infallible>>(
     ensures len { length places.new ≡ length places.old }
     ensures tells { Tell (C.text source.now) (both (operand_forms operands.now)) (front_at result) places.new }
     ensures counted { C.count counter.old ≤ C.count counter.new }
-    ensures cost { C.count counter.new + costs_left (C.text source.now) (C.most source.now) (operand_forms operands.now) places.new ≤ C.count counter.old + costs_left (C.text source.now) (C.most source.now) (operand_forms operands.now) places.old + forms_count (operand_forms operands.now) * (2 * C.most source.now) }
+    ensures cost { C.count counter.new + costs_left (C.text source.now) (C.most source.now) (operand_forms operands.now) places.new ≤
+        C.count counter.old + costs_left (C.text source.now) (C.most source.now) (operand_forms operands.now) places.old +
+        forms_count (operand_forms operands.now) * (2 * C.most source.now) }
 {
     let end = both_ends(operands, places, source, k, k, counter)?;
     let start = both_starts(operands, places, source, end, end, counter)?;
     Some(Interval::new(start, end))
 }
 
-/// The greatest of an end and of those of the operands' answers from `k` on.
+/// The greatest of an end and of those of the operands' answers at or after `k`.
 #[cycle(reading)]
 fn both_ends<C: CountedLeaves<Stop = Infallible>>(
     operands: &[Expr],
@@ -97,13 +100,16 @@ fn both_ends<C: CountedLeaves<Stop = Infallible>>(
     requires sound { IsText (C.text source.now) }
     requires stands { AllStand (C.text source.now) (operand_forms operands.now) places.old }
     requires so_far { so_far < far }
-    ensures answer { result ≡ end_so_far (all_left (operand_lists (C.text source.now) operands.now) (starts_at (operand_forms operands.now) places.old)) k so_far }
+    ensures answer { result ≡ end_so_far (all_left (operand_lists (C.text source.now) operands.now)
+        (starts_at (operand_forms operands.now) places.old)) k so_far }
     ensures below { IfSome result (λ end. end < far) }
     ensures stands { AllStand (C.text source.now) (operand_forms operands.now) places.new }
     ensures len { length places.new ≡ length places.old }
-    ensures moved { IfSome result (λ _. HaveMoved (operand_lists (C.text source.now) operands.now) (starts_at (operand_forms operands.now) places.old) (starts_at (operand_forms operands.now) places.new) k) }
+    ensures moved { IfSome result (λ _. HaveMoved (operand_lists (C.text source.now) operands.now)
+        (starts_at (operand_forms operands.now) places.old) (starts_at (operand_forms operands.now) places.new) k) }
     ensures counted { C.count counter.old ≤ C.count counter.new }
-    ensures cost { C.count counter.new + costs_left (C.text source.now) (C.most source.now) (operand_forms operands.now) places.new ≤ C.count counter.old + costs_left (C.text source.now) (C.most source.now) (operand_forms operands.now) places.old }
+    ensures cost { C.count counter.new + costs_left (C.text source.now) (C.most source.now) (operand_forms operands.now) places.new ≤
+        C.count counter.old + costs_left (C.text source.now) (C.most source.now) (operand_forms operands.now) places.old }
 {
     let Some((operand, others)) = operands.split_first() else {
         return Some(so_far);
@@ -129,12 +135,16 @@ fn both_starts<C: CountedLeaves<Stop = Infallible>>(
     requires below { k < far }
     requires sound { IsText (C.text source.now) }
     requires stands { AllStand (C.text source.now) (operand_forms operands.now) places.old }
-    ensures answer { result ≡ start_so_far (all_left (operand_lists (C.text source.now) operands.now) (starts_at (operand_forms operands.now) places.old)) k so_far }
+    ensures answer { result ≡ start_so_far (all_left (operand_lists (C.text source.now) operands.now)
+        (starts_at (operand_forms operands.now) places.old)) k so_far }
     ensures stands { AllStand (C.text source.now) (operand_forms operands.now) places.new }
     ensures len { length places.new ≡ length places.old }
-    ensures moved { IfSome result (λ _. HaveMovedBack (operand_lists (C.text source.now) operands.now) (starts_at (operand_forms operands.now) places.old) (starts_at (operand_forms operands.now) places.new) k) }
+    ensures moved { IfSome result (λ _. HaveMovedBack (operand_lists (C.text source.now) operands.now)
+        (starts_at (operand_forms operands.now) places.old) (starts_at (operand_forms operands.now) places.new) k) }
     ensures counted { C.count counter.old ≤ C.count counter.new }
-    ensures cost { C.count counter.new + costs_left (C.text source.now) (C.most source.now) (operand_forms operands.now) places.new ≤ C.count counter.old + costs_left (C.text source.now) (C.most source.now) (operand_forms operands.now) places.old + forms_count (operand_forms operands.now) * (2 * C.most source.now) }
+    ensures cost { C.count counter.new + costs_left (C.text source.now) (C.most source.now) (operand_forms operands.now) places.new ≤
+        C.count counter.old + costs_left (C.text source.now) (C.most source.now) (operand_forms operands.now) places.old +
+        forms_count (operand_forms operands.now) * (2 * C.most source.now) }
 {
     let Some((operand, others)) = operands.split_first() else {
         return Some(so_far);
@@ -146,7 +156,7 @@ fn both_starts<C: CountedLeaves<Stop = Infallible>>(
     both_starts(others, later, source, k, so_far, counter)
 }
 
-/// "Followed by": on from operand to operand, and back from the last one to the first, which itself is not asked twice.
+/// "Followed by": on from operand to operand, and back from the last, which is asked only once, to the first.
 #[cycle(reading)]
 pub(crate) fn seq_find<C: CountedLeaves<Stop = Infallible>>(
     operands: &[Expr],
@@ -160,15 +170,19 @@ pub(crate) fn seq_find<C: CountedLeaves<Stop = Infallible>>(
     requires below { k < far }
     requires sound { IsText (C.text source.now) }
     requires stands { AllStand (C.text source.now) (operand_forms operands.now) places.old }
-    requires tells { AllAnswerInOrder (operand_lists (C.text source.now) operands.now) (starts_at (operand_forms operands.now) places.old) k }
+    requires tells { AllAnswerInOrder (operand_lists (C.text source.now) operands.now)
+        (starts_at (operand_forms operands.now) places.old) k }
     ensures answer { result ≡ first_start (concordance (C.text source.now) (seq (operand_forms operands.now))) k }
     ensures within { IfSome result (λ a. a.end < address_end) }
     ensures stands { AllStand (C.text source.now) (operand_forms operands.now) places.new }
     ensures len { length places.new ≡ length places.old }
-    ensures tells { IfSome result (λ a. AllAnswerInOrder (operand_lists (C.text source.now) operands.now) (starts_at (operand_forms operands.now) places.new) (a.start + 1)) }
+    ensures tells { IfSome result (λ a. AllAnswerInOrder (operand_lists (C.text source.now) operands.now)
+        (starts_at (operand_forms operands.now) places.new) (a.start + 1)) }
     ensures counted { C.count counter.old ≤ C.count counter.new }
-    ensures cost { C.count counter.new + costs_left (C.text source.now) (C.most source.now) (operand_forms operands.now) places.new + 2 * C.most source.now
-        ≤ C.count counter.old + costs_left (C.text source.now) (C.most source.now) (operand_forms operands.now) places.old + forms_count (operand_forms operands.now) * (2 * C.most source.now) }
+    ensures cost { C.count counter.new + costs_left (C.text source.now) (C.most source.now) (operand_forms operands.now) places.new +
+        2 * C.most source.now
+        ≤ C.count counter.old + costs_left (C.text source.now) (C.most source.now) (operand_forms operands.now) places.old +
+        forms_count (operand_forms operands.now) * (2 * C.most source.now) }
 {
     let (operand, others) = operands.split_first()?;
     let size = size_of(places);
@@ -182,8 +196,8 @@ pub(crate) fn seq_find<C: CountedLeaves<Stop = Infallible>>(
     Some(seq_join(head, tail))
 }
 
-/// From a member of "followed by" that ends before `k` on towards the first one that ends there or later: to an element on the way, and else to
-/// the next member.
+/// Goes on from a member of "followed by" that ends before `k` towards the first one that ends there or later: to an element on the way,
+/// and else to the next member.
 #[cycle(reading)]
 pub(crate) fn seq_onward<C: CountedLeaves<Stop = Infallible>>(
     expr: &Expr,

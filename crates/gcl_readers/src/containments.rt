@@ -21,7 +21,7 @@ use gcl_contain::{Turn, has_turn, in_turn, not_has_turn, not_in_turn};
 use gcl_model::{Containment, CountedLeaves, Expr, Interval};
 use std::convert::Infallible;
 
-/// A containment: from member to member of the first operand, each of which asks the second one once.
+/// A containment: from member to member of the first operand, each of which asks the second operand once.
 #[cycle(reading)]
 pub(crate) fn containment_find<C: CountedLeaves<Stop = Infallible>>(
     expr: &Expr,
@@ -41,7 +41,9 @@ pub(crate) fn containment_find<C: CountedLeaves<Stop = Infallible>>(
     ensures tells { Tell (C.text source.now) (form_of expr.now) (front_at result) places.new }
     ensures len { length places.new ≡ length places.old }
     ensures counted { C.count counter.old ≤ C.count counter.new }
-    ensures cost { C.count counter.new + cost_below (C.text source.now) (C.most source.now) (form_of expr.now) places.new ≤ C.count counter.old + cost_below (C.text source.now) (C.most source.now) (form_of expr.now) places.old + member_cost (C.text source.now) (C.most source.now) (form_of expr.now) }
+    ensures cost { C.count counter.new + cost_below (C.text source.now) (C.most source.now) (form_of expr.now) places.new ≤
+        C.count counter.old + cost_below (C.text source.now) (C.most source.now) (form_of expr.now) places.old +
+        member_cost (C.text source.now) (C.most source.now) (form_of expr.now) }
 {
     let (containment, first, second) = operands(expr);
     let size = size_of(places);
@@ -78,7 +80,8 @@ fn ask<C: CountedLeaves<Stop = Infallible>>(
     ensures within { IfSome result (λ a. a.end < address_end) }
     ensures stands { Stands (C.text source.now) (form_of second.now) places.new }
     ensures counted { C.count counter.old ≤ C.count counter.new }
-    ensures cost { C.count counter.new + cost_left (C.text source.now) (C.most source.now) (form_of second.now) places.new ≤ C.count counter.old + cost_left (C.text source.now) (C.most source.now) (form_of second.now) places.old }
+    ensures cost { C.count counter.new + cost_left (C.text source.now) (C.most source.now) (form_of second.now) places.new ≤
+        C.count counter.old + cost_left (C.text source.now) (C.most source.now) (form_of second.now) places.old }
 {
     match containment {
         Containment::Containing => start(second, places, source, member.start, counter),
@@ -107,7 +110,8 @@ fn go_on<C: CountedLeaves<Stop = Infallible>>(
     ensures within { IfSome result (λ a. a.end < address_end) }
     ensures stands { Stands (C.text source.now) (form_of first.now) places.new }
     ensures counted { C.count counter.old ≤ C.count counter.new }
-    ensures cost { C.count counter.new + cost_left (C.text source.now) (C.most source.now) (form_of first.now) places.new ≤ C.count counter.old + cost_left (C.text source.now) (C.most source.now) (form_of first.now) places.old }
+    ensures cost { C.count counter.new + cost_left (C.text source.now) (C.most source.now) (form_of first.now) places.new ≤
+        C.count counter.old + cost_left (C.text source.now) (C.most source.now) (form_of first.now) places.old }
 {
     match containment {
         Containment::Containing => end(first, places, source, next, counter),

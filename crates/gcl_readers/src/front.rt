@@ -14,7 +14,7 @@ pub(crate) enum Front {
     Before,
     /// The first of the members that are left.
     On(Interval),
-    /// The first of the members that are left, and the one after it, or that there is none.
+    /// The first of the members that are left, and the one after it; None means that there is none after it.
     Between(Interval, Option<Interval>),
     /// No member is left.
     End,
@@ -27,11 +27,12 @@ pub(crate) struct Place {
     pub(crate) front: Front,
 }
 
-/// The front at the first member from `k` on that is left, where that member is known.
+/// The front at the first member at or after `k` that is left, if that member is known.
 pub(crate) fn told(front: Front, k: u64) -> Option<Front>
     ensures unknown { IsNone result → IsUnknown front k }
     ensures asked { IfSome result (λ new. asked_of new ≡ asked_of front) }
-    ensures told { IfSome result (λ new. (list : List Extent) → IsRising list → first_start list address_end ≡ None → IsFrontOf list front → IsTold list front k new) }
+    ensures told { IfSome result (λ new. (list : List Extent) → IsRising list → first_start list address_end ≡ None →
+        IsFrontOf list front → IsTold list front k new) }
 {
     match front {
         Front::Before => None,
@@ -44,7 +45,8 @@ pub(crate) fn told(front: Front, k: u64) -> Option<Front>
 fn between_from(member: Interval, next: Option<Interval>, k: u64) -> Option<Front>
     ensures unknown { IsNone result → IsUnknown (Front.Between member next) k }
     ensures asked { IfSome result (λ new. asked_of new ≡ asked_of (Front.Between member next)) }
-    ensures told { IfSome result (λ new. (list : List Extent) → IsRising list → first_start list address_end ≡ None → IsFrontOf list (Front.Between member next) → IsTold list (Front.Between member next) k new) }
+    ensures told { IfSome result (λ new. (list : List Extent) → IsRising list → first_start list address_end ≡ None →
+        IsFrontOf list (Front.Between member next) → IsTold list (Front.Between member next) k new) }
 {
     if k <= member.start {
         return Some(Front::Between(member, next));
@@ -66,7 +68,7 @@ fn on_from(member: Interval, k: u64) -> Option<Front>
     }
 }
 
-/// The first of the members that are left, where it is known.
+/// The first of the members that are left, if it is known.
 pub(crate) fn member_of(front: &Front) -> Option<Interval>
     ensures { result ≡ member_of front.now }
 {
@@ -76,7 +78,7 @@ pub(crate) fn member_of(front: &Front) -> Option<Interval>
     }
 }
 
-/// The front where this was found.
+/// The front if this was found.
 pub(crate) fn front_at(found: &Option<Interval>) -> Front
     ensures { result ≡ front_at found.now }
 {
@@ -86,7 +88,7 @@ pub(crate) fn front_at(found: &Option<Interval>) -> Front
     }
 }
 
-/// The front at a member, where the one after it is known, or that there is none.
+/// The front at a member, if the one after it is known, or known not to exist.
 pub(crate) fn front_between(member: Interval, next: &Option<Interval>) -> Front
     ensures { result ≡ Front.Between member next.now }
 {

@@ -11,8 +11,8 @@ use crate::readers::Readers;
 use gcl_model::{Expr, Interval, IntervalList, Leaves, Ledger, Steps};
 use std::alloc::{AllocError, Global};
 
-/// The first `most` members that are left and start at or after `k`, or all of these where there are fewer. Where a page is full, the next
-/// one begins behind the start of its last member.
+/// The first `most` members that are left and start at or after `k`, or all of these if there are fewer. If a page is full, the next one
+/// begins after the start of its last member.
 pub fn read_list_from<L: Leaves, S: Ledger>(
     alloc: Global,
     readers: &mut Readers,
@@ -25,13 +25,16 @@ pub fn read_list_from<L: Leaves, S: Ledger>(
     requires well_formed { IsWellFormed (form_of expr.now) }
     requires below { k < far }
     requires stands { Stands (L.text leaves.now) (form_of expr.now) readers.old }
-    ensures ok { IfOk result (λ members. members ≡ take most (members_from (left_to (L.text leaves.now) (form_of expr.now) readers.old) k)) }
-    ensures left { IfOk result (λ members. start_at readers.old ≤ k → length members ≡ most → start_at readers.new ≤ behind_page k members) }
+    ensures ok { IfOk result (λ members. members ≡ take most (members_from
+        (left_to (L.text leaves.now) (form_of expr.now) readers.old) k)) }
+    ensures left { IfOk result (λ members. start_at readers.old ≤ k → length members ≡ most → start_at readers.new ≤
+        behind_page k members) }
     ensures stands { Stands (L.text leaves.now) (form_of expr.now) readers.new }
     ensures counted { steps.old ≤ steps.new }
-    ensures cost { steps.new + cost_left (L.text leaves.now) (L.most leaves.now) (form_of expr.now) readers.new ≤ steps.old + cost_left (L.text leaves.now) (L.most leaves.now) (form_of expr.now) readers.old }
+    ensures cost { steps.new + cost_left (L.text leaves.now) (L.most leaves.now) (form_of expr.now) readers.new ≤ steps.old +
+        cost_left (L.text leaves.now) (L.most leaves.now) (form_of expr.now) readers.old }
 {
-    // the span tells that the words rise
+    // the contract of `span` gives that the words rise
     let _span = leaves.span();
     let mut members = IntervalList::new(alloc);
     let mut from = k;
@@ -59,9 +62,10 @@ pub fn read_count<L: Leaves, S: Ledger>(
     ensures value { result ≡ length (members_from (left_to (L.text leaves.now) (form_of expr.now) readers.old) k) }
     ensures stands { Stands (L.text leaves.now) (form_of expr.now) readers.new }
     ensures counted { steps.old ≤ steps.new }
-    ensures cost { steps.new + cost_left (L.text leaves.now) (L.most leaves.now) (form_of expr.now) readers.new ≤ steps.old + cost_left (L.text leaves.now) (L.most leaves.now) (form_of expr.now) readers.old }
+    ensures cost { steps.new + cost_left (L.text leaves.now) (L.most leaves.now) (form_of expr.now) readers.new ≤ steps.old +
+        cost_left (L.text leaves.now) (L.most leaves.now) (form_of expr.now) readers.old }
 {
-    // the span tells that the words rise
+    // the contract of `span` gives that the words rise
     let _span = leaves.span();
     let mut members = 0;
     let mut from = k;
@@ -72,7 +76,7 @@ pub fn read_count<L: Leaves, S: Ledger>(
     members
 }
 
-/// Behind the start of a member.
+/// The address after the start of a member.
 fn behind(member: Interval) -> u64
     requires { member.end < far }
     ensures { result ≡ member.start + 1 }

@@ -1,4 +1,4 @@
-//! Look-ups of which none is refused.
+//! Look-ups, none of which is refused.
 
 ghost use Rattle.std.specs.Prelude.{◌≡◌, ◌+◌, ◌*◌, ◌<◌, ◌≤◌, length, None, Some, IfSome, IsNone};
 ghost use Rattle.gcl_model.specs.Limits.{far};
@@ -13,7 +13,7 @@ ghost use Rattle.gcl_eval.specs.Elements.{IsElement, IsOnTheWay};
 use gcl_model::{CountedLeaves, Expr, Interval, TokenList};
 use std::convert::Infallible;
 
-/// The least address from `k` on that holds the term.
+/// The least address at or after `k` that holds the term.
 #[inline(always)]
 pub(crate) fn next_place<C: CountedLeaves<Stop = Infallible>>(
     term: &[u8],
@@ -65,7 +65,7 @@ pub(crate) fn phrase_find<C: CountedLeaves<Stop = Infallible>>(
     found
 }
 
-/// The first element that starts at or after `k`, where it is at hand.
+/// The first element that starts at or after `k`, if it is available.
 #[inline(always)]
 pub(crate) fn element_at_hand<C: CountedLeaves<Stop = Infallible>>(
     expr: &Expr,

@@ -1,6 +1,6 @@
 //! The places of a new reader, one for each node.
 
-ghost use Rattle.std.specs.Prelude.{◌≡◌, ◌++◌, [], ◌∷◌, OnOk};
+ghost use Rattle.std.specs.Prelude.{◌≡◌, ◌++◌, [], OnOk};
 ghost use Rattle.gcl_model.specs.FormOf.{form_of};
 ghost use Rattle.gcl_eval.specs.Operands.{operand_forms};
 ghost use Rattle.gcl_readers.specs.NewPlaces.{new_places, new_places_below, new_places_of};

@@ -35,14 +35,15 @@ impl Readers {
     pub fn new(alloc: Global, expr: &Expr) -> Result<Readers, AllocError>
         ensures stands { IfOk result (λ readers. (text : Text) → Stands text (form_of expr.now) readers) }
         ensures left { IfOk result (λ readers. start_at readers ≡ 0) }
-        ensures cost { IfOk result (λ readers. (text : Text) (most : ℕ) → cost_left text most (form_of expr.now) readers ≡ merge_cost text most (form_of expr.now)) }
+        ensures cost { IfOk result (λ readers. (text : Text) (most : ℕ) → cost_left text most (form_of expr.now) readers ≡
+            merge_cost text most (form_of expr.now)) }
     {
         let mut places = Vec::new(alloc);
         put_places(expr, &mut places)?;
         Ok(Readers { places })
     }
 
-    /// The first member that is left and starts at or after `k`. No member from its start on is passed.
+    /// The first member that is left and starts at or after `k`. No member at or after its start is passed.
     pub fn next<L: Leaves, S: Ledger>(
         &mut self,
         expr: &Expr,
@@ -57,9 +58,10 @@ impl Readers {
         ensures left { start_at self.new ≤ start_or_end result }
         ensures stands { Stands (L.text leaves.now) (form_of expr.now) self.new }
         ensures counted { steps.old ≤ steps.new }
-        ensures cost { steps.new + cost_left (L.text leaves.now) (L.most leaves.now) (form_of expr.now) self.new ≤ steps.old + cost_left (L.text leaves.now) (L.most leaves.now) (form_of expr.now) self.old }
+        ensures cost { steps.new + cost_left (L.text leaves.now) (L.most leaves.now) (form_of expr.now) self.new ≤ steps.old +
+            cost_left (L.text leaves.now) (L.most leaves.now) (form_of expr.now) self.old }
     {
-        // the span tells that the words rise
+        // the contract of `span` gives that the words rise
         let source = LentLeaves::<L, S>::new(leaves);
         let _span = source.span();
         start(expr, self.places.as_mut_slice(), &source, k, steps)

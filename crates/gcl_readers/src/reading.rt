@@ -42,7 +42,8 @@ pub(crate) fn start<C: CountedLeaves<Stop = Infallible>>(
     ensures stands { Stands (C.text source.now) (form_of expr.now) places.new }
     ensures on { IsNode (form_of expr.now) → member_of (front_of places.new) ≡ result }
     ensures counted { C.count counter.old ≤ C.count counter.new }
-    ensures cost { C.count counter.new + cost_left (C.text source.now) (C.most source.now) (form_of expr.now) places.new ≤ C.count counter.old + cost_left (C.text source.now) (C.most source.now) (form_of expr.now) places.old }
+    ensures cost { C.count counter.new + cost_left (C.text source.now) (C.most source.now) (form_of expr.now) places.new ≤
+        C.count counter.old + cost_left (C.text source.now) (C.most source.now) (form_of expr.now) places.old }
 {
     if let Expr::Width(width) = expr {
         return width_first_start(*width, source.span(), k);
@@ -57,7 +58,7 @@ pub(crate) fn start<C: CountedLeaves<Stop = Infallible>>(
     }
 }
 
-/// The first member from `k` on, where no answer is known that far.
+/// The first member at or after `k`, if no answer is known that far.
 #[cycle(reading)]
 fn look<C: CountedLeaves<Stop = Infallible>>(
     expr: &Expr,
@@ -86,7 +87,7 @@ fn look<C: CountedLeaves<Stop = Infallible>>(
     found
 }
 
-/// The first member from `k` on, by the readers of the operands.
+/// The first member at or after `k`, by the readers of the operands.
 #[cycle(reading)]
 fn find<C: CountedLeaves<Stop = Infallible>>(
     expr: &Expr,
@@ -106,7 +107,9 @@ fn find<C: CountedLeaves<Stop = Infallible>>(
     ensures tells { Tell (C.text source.now) (form_of expr.now) (front_at result) places.new }
     ensures len { length places.new ≡ length places.old }
     ensures counted { C.count counter.old ≤ C.count counter.new }
-    ensures cost { C.count counter.new + cost_below (C.text source.now) (C.most source.now) (form_of expr.now) places.new ≤ C.count counter.old + cost_below (C.text source.now) (C.most source.now) (form_of expr.now) places.old + find_cost (C.text source.now) (C.most source.now) (form_of expr.now) k result }
+    ensures cost { C.count counter.new + cost_below (C.text source.now) (C.most source.now) (form_of expr.now) places.new ≤
+        C.count counter.old + cost_below (C.text source.now) (C.most source.now) (form_of expr.now) places.old +
+        find_cost (C.text source.now) (C.most source.now) (form_of expr.now) k result }
 {
     if let Some(element) = element_at_hand(expr, source, k, counter) {
         return Some(element);
@@ -157,7 +160,8 @@ pub(crate) fn end<C: CountedLeaves<Stop = Infallible>>(
     ensures within { IfSome result (λ a. a.end < address_end) }
     ensures stands { Stands (C.text source.now) (form_of expr.now) places.new }
     ensures counted { C.count counter.old ≤ C.count counter.new }
-    ensures cost { C.count counter.new + cost_left (C.text source.now) (C.most source.now) (form_of expr.now) places.new ≤ C.count counter.old + cost_left (C.text source.now) (C.most source.now) (form_of expr.now) places.old }
+    ensures cost { C.count counter.new + cost_left (C.text source.now) (C.most source.now) (form_of expr.now) places.new ≤
+        C.count counter.old + cost_left (C.text source.now) (C.most source.now) (form_of expr.now) places.old }
 {
     match expr {
         Expr::Width(width) => width_first_end(*width, source.span(), k),
@@ -194,8 +198,8 @@ fn node_end<C: CountedLeaves<Stop = Infallible>>(
     Some(member)
 }
 
-/// From the first member that is left, which ends before `k`, on towards the first one that ends there or later: to the next member, or past
-/// elements, none of which ends there.
+/// Goes on from the first member that is left, which ends before `k`, towards the first one that ends there or later: to the next member,
+/// or past elements, none of which ends there.
 #[cycle(reading)]
 fn onward<C: CountedLeaves<Stop = Infallible>>(
     expr: &Expr,
@@ -245,7 +249,8 @@ pub(crate) fn back<C: CountedLeaves<Stop = Infallible>>(
     ensures within { IfSome result (λ a. a.end < address_end) }
     ensures stands { Stands (C.text source.now) (form_of expr.now) places.new }
     ensures counted { C.count counter.old ≤ C.count counter.new }
-    ensures cost { C.count counter.new + cost_left (C.text source.now) (C.most source.now) (form_of expr.now) places.new ≤ C.count counter.old + cost_left (C.text source.now) (C.most source.now) (form_of expr.now) places.old + 2 * C.most source.now }
+    ensures cost { C.count counter.new + cost_left (C.text source.now) (C.most source.now) (form_of expr.now) places.new ≤
+        C.count counter.old + cost_left (C.text source.now) (C.most source.now) (form_of expr.now) places.old + 2 * C.most source.now }
 {
     match expr {
         Expr::Width(width) => width_last_end(*width, source.span(), k),
@@ -267,7 +272,8 @@ fn term_back<C: CountedLeaves<Stop = Infallible>>(
     ensures within { IfSome result (λ a. a.end < address_end) }
     ensures stands { Stands (C.text source.now) (term token.now) places.new }
     ensures counted { C.count counter.old ≤ C.count counter.new }
-    ensures cost { C.count counter.new + cost_left (C.text source.now) (C.most source.now) (term token.now) places.new ≤ C.count counter.old + cost_left (C.text source.now) (C.most source.now) (term token.now) places.old + 2 * C.most source.now }
+    ensures cost { C.count counter.new + cost_left (C.text source.now) (C.most source.now) (term token.now) places.new ≤
+        C.count counter.old + cost_left (C.text source.now) (C.most source.now) (term token.now) places.old + 2 * C.most source.now }
 {
     let address = previous_place(token.as_slice(), source, k, counter)?;
     if address < start_left(front_of(places)) {

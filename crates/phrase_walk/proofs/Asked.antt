@@ -4,7 +4,7 @@ use Rattle.std.proofs.lemmas.Bool.{cases_lt}
 use Rattle.std.proofs.Math.Nat.{mul-le-mul_right}
 use Rattle.phrase_walk.proofs.Ring.{IsRing, ring_start, ring_stays, ring_moves, ring_wraps}
 
--- the m places of a ring were asked so often as the look-ups from `old` to `now` say, at `most` for each
+-- the m places of a ring were asked as often as the look-ups from `old` to `now` say, at `most` for each
 pub record IsAskedWithin (m turn agreed : ℕ) (passed : ℕ → ℕ) (Agrees : ℕ → Type 0) (most old now : ℕ) : Type 0 where
   pub rounds : ℕ
   pub ring : IsRing m rounds turn agreed passed Agrees
@@ -60,7 +60,7 @@ asked_turns m turn next agreed passed Agrees most old now within wraps goes_on a
           )
     ]
 
--- the look-ups up to here and one more are within the bound, where no more rounds were made than c
+-- the look-ups up to here and one more are within the bound, if no more rounds were made than c
 pub asked_bound : (m turn c most old now after rounds : ℕ) → turn < m → rounds ≤ c → now ≤ old + (rounds * m + turn) * most → after ≤ now + most → after ≤ old + (c + 1) * m * most
 asked_bound m turn c most old now after rounds within few le step =
     let a : rounds * m ≤ c * m = mul-le-mul_right m few in

@@ -1,4 +1,4 @@
--- How many places of the tokens stand between two addresses.
+-- How many places of the tokens are between two addresses.
 use Rattle.std.proofs.Common.{◌≡◌, ℕ, suc, ◌+◌, ◌<◌, ◌≤◌, Bool, true, false, cond, ◌&&◌, leb, ltb, eqb, List, [], ◌∷◌, length, filter, min, inl, inr, refl, sym, subst, arith, bytes_eq, le_refl}
 use Rattle.std.proofs.lemmas.Bool.{true≢false, or_cases, and_parts, and_from, cases_Bool, leb-true, le-leb, ltb-true, lt-ltb, le-ltb, eqb-true}
 use Rattle.std.proofs.lemmas.List.Sums.{length-filter, count_by-le-length}
@@ -57,7 +57,7 @@ between_most words token from to =
     let test : ℕ → Bool = λ p. leb from p && ltb p to in
     omega (arith, length-filter test (places words token), count_by-le-length test (places words token))
 
--- what stands before an address and what stands from it on are not the same
+-- what is before an address and what is at or after it are not the same
 pub between_parts : (words : List Word) (token : List ℕ) (from at to : ℕ) → from ≤ at → at ≤ to → places_between words token from at + places_between words token at to ≤ places_between words token from to
 between_parts words token from at to ge le =
     both_filters (λ p. leb from p && ltb p at) (λ p. leb at p && ltb p to) (λ p. leb from p && ltb p to)

@@ -6,7 +6,7 @@ use Rattle.gcl_model.specs.Extents.{Extent, IsAhead, IsRising}
 use Rattle.gcl_model.specs.Access.{find_last}
 use Rattle.gcl_model.proofs.Covers.{Has, of_each}
 
--- where no member passes, none is found
+-- if no member passes, none is found
 pub none_first : (test : Extent → Bool) (list : List Extent) → ((a : Extent) → Has list a → test a ≡ true → ⊥) → find test list ≡ None
 none_first test [] h = refl
 none_first test (x ∷ xs) h =

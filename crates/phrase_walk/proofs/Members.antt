@@ -62,7 +62,7 @@ pub no_last_row : (text : Text) (tokens : List (List ℕ)) (k : ℕ) → ((r : �
 no_last_row text tokens k no_row =
     none_last (λ a. leb a.start k) (concordance text (phrase tokens)) (λ d m t. no_row d.start (leb-true d.start k t) (member_row text tokens d m).row)
 
--- a row ends at or after k where it starts at or after k less its other addresses
+-- a row ends at or after k if it starts at or after k less its other addresses
 first_end_by_start : (text : Text) (tokens : List (List ℕ)) (k s : ℕ) → 1 ≤ length tokens → s ≡ k - (length tokens - 1) →
     first_start (concordance text (phrase tokens)) s ≡ first_end (concordance text (phrase tokens)) k
 first_end_by_start text tokens k s some is =

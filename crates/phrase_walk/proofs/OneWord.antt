@@ -1,4 +1,4 @@
--- Rows of a phrase that is one word again and again: where one of them ends, it is seen where the next one is.
+-- Rows of a phrase that repeats one word: the end of one of them shows where the next one is.
 use Rattle.std.proofs.Common.{◌≡◌, ℕ, ◌+◌, ◌-◌, ◌<◌, ◌≤◌, leb, true, List, [], length, bytes_eq, Option, Some, None, IfSome, sym, ◌∙◌, subst, arith, inl, inr}
 use Rattle.std.proofs.lemmas.Bool.{true≢false, cases_Bool, cases_lt, leb-true, le-leb}
 use Rattle.std.proofs.lemmas.List.Folds.{list_all_at}
@@ -24,7 +24,7 @@ same_word tokens i one lt =
     ]
 
 module _ (text : Text) (sound : IsText text) (tokens : List (List ℕ)) (several : 2 ≤ length tokens) (one : is_one_word tokens ≡ true) (a : Extent) (is : IsRow text tokens a) where
-  -- a row that starts behind this one, and not behind its end, has the word right behind it
+  -- a row that starts after the start of this one, and no later than right after its end, holds the word right after that end
   behind_held : (r : ℕ) → a.start + 1 ≤ r → r ≤ a.end + 1 → InRow text tokens r → Held text (token_at tokens 0) (a.end + 1)
   behind_held r from upto row =
       let wide : a.end + 1 ≡ a.start + length tokens = is.wide in
@@ -57,7 +57,7 @@ module _ (text : Text) (sound : IsText text) (tokens : List (List ℕ)) (several
             subst (Held text (token_at tokens 0)) at held
       ])
 
-  -- the word stands right behind the row: the row goes on
+  -- the word is right after the row: the row goes on
   pub run_goes_on : (o : Option ℕ) (p : ℕ) → o ≡ next_place text.words (token_at tokens 0) (a.end + 1) → o ≡ Some p → p ≡ a.end + 1 → first_start (concordance text (phrase tokens)) (a.start + 1) ≡ Some (extent (a.start + 1) p)
   run_goes_on o p asked found at =
       let wide : a.end + 1 ≡ a.start + length tokens = is.wide in
@@ -65,7 +65,7 @@ module _ (text : Text) (sound : IsText text) (tokens : List (List ℕ)) (several
       let held = subst (Held text (token_at tokens 0)) at told.held in
       first_row text sound tokens (a.start + 1) (a.start + 1) p (omega arith) (omega arith) (places_row text tokens (a.start + 1) (λ i lt. shifted_place i lt held)) (omega arith) (λ r from row. from)
 
-  -- it stands further on: no row starts before there
+  -- it is further on: no row starts before it
   pub run_leaps : (o : Option ℕ) (p : ℕ) → o ≡ next_place text.words (token_at tokens 0) (a.end + 1) → o ≡ Some p → a.end + 1 < p →
       first_start (concordance text (phrase tokens)) (a.start + 1) ≡ first_start (concordance text (phrase tokens)) p
   run_leaps o p asked found past =
@@ -74,7 +74,7 @@ module _ (text : Text) (sound : IsText text) (tokens : List (List ℕ)) (several
       (λ t. le-leb p d.start (from_next p (sym asked ∙ found) past d.start (leb-true (a.start + 1) d.start t) (member_row text tokens d m).row))
       (λ t. let le : p ≤ d.start = leb-true p d.start t in let wide : a.end + 1 ≡ a.start + length tokens = is.wide in le-leb (a.start + 1) d.start (omega arith)))
 
-  -- it stands nowhere behind: nor does a row
+  -- it occurs nowhere after: nor does a row
   pub run_ends : (o : Option ℕ) → o ≡ next_place text.words (token_at tokens 0) (a.end + 1) → o ≡ None → first_start (concordance text (phrase tokens)) (a.start + 1) ≡ None
   run_ends o asked none =
       no_first_row text tokens (a.start + 1) (λ r from row.
@@ -83,7 +83,7 @@ module _ (text : Text) (sound : IsText text) (tokens : List (List ℕ)) (several
         | inr le ↦ none_next text (token_at tokens 0) sound (a.end + 1) (sym asked ∙ none) (a.end + 1) (behind_held r from (omega arith) row) (omega arith)
       ])
 
--- the first member from behind a place on does not start there
+-- the first member after a place does not start there
 pub later_start : (P : Type 0) (list : List Extent) (k s : ℕ) (o : Option Extent) → o ≡ first_start list k → s < k → IfSome o (λ next. next.start ≡ s → P)
 later_start P list k s None is lt = tt
 later_start P list k s (Some next) is lt = λ at.

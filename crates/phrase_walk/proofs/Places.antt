@@ -1,4 +1,4 @@
--- What the look-ups of a token tell of the places that hold it.
+-- What the look-ups of a token say about the places that hold it.
 use Rattle.std.proofs.Common.{◌≡◌, ℕ, ◌+◌, ◌<◌, ◌≤◌, true, eqb, List, [], ◌∷◌, Some, None, inl, inr, refl, sym, ap, ◌∙◌, subst, arith, bytes_eq, le_refl}
 use Rattle.std.proofs.lemmas.Bool.{true≢false, or_cases, and_parts, and_from, leb-true, le-leb, eqb-true, eq-eqb}
 use Rattle.gcl_model.specs.Extents.{extent, covers, all_extents}
@@ -56,7 +56,7 @@ held_covered text token k w e =
     let y : c.by.end ≤ w = c.nested.1 in
     record { place = c.by.start; held = d.1; from = x; upto = omega arith }
 
--- q is the least place of the token from k on
+-- q is the least place of the token at or after k
 pub record IsNext (text : Text) (token : List ℕ) (k q : ℕ) : Type 0 where
   pub held : Held text token q
   pub from : k ≤ q

@@ -10,12 +10,12 @@ IsLate m turn agreed i = ((turn ≤ i + agreed) × (i < turn)) ⊎ (turn + m ≤
 abbrev pub Counts : (rounds turn i x : ℕ) → Type 0
 Counts rounds turn i x = (i < turn → rounds + 1 ≤ x) × (turn ≤ i → rounds ≤ x)
 
--- i agreed and was asked at most once more than it has passed, or it did not and was asked at most so often
+-- i agreed and was asked at most once more than it has passed, or it did not and was asked at most as often as it has passed
 abbrev pub IsAsked : (m rounds turn agreed : ℕ) (passed : ℕ → ℕ) (Agrees : ℕ → Type 0) (i : ℕ) → Type 0
 IsAsked m rounds turn agreed passed Agrees i =
     (IsLate m turn agreed i × Agrees i × Counts rounds turn i (passed i + 1)) ⊎ ((IsLate m turn agreed i → ⊥) × Counts rounds turn i (passed i))
 
--- so stands each of the m places
+-- this holds of each of the m places
 abbrev pub IsRing : (m rounds turn agreed : ℕ) (passed : ℕ → ℕ) (Agrees : ℕ → Type 0) → Type 0
 IsRing m rounds turn agreed passed Agrees = (i : ℕ) → i < m → IsAsked m rounds turn agreed passed Agrees i
 
@@ -140,7 +140,7 @@ all_late m turn i within =
       | inr from ↦ inr (omega (arith, from))
     ]
 
--- where as many agreed as there are, each did
+-- if as many agreed as there are, each did
 pub ring_agrees : (m rounds turn : ℕ) (passed : ℕ → ℕ) (Agrees : ℕ → Type 0) → turn ≤ m → IsRing m rounds turn m passed Agrees → (i : ℕ) → i < m → Agrees i
 ring_agrees m rounds turn passed Agrees within ring i lt = over (ring i lt)
   where

@@ -1,4 +1,4 @@
--- Tokens that stand in a row, by their numbers in the phrase.
+-- Tokens in a row, by their numbers in the phrase.
 use Rattle.std.proofs.Common.{◌≡◌, ℕ, zero, suc, ◌+◌, ◌<◌, ◌≤◌, true, List, [], ◌∷◌, length, get_or, min, refl, subst, arith}
 use Rattle.std.proofs.lemmas.Bool.{and_parts, and_from}
 use Rattle.gcl_model.specs.Texts.{Text, Word, holds, places}
@@ -7,7 +7,7 @@ use Rattle.gcl_model.specs.Cost.{fewest_places}
 pub use Rattle.phrase_walk.specs.Starts.{IsInPlace, token_at}
 use Rattle.phrase_walk.proofs.Places.{Held}
 
--- the tokens stand in a row from p on
+-- the tokens are in a row that starts at p
 abbrev pub InRow : Text → List (List ℕ) → ℕ → Type 0
 InRow text tokens p = holds_in_row text.words tokens p ≡ true
 
@@ -20,7 +20,7 @@ token_is [] i d token lt is = absurd (omega arith)
 token_is (t ∷ ts) zero d token lt is = is
 token_is (t ∷ ts) (suc i) d token lt is = token_is ts i d token (omega arith) is
 
--- in a row each token stands in its place, and where each does, they are a row
+-- in a row each token is in its place, and if each is, they are a row
 pub row_place : (text : Text) (tokens : List (List ℕ)) (r i : ℕ) → i < length tokens → InRow text tokens r → IsInPlace text tokens r i
 row_place text [] r i lt row = absurd (omega arith)
 row_place text (token ∷ tokens) r zero lt row =

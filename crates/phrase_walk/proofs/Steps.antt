@@ -19,7 +19,7 @@ use Rattle.phrase_walk.proofs.Members.{row_within, first_row, no_first_row, last
 use Rattle.phrase_walk.proofs.Ring.{ring_agrees, ring_rounds}
 use Rattle.phrase_walk.proofs.Asked.{IsAskedWithin, asked_stays, asked_moves, asked_bound}
 
--- none before a start, and none from there on before another one, is none before the other one
+-- none before a start, and none at or after it and before another one, is none before the other one
 pub none_before_on : (text : Text) (tokens : List (List ℕ)) (k s from : ℕ) → NoneBefore text tokens k s → NoneBefore text tokens s from → NoneBefore text tokens k from
 none_before_on text tokens k s from before between r ge less row =
     elim (cases_lt r s) [
@@ -27,7 +27,7 @@ none_before_on text tokens k s from before between r ge less row =
       | inr le ↦ between r le less row
     ]
 
--- where the first two tokens nowhere stand side by side before an address, no row starts before one that is not after it
+-- if the first two tokens are nowhere side by side before an address, no row starts before one that is not after it
 pub none_before_pair : (text : Text) (tokens : List (List ℕ)) (first second : List ℕ) (k s r : ℕ) → 1 < length tokens → first ≡ token_at tokens 0 → second ≡ token_at tokens 1 → s ≤ r →
     any_pair text.words first second k r ≡ false → NoneBefore text tokens k s
 none_before_pair text tokens first second k s r two is is_behind upto none = λ p ge less row.
@@ -59,11 +59,11 @@ closer_on end start turn place m agreed following few from below (inl (e, n)) =
 closer_on end start turn place m agreed following few from below (inr (e, n)) =
     closer (end - start) (end - (place - turn)) m agreed following few (omega (arith, n, few)) (omega (arith, n)) (inr (omega (arith, e, from, below)))
 
--- how many places of a token a walk from k on has left behind: from its place in the row from k on and before its place in the row from s on
+-- how many places of a token a walk from k has left behind: those from its place in the row at k up to before its place in the row at s
 abbrev pub passed_upto : Text → List (List ℕ) → ℕ → ℕ → ℕ → ℕ
 passed_upto text tokens k s i = places_between text.words (token_at tokens i) (k + i) (s + i)
 
--- the tokens in order, asked from k on up to here for the row from s on
+-- the tokens in order, asked from k up to here for the row that starts at s
 abbrev pub IsAskedForward : (text : Text) (tokens : List (List ℕ)) (k turn agreed s most old now : ℕ) → Type 0
 IsAskedForward text tokens k turn agreed s most old now = IsAskedWithin (length tokens) turn agreed (passed_upto text tokens k s) (IsInPlace text tokens s) most old now
 
@@ -71,7 +71,7 @@ IsAskedForward text tokens k turn agreed s most old now = IsAskedWithin (length 
 abbrev pub from_last : List (List ℕ) → ℕ → ℕ
 from_last tokens turn = length tokens - 1 - turn
 
--- how many places of that token lie after its place in the row from s on
+-- how many places of that token lie after its place in the row that starts at s
 abbrev pub passed_downto : Text → List (List ℕ) → ℕ → ℕ → ℕ
 passed_downto text tokens s i =
     length (places text.words (token_at tokens (from_last tokens i))) - places_before text.words (token_at tokens (from_last tokens i)) (s + from_last tokens i + 1)
@@ -88,7 +88,7 @@ closer_back start place at m agreed following few room upto (inr (e, n)) =
     closer start (place - at) m agreed following few (omega (arith, n, few)) (omega (arith, n)) (inr (omega (arith, e, room, upto)))
 
 module _ (text : Text) (tokens : List (List ℕ)) (sound : IsText text) (some : 1 ≤ length tokens) where
-  -- no row starts before the one in which the token stands at its next place, from a start on before which none does
+  -- no row starts before the one in which the token is at its next place, looked up for a start before which no row starts
   pub leads_to_next : (s from i q : ℕ) → i < length tokens → s ≤ from → NoneBefore text tokens s from → Some q ≡ next_place text.words (token_at tokens i) (from + i) → LeadsTo text tokens i s q
   leads_to_next s from i q lt ahead before is =
       let n = next_tells text (token_at tokens i) sound (from + i) q (sym is) in
@@ -106,7 +106,7 @@ module _ (text : Text) (tokens : List (List ℕ)) (sound : IsText text) (some : 
             ];
       }
 
-  -- where it has none, no row starts
+  -- if it has none, no row starts
   pub none_from_next : (s from i : ℕ) → i < length tokens → NoneBefore text tokens s from → None ≡ next_place text.words (token_at tokens i) (from + i) → NoneFrom text tokens s
   none_from_next s from i lt before is = λ r ge row.
       elim (cases_lt r from) [
@@ -114,7 +114,7 @@ module _ (text : Text) (tokens : List (List ℕ)) (sound : IsText text) (some : 
         | inr on ↦ none_next text (token_at tokens i) sound (from + i) (sym is) (r + i) (row_place text tokens r i lt row) (omega (arith, on))
       ]
 
-  -- a token that stands in its place leads to there
+  -- a token that is in its place leads to there
   pub leads_to_place : (s from i : ℕ) → i < length tokens → s ≤ from → NoneBefore text tokens s from → IsInPlace text tokens from i → LeadsTo text tokens i s (from + i)
   leads_to_place s from i lt ahead before held =
       let back : from ≡ from + i - i = omega arith in
@@ -139,7 +139,7 @@ module _ (text : Text) (tokens : List (List ℕ)) (sound : IsText text) (some : 
       let below : r + length tokens ≤ text.next = (row_within text sound tokens r some row).1 in
       omega (arith, below, ge, past, some)))
 
-  -- the token stands in its place of a row that does not start before the one that was reached
+  -- the token is in its place of a row that does not start before the one that was reached
   module _ (k turn agreed s most old now after q : ℕ) (few : agreed < length tokens) (step : after ≤ now + most) (start : k ≤ s) (above : s + turn ≤ q) (held : Held text (token_at tokens turn) q) where
     held_next : (t : ℕ) → q - turn ≡ t → IsInPlace text tokens t turn
     held_next t e =
@@ -167,7 +167,7 @@ module _ (text : Text) (tokens : List (List ℕ)) (sound : IsText text) (some : 
   forward_on k turn agreed following s most old now after q few step start above held (inr (moved, n)) asked =
       subst (λ f. IsAskedForward text tokens k (turn + 1) f (q - turn) most old after) (sym n) (forward_moves k turn agreed s most old now after q few step start above held moved asked)
 
-  -- where each token agreed, this is the first row
+  -- if each token agreed, this is the first row
   pub forward_found : (k s turn most old now : ℕ) → turn ≤ length tokens → k ≤ s → NoneBefore text tokens k s → IsAskedForward text tokens k turn (length tokens) s most old now →
       Some (extent s (s + (length tokens - 1))) ≡ first_start (concordance text (phrase tokens)) k
   forward_found k s turn most old now within from before asked =
@@ -214,7 +214,7 @@ module _ (text : Text) (tokens : List (List ℕ)) (sound : IsText text) (some : 
   row_upto s i q r lt is upto row =
       (previous_tells text (token_at tokens i) sound (s + i) q (sym is)).greatest (r + i) (row_place text tokens r i lt row) (omega (arith, upto))
 
-  -- no row starts after the one in which the token stands at its previous place
+  -- no row starts after the one in which the token is at its previous place
   pub none_behind_previous : (k s i q : ℕ) → i < length tokens → Some q ≡ previous_place text.words (token_at tokens i) (s + i) → NoneBehind text tokens k s → NoneBehind text tokens k (q - i)
   none_behind_previous k s i q lt is behind r more le row =
       elim (cases_lt s r) [
@@ -294,7 +294,7 @@ module _ (text : Text) (tokens : List (List ℕ)) (sound : IsText text) (some : 
   backward_on turn agreed following s most old now after q few step is room (inr (moved, n)) asked =
       subst (λ f. IsAskedBackward text tokens (turn + 1) f (q - from_last tokens turn) most old after) (sym n) (backward_moves turn agreed s most old now after q few step is room moved asked)
 
-  -- where each token agreed, this is the last row
+  -- if each token agreed, this is the last row
   pub backward_found : (k s turn most old now : ℕ) → turn ≤ length tokens → s ≤ k → NoneBehind text tokens k s → IsAskedBackward text tokens turn (length tokens) s most old now →
       Some (extent s (s + (length tokens - 1))) ≡ last_start (concordance text (phrase tokens)) k
   backward_found k s turn most old now within upto behind asked =

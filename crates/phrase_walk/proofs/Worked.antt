@@ -22,7 +22,7 @@ rounds_cost-rare = refl
 rounds_cost-absent : rounds_cost hamlet 32 (codes "to" ∷ codes "do" ∷ []) ≡ 64
 rounds_cost-absent = refl
 
--- "be" stands at 1 and 5, and "to" at 0 and 4: in a walk for "to be" from 1 on, which finds (4, 5), each is passed once
+-- "be" is at 1 and 5, and "to" at 0 and 4: in a walk for "to be" at or after 1, which finds (4, 5), each is passed once
 fewest_between-on : fewest_between hamlet (codes "to" ∷ codes "be" ∷ []) 1 5 ≡ 1
 fewest_between-on = refl
 

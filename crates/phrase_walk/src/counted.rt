@@ -9,8 +9,8 @@ ghost use Rattle.phrase_walk.specs.Rounds.{rounds_cost, passed_cost};
 use crate::walks::{first_from, last_upto};
 use gcl_model::{CountedLeaves, Interval, TokenList};
 
-/// The first interval of the phrase that starts at or after `k`, looked up on the caller's counter. It stops where a look-up is refused,
-/// and so do the other three.
+/// The first interval of the phrase that starts at or after `k`, looked up on the caller's counter. It stops if a look-up is refused, and
+/// so do the other three.
 pub fn counted_first_start<C: CountedLeaves>(
     tokens: &TokenList,
     source: &C,

@@ -9,7 +9,7 @@ ghost use Rattle.phrase_walk.specs.Starts.{IsRow, is_one_word, token_at};
 use crate::counted::counted_first_start;
 use gcl_model::{CountedLeaves, Interval, TokenList};
 
-/// Whether the phrase is one word again and again, as "ha ha ha" is.
+/// Whether the phrase repeats one word, as "ha ha ha" does.
 pub fn has_one_word(tokens: &TokenList) -> bool
     requires { 1 ≤ length tokens.now }
     ensures { result ≡ is_one_word tokens.now }
@@ -30,10 +30,10 @@ fn first_word(tokens: &TokenList) -> &[u8]
     tokens.as_slice()[0].as_slice()
 }
 
-/// The first row that starts behind this one, of a phrase that is one word again and again: where the row goes on by one address, that is
-/// all that is looked at, since the others are known.
+/// The first row that starts after the start of this one, of a phrase that repeats one word: if the row goes on by one address, only that
+/// address is looked at, since the others are known.
 ///
-/// Of `ha ha ha ha` the row of "ha ha ha" behind (0, 2) is (1, 3). It stops where a look-up is refused.
+/// In `ha ha ha ha` the row of "ha ha ha" after (0, 2) is (1, 3). It stops if a look-up is refused.
 pub fn counted_next_row<C: CountedLeaves>(
     tokens: &TokenList,
     source: &C,

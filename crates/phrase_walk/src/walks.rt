@@ -9,8 +9,8 @@ ghost use Rattle.phrase_walk.specs.Starts.{IsFollowed, IsInPlace, LeadsTo, NoneB
 
 use gcl_model::{Bytes, CountedLeaves, Interval, Pair};
 
-/// The first row of the tokens that starts at or after `k`. The walk stops where a look-up is refused.
-// The tokens are asked in a ring, each for its place in the row from the nearest start that is left: so the walk goes as far as the
+/// The first row of the tokens that starts at or after `k`. The walk stops if a look-up is refused.
+// The tokens are asked in a ring, each for its place in the row from the nearest start that is left. So the walk goes as far as the
 // rarest of them lets it, whichever that is, and ends as soon as all agree.
 pub(crate) fn first_from<C: CountedLeaves>(
     tokens: &[Bytes],
@@ -41,7 +41,7 @@ pub(crate) fn first_from<C: CountedLeaves>(
         let Some(found) = next_token(tokens, source, turn, start, stands, counter)? else {
             return Ok(None);
         };
-        // No row starts before this: its token would stand before the place.
+        // No row starts before this: its token would be before the place.
         let earliest = found.place - turn as u64;
         agreed = if earliest == start { agreed + 1 } else { 1 };
         start = earliest;
@@ -51,15 +51,15 @@ pub(crate) fn first_from<C: CountedLeaves>(
     Ok(Some(Interval::new(start, start + (len as u64 - 1))))
 }
 
-/// A place of a token, and whether the one that comes after it in the row is known to stand right after it.
+/// A place of a token, and whether the next token of the row is known to be right after it.
 #[derive(Drop)]
 struct Found {
     place: u64,
     followed: bool,
 }
 
-/// A place of the token at this turn such that no row starts from `start` on before its token stands there. A token of which it is known
-/// that it `stands` in its place, and the first two where they are known to stand side by side, are not looked up.
+/// A place of the token at this turn such that no row that starts at or after `start` has its token before that place. A token that is
+/// known to be in its place (`stands`) is not looked up, and neither are the first two if they are known to be side by side.
 fn next_token<C: CountedLeaves>(
     tokens: &[Bytes],
     source: &C,
@@ -102,8 +102,9 @@ fn next_token<C: CountedLeaves>(
     }))
 }
 
-/// A start from this one on before which no row starts. At the first token's turn it is a later one where the source tells, without a
-/// look-up, that the second token does not stand right after the first one before it. Where it does there, a pair is found.
+/// A start at or after this one: no row starts at or after this one and before it. At the first token's turn it is a later one if the
+/// source shows, without a look-up, that the second token is nowhere right after the first before it. If it is known to be so there, a
+/// pair is found.
 fn earliest_start<C: CountedLeaves>(tokens: &[Bytes], source: &C, turn: usize, start: u64) -> Pair
     requires { start < (C.text source.now).next }
     ensures from { start ≤ result.at }
@@ -118,7 +119,7 @@ fn earliest_start<C: CountedLeaves>(tokens: &[Bytes], source: &C, turn: usize, s
             found: false,
         };
     }
-    // the span tells that the text is one, so a pair lies within it
+    // the contract of `span` gives that the text is sound, so a pair lies within it
     let span = source.span();
     let pair = source.earliest_pair(tokens[0].as_slice(), tokens[1].as_slice(), start);
     if pair.found {
@@ -130,7 +131,7 @@ fn earliest_start<C: CountedLeaves>(tokens: &[Bytes], source: &C, turn: usize, s
     }
 }
 
-/// The last row of the tokens that starts at or before `k`. The walk stops where a look-up is refused.
+/// The last row of the tokens that starts at or before `k`. The walk stops if a look-up is refused.
 pub(crate) fn last_upto<C: CountedLeaves>(
     tokens: &[Bytes],
     source: &C,

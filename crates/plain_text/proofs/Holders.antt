@@ -17,7 +17,7 @@ skip_first w ws token k lt =
       | inr f ↦ rw f refl
     ]
 
--- where all stand from k on, the first holder is the next one
+-- if all are at or after k, the first holder is the next one
 next_of_all : (next low : ℕ) (words : List Word) (token : List ℕ) (k : ℕ) → AreRisingBelow next low words → k ≤ low → next_place words token k ≡ first_holder words token
 next_of_all next low [] token k r le = refl
 next_of_all next low (w ∷ ws) token k r le =
@@ -91,7 +91,7 @@ last_earlier (w ∷ ws) zero a t token is other = let e : w ≡ word a t = cc in
 last_earlier (w ∷ ws) (suc i) a t token is other =
     last_holder-cons w (take (suc i) ws) token ∙ ap (λ o. later_or o (last_holder (w ∷ []) token)) (last_earlier ws i a t token is other) ∙ sym (last_holder-cons w (take i ws) token)
 
--- the word at a place is the token at an address, or those after it tell
+-- the word at a place is the token at an address, or the words after it decide
 pub holds_here : (words : List Word) (i a : ℕ) (t token : List ℕ) (p : ℕ) → slice_get words i ≡ Some (word a t) → is_word token p (word a t) ≡ true → holds (drop i words) token p ≡ true
 holds_here [] i a t token p is same = absurd cc
 holds_here (w ∷ ws) zero a t token p is same = let e : w ≡ word a t = cc in rw (e, same) refl

@@ -42,7 +42,7 @@ least_answer text first next test passing read r p q given same h =
     equal_list r (minimal read) (extents_where text (is_minimal text test))
     (ap minimal (same ∙ given ∙ ap (λ n. filter test (all_extents n next)) p ∙ ap (λ n. filter test (all_extents text.first n)) q) ∙ sym (minimal_list text test)) h
 
--- a chain: its operands stand in v, and their lists are given by a slice and read through another
+-- a chain: its operands are in v, and their lists are given by a slice and read through another
 module _ (text : Text) (e : Expr) (v : Vec Expr Global) (exprs : List Expr) (lists read : List (List Extent)) (r : Result (List Extent) AllocError)
     (at : exprs ≡ v.items) (given : lists ≡ operands text (forms_from (map form_of exprs))) (same : read ≡ lists) where
   of_operands : read ≡ operands text (forms_from (map form_of v.items))

@@ -1,4 +1,4 @@
--- A word after all others keeps them rising, and tokens stand one after another.
+-- A word after all others keeps them rising, and tokens are one after another.
 use Rattle.std.proofs.Common.{◌≡◌, ℕ, zero, suc, ◌+◌, ◌<◌, ◌≤◌, List, [], ◌∷◌, ◌++◌, length, take, slice_get, Some, ap, sym, subst, ◌∙◌, arith}
 use Rattle.gcl_model.specs.Texts.{Word, Text, IsText, AreRisingBelow}
 use Rattle.gcl_model.specs.Collections.{words_from}
@@ -19,7 +19,7 @@ sound_put text address token sound ge lt below = record {
   rising = rising_put text.next text.first text.words (word address token) sound.rising ge lt below;
 }
 
--- the words so far stand before the next address
+-- the words so far are before the next address
 pub are_below : (p : ℕ) (tokens : List (List ℕ)) (i q : ℕ) → p + i ≤ q → AreBelow q (words_from p (take i tokens))
 are_below p [] zero q le = tt
 are_below p [] (suc i) q le = tt

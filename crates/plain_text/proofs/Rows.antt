@@ -5,11 +5,11 @@ use Rattle.std.proofs.lemmas.List.{append_assoc}
 use Rattle.std.proofs.lemmas.List.Elements.{filter-append}
 use Rattle.gcl_model.specs.Extents.{Extent, extent}
 
--- the pairs that start at p and end from q on
+-- the pairs that start at p and end at or after q
 abbrev pub row : (Extent → Bool) → ℕ → ℕ → ℕ → List Extent
 row test p q next = filter test (map (λ q. extent p q) (range_with_len q (next - q)))
 
--- the pairs that start from p on
+-- the pairs that start at or after p
 abbrev pub rows : (Extent → Bool) → ℕ → ℕ → List Extent
 rows test p next = filter test (flat_map (λ p. map (λ q. extent p q) (range_with_len p (next - p))) (range_with_len p (next - p)))
 

@@ -4,7 +4,7 @@ use Rattle.gcl_model.specs.Texts.{Word, IsText}
 use Rattle.plain_text.specs.declared.entry.Entry.{Entry}
 use Rattle.plain_text.specs.Puts.{word}
 
--- Each entry has an address and the bytes from the end of the one before up to its own end: of the bytes "tobe" and entries that end at
+-- each entry has an address and the bytes from the end of the entry before up to its own end: of the bytes "tobe" and entries that end at
 -- 2 and 4 the words are `to` and `be`
 abbrev pub words_in : List ℕ → ℕ → List Entry → List Word
 words_in bytes start [] = []
@@ -21,7 +21,7 @@ abbrev pub AreCuts : ℕ → ℕ → List Entry → Type 0
 AreCuts size start [] = start ≡ size
 AreCuts size start (entry ∷ entries) = (start ≤ entry.end) × AreCuts size entry.end entries
 
--- the entries cut the whole block, and stand at rising addresses of the span
+-- the entries cut the whole block, and are at rising addresses of the span
 pub record IsKept (first next : ℕ) (bytes : List ℕ) (entries : List Entry) : Type 0 where
   pub sound : IsText record { first = first; next = next; words = words_in bytes 0 entries }
   pub cuts : AreCuts (length bytes) 0 entries

@@ -1,4 +1,4 @@
--- For proofs alone: the first and the last of some words that is a token.
+-- For proofs alone: the first and the last of some words that are a token.
 use Rattle.std.specs.Prelude.{ℕ, List, bytes_eq, find, Option}
 use Rattle.std.specs.Option.{option_map}
 use Rattle.gcl_model.specs.Access.{find_last}

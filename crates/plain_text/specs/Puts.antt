@@ -8,14 +8,14 @@ use Rattle.gcl_model.specs.Collections.{words_from}
 abbrev pub word : ℕ → List ℕ → Word
 word address token = record { address = address; token = token }
 
--- every word stands before the address
+-- every word is before the address
 abbrev pub AreBelow : ℕ → List Word → Type 0
 AreBelow address words = AllByRecursion (λ w. w.address < address) words
 
--- the text with one word more
+-- the text with one more word
 abbrev pub with_word : Text → ℕ → List ℕ → Text
 with_word text address token = record text { words = text.words ++ word address token ∷ [] }
 
--- the tokens at consecutive addresses from the first on, with exactly these addresses
+-- the text of the tokens at consecutive addresses, starting at `first`, with exactly these addresses
 abbrev pub text_from : ℕ → List (List ℕ) → Text
 text_from first tokens = record { first = first; next = first + length tokens; words = words_from first tokens }

@@ -27,7 +27,7 @@ fn is_word(at: u64, bytes: &[u8], token: &[u8], address: u64) -> bool
     at == address && bytes == token
 }
 
-/// Whether the tokens stand in a row from the address on.
+/// Whether the tokens are in a row that starts at the address.
 fn holds_in_row(text: &PlainText, tokens: &[Bytes], start: u64) -> bool
     requires { start + length tokens.now ≤ 2 ^ 64 }
     ensures { result ≡ holds_in_row text.now.words tokens.now start }

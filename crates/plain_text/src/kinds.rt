@@ -22,7 +22,7 @@ impl PairTest for IsTerm<'_> {
     }
 }
 
-/// As many addresses as tokens, which hold them.
+/// As many addresses as tokens, which hold the tokens in order.
 #[derive(Drop)]
 pub(crate) struct IsPhrase<'a> {
     pub text: &'a PlainText,

@@ -37,7 +37,7 @@ impl Leaves for PlainText {
     }
 }
 
-/// Where the term first stands among the words from place `start` on.
+/// The address of the first word from place `start` that is the term.
 fn first_from(text: &PlainText, start: usize, term: &[u8]) -> Option<u64>
     ensures { result ≡ first_holder (drop start text.now.words) term.now }
 {
@@ -50,7 +50,7 @@ fn first_from(text: &PlainText, start: usize, term: &[u8]) -> Option<u64>
     None
 }
 
-/// Where the term last stands among the words before place `end`.
+/// The address of the last word before place `end` that is the term.
 fn last_below(text: &PlainText, end: usize, term: &[u8]) -> Option<u64>
     requires { end ≤ length text.now.words }
     ensures { result ≡ last_holder (take end text.now.words) term.now }

@@ -1,10 +1,10 @@
-ghost use Rattle.std.specs.Prelude.{◌≡◌, ◌&&◌, ◌||◌, not};
+ghost use Rattle.std.specs.Prelude.{◌≡◌, ◌&&◌, ◌||◌};
 ghost use Rattle.gcl_model.specs.Extents.{is_nested, same_extent, covers, is_inside, contains_extent, is_least};
 ghost use Rattle.gcl_model.specs.Meaning.{all_cover, any_contains, is_width};
 
 use gcl_model::{Interval, IntervalList};
 
-/// Whether the one lies within the other.
+/// Whether `inner` lies within `outer`.
 pub(crate) fn is_nested(inner: Interval, outer: Interval) -> bool
     ensures { result ≡ is_nested inner outer }
 {
@@ -44,7 +44,7 @@ pub(crate) fn contains(list: &[Interval], pair: Interval) -> bool
     list.iter().any(|member| is_same(*member, pair))
 }
 
-/// Whether no member but the pair itself is nested in it.
+/// Whether no member other than the pair itself is nested in it.
 pub(crate) fn is_least(list: &[Interval], pair: Interval) -> bool
     ensures { result ≡ is_least list.now pair }
 {

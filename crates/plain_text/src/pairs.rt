@@ -38,7 +38,8 @@ fn push_from<T: PairTest>(
     next: u64,
     test: &T,
 ) -> Result<(), AllocError>
-    ensures { OnOk result (list.new ≡ list.old ++ filter (T.test test.now) (map (λ q. extent start q) (range_with_len start (next - start)))) }
+    ensures { OnOk result (list.new ≡ list.old ++
+        filter (T.test test.now) (map (λ q. extent start q) (range_with_len start (next - start)))) }
 {
     for end in start..next {
         let pair = Interval::new(start, end);

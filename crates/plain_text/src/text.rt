@@ -1,6 +1,6 @@
-ghost use Rattle.std.specs.Prelude.{◌≡◌, ◌+◌, ◌<◌, ◌≤◌, [], ◌∷◌, ◌++◌, length, nat_lt, nat_le, slice_get, slice_range, Some, OnOk, OnErr};
+ghost use Rattle.std.specs.Prelude.{◌≡◌, ◌<◌, ◌≤◌, [], length, nat_lt, nat_le, slice_get, slice_range, Some, OnOk, OnErr};
 ghost use Rattle.std.specs.List.{prefix_len};
-ghost use Rattle.gcl_model.specs.Texts.{Word, IsText};
+ghost use Rattle.gcl_model.specs.Texts.{IsText};
 ghost use Rattle.plain_text.specs.Entries.{start_at};
 ghost use Rattle.plain_text.specs.Puts.{AreBelow, word, with_word};
 
@@ -29,7 +29,7 @@ impl Model for PlainText {
 }
 
 impl PlainText {
-    /// No word stands anywhere. It takes no memory.
+    /// A text without words. It takes no memory.
     pub fn new(alloc: Global, span: Span) -> Self
         ensures first { result.first ≡ span.first }
         ensures next { result.next ≡ span.next }
@@ -50,7 +50,7 @@ impl PlainText {
         ensures ok { OnOk result (self.new ≡ with_word self.old address token.now) }
         ensures err { OnErr result (self.new ≡ self.old) }
     {
-        // with room for the entry, nothing can fail once the bytes are there
+        // with room for the entry reserved, nothing can fail once the bytes are added
         self.entries.reserve(1)?;
         self.bytes.extend_from_slice(token)?;
         let end = self.bytes.as_slice().len();
@@ -75,7 +75,7 @@ impl PlainText {
         (entry.address, part(self.bytes.as_slice(), start, entry.end))
     }
 
-    /// How many words stand before address `k`.
+    /// How many words are before address `k`.
     pub(crate) fn count_before(&self, k: u64) -> usize
         ensures count { result ≡ prefix_len (λ w. nat_lt w.address k) self.now.words }
         ensures sound { IsText self.now }
@@ -87,7 +87,7 @@ impl PlainText {
         )
     }
 
-    /// How many words stand before address `k` or at it.
+    /// How many words are before address `k` or at it.
     pub(crate) fn count_upto(&self, k: u64) -> usize
         ensures count { result ≡ prefix_len (λ w. nat_le w.address k) self.now.words }
         ensures sound { IsText self.now }

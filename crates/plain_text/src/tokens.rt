@@ -6,7 +6,7 @@ use crate::text::PlainText;
 use gcl_model::{Span, TokenList};
 use std::alloc::{AllocError, Global};
 
-/// The tokens at consecutive addresses from `first` on. The span has exactly these addresses.
+/// The tokens at consecutive addresses, starting at `first`. The span has exactly these addresses.
 pub fn of_tokens(alloc: Global, first: u64, tokens: &TokenList) -> Result<PlainText, AllocError>
     requires { first + length tokens.now ≤ address_end }
     ensures { IfOk result (λ text. text ≡ text_from first tokens.now) }

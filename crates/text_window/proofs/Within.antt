@@ -43,7 +43,7 @@ within_is_text text low high is =
       rising = rising_inside text.next (within text low high).next low high text.first (within text low high).first text.words (omega arith) (omega arith) is.rising;
     }
 
--- each token stands between the two addresses where it did
+-- each token is between the two addresses where it was
 holds_inside : (low high : ℕ) (words : List Word) (token : List ℕ) (p : ℕ) → inside low high p ≡ true → holds words token p ≡ holds (filter (λ w. inside low high w.address) words) token p
 holds_inside low high [] token p at = refl
 holds_inside low high (w ∷ ws) token p at =
@@ -83,7 +83,7 @@ windows_are_parts text low high is =
       next = omega arith;
     }
 
--- places that rise, from an address on
+-- places that rise, all at or after an address
 abbrev AreRisingPlaces : ℕ → List ℕ → Type 0
 AreRisingPlaces from [] = Unit {0}
 AreRisingPlaces from (p ∷ ps) = (from ≤ p) × AreRisingPlaces (p + 1) ps
@@ -115,7 +115,7 @@ places_inside low high (w ∷ ws) token =
       | inr e ↦ elim (cases_Bool (bytes_eq w.token token)) [ inl t ↦ rw e (rw t (rw e rest)) | inr f ↦ rw e (rw f rest) ]
     ]
 
--- none lies between the two addresses where all lie above
+-- none lies between the two addresses if all lie above
 none_above : (low high from : ℕ) (test : ℕ → Bool) (ps : List ℕ) → high < from → AreRisingPlaces from ps → find test (filter (inside low high) ps) ≡ None
 none_above low high from test [] above r = refl
 none_above low high from test (p ∷ ps) above r =
@@ -125,7 +125,7 @@ none_above low high from test (p ∷ ps) above r =
       | inr e ↦ rw e (none_above low high (p + 1) test ps (omega arith) r.1)
     ]
 
--- the first one from k on is the first from k and `low` on, if that is no greater than `high`
+-- the first one at or after k is the first at or after k and `low`, if that is no greater than `high`
 first_inside : (low high k from : ℕ) (ps : List ℕ) → AreRisingPlaces from ps → find (λ p. leb k p) (filter (inside low high) ps) ≡ up_to_high (find (λ p. leb (max k low) p) ps) high
 first_inside low high k from [] r = refl
 first_inside low high k from (p ∷ ps) r =
@@ -239,7 +239,7 @@ previous_within text low high k asked token found result sound from is given =
     ∙ sym (last_inside low high k text.first (places text.words token) (places_rise text.next text.first text.words token sound.rising))
     ∙ sym (ap (find_last (λ p. leb p k)) (places_inside low high text.words token))
 
--- where no look-up is needed
+-- if no look-up is needed
 pub none_next : (text : Text) (low high k : ℕ) (token : List ℕ) → high < k → None ≡ next_place (within text low high).words token k
 none_next text low high k token above = sym (ap (find (λ p. leb k p)) (places_inside low high text.words token) ∙ none_from low high k (places text.words token) above)
 

@@ -2,7 +2,7 @@
 use Rattle.std.specs.Prelude.{ℕ, ◌+◌, ◌&&◌, cond, nat_le, filter, min, max, Option, None, Some}
 use Rattle.gcl_model.specs.Texts.{Text}
 
--- the text from `low` to `high` alone: of `to be or` at 0 to 2, that from 1 to 1 is `be`. Where the text has no address there, it is empty
+-- the text from `low` to `high` alone: of `to be or` at 0 to 2, that from 1 to 1 is `be`. If the text has no address there, it is empty
 abbrev pub within : Text → (low high : ℕ) → Text
 within text low high = record {
   first = min (max text.first low) text.next;
@@ -10,7 +10,7 @@ within text low high = record {
   words = filter (λ w. nat_le low w.address && nat_le w.address high) text.words;
 }
 
--- the place, if it is no greater than `high`: of 3 it is 3 up to 5, and none up to 2
+-- the place, if it is no greater than `high`: the place 3 is 3 up to 5, and none up to 2
 abbrev pub up_to_high : Option ℕ → ℕ → Option ℕ
 up_to_high None high = None
 up_to_high (Some p) high = cond (nat_le p high) (Some p) None

@@ -1,9 +1,9 @@
-ghost use Rattle.std.specs.Prelude.{◌≡◌, ◌+◌, ◌*◌, ◌≤◌};
+ghost use Rattle.std.specs.Prelude.{◌≡◌};
 ghost use Rattle.text_window.specs.Within.{from_low, up_to_high};
 
 use gcl_model::{Leaves, Ledger, Span, Steps};
 
-/// The words of some leaves from address `low` to address `high` alone. Where `high` is below `low`, there are none.
+/// The words of some leaves from address `low` to address `high` alone. If `high` is below `low`, there are none.
 #[derive(Drop)]
 pub struct Window<'a, L: Leaves> {
     leaves: &'a L,
@@ -31,7 +31,7 @@ impl<L: Leaves> Leaves for Window<'_, L> {
 
     #[inline]
     fn next<S: Ledger>(&self, term: &[u8], k: u64, steps: &mut Steps<S>) -> Option<u64> {
-        // the span tells that the words rise
+        // the contract of `span` gives that the words rise
         let _span = self.leaves.span();
         if k > self.high {
             return None;
@@ -41,7 +41,7 @@ impl<L: Leaves> Leaves for Window<'_, L> {
 
     #[inline]
     fn prev<S: Ledger>(&self, term: &[u8], k: u64, steps: &mut Steps<S>) -> Option<u64> {
-        // the span tells that the words rise
+        // the contract of `span` gives that the words rise
         let _span = self.leaves.span();
         if k < self.low {
             return None;
@@ -60,7 +60,7 @@ impl<L: Leaves> Leaves for Window<'_, L> {
     }
 }
 
-/// The place, where it is no greater than `high`.
+/// The place, if it is no greater than `high`.
 #[inline]
 fn up_to_high(found: Option<u64>, high: u64) -> Option<u64>
     ensures { result ≡ up_to_high found high }
@@ -71,7 +71,7 @@ fn up_to_high(found: Option<u64>, high: u64) -> Option<u64>
     }
 }
 
-/// The place, where it is no less than `low`.
+/// The place, if it is no less than `low`.
 #[inline]
 fn from_low(found: Option<u64>, low: u64) -> Option<u64>
     ensures { result ≡ from_low found low }

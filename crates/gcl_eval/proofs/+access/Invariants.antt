@@ -60,7 +60,7 @@ invariant-chains::walk-loop-operand g l =
 abbrev pub decreases-chains::walk-loop-operand : goal.decreases-chains::walk-loop-operand
 decreases-chains::walk-loop-operand g l = length l.rest
 
--- what the loop gives from the member on is the answer; each turn so far cost two accesses at most
+-- what the loop gives, starting at the member, is the answer; each turn so far cost two accesses at most
 abbrev pub invariant-containments::access_from_ahead-loop-answer : goal.invariant-containments::access_from_ahead-loop-answer
 invariant-containments::access_from_ahead-loop-answer g l =
     let text = g.C.CountedLeaves.text l.source in

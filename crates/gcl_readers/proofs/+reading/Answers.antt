@@ -906,7 +906,7 @@ reading::onward-returns-in_default-clause-onward g t c =
     = subst (λ n. c.start.result ≡ first_start (left_to (g.C.CountedLeaves.text c.args.source.now) (form_of c.args.expr.now) c.args.places.now) (n + 1)) (sym starts) c.start.ensures.answer ∙ agrees_at (concordance (g.C.CountedLeaves.text c.args.source.now) (form_of c.args.expr.now)) (start_at c.args.places.now) (c.args.member.start + 1) (omega (arith, behind)) in
     goes_to_next (concordance (g.C.CountedLeaves.text c.args.source.now) (form_of c.args.expr.now)) (concordance_rises (g.C.CountedLeaves.text c.args.source.now) (form_of c.args.expr.now)) c.args.k c.args.member has c.requires.short c.start.result is
 
--- where nothing was found
+-- if nothing was found
 pub chains::both_ends-returns-in_err-answer-clause-below : goal.chains::both_ends-returns-in_err-answer-clause-below
 chains::both_ends-returns-in_err-answer-clause-below g t c = none_if _ c.from_residual.result c.from_residual.ensures
 

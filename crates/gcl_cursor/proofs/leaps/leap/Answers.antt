@@ -1,4 +1,4 @@
-use Rattle.std.proofs.Common.{◌+◌, ◌*◌, ◌≤◌, arith}
+use Rattle.std.proofs.Common.{arith}
 use Rattle.gcl_cursor.proofs.leaps.leap.Goals as goal
 
 pub returns-in_err-members-clause-cost : goal.returns-in_err-members-clause-cost

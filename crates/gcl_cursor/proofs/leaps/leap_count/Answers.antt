@@ -1,4 +1,4 @@
-use Rattle.std.proofs.Common.{◌+◌, ◌*◌, ◌≤◌, arith}
+use Rattle.std.proofs.Common.{arith}
 use Rattle.gcl_cursor.proofs.leaps.leap_count.Goals as goal
 
 pub returns-in_default-clause-cost : goal.returns-in_default-clause-cost

@@ -11,7 +11,7 @@ overflow_add-start g c =
     let within = place_below LastEnd (g.C.CountedLeaves.text c.args.source.now) c.in_ok-found.ensures.sound c.args.first.now c.in-Some-checked_sub.behind c.in-Some-2.start (sym c.in-Some-2.is ∙ c.in_ok-start.ensures.answer) in
     omega arith
 
--- the second token stands behind it
+-- the second token is after it
 pub returns-in_default-3-clause-few : goal.returns-in_default-3-clause-few
 returns-in_default-3-clause-few g c =
     let before = (rw c.in-Some-checked_sub.is at c.checked_sub.ensures) in

@@ -7,7 +7,7 @@ use Rattle.gcl_eval.specs.KnownAnswers.{KnowsOperands}
 use Rattle.gcl_eval.specs.Members.{members_from}
 use Rattle.gcl_eval.proofs.members.members_of.Given as goal
 
--- those that were put into the list and those that are left are all members from the page's first on
+-- those that were put into the list and those that are left are all members at or after the page's first address
 abbrev pub invariant-loop-page : goal.invariant-loop-page
 invariant-loop-page g l =
     let text = g.C.CountedLeaves.text l.source in

@@ -7,7 +7,7 @@ use Rattle.gcl_readers.specs.Standing.{Stands, left_to}
 use Rattle.gcl_readers.specs.MergeCost.{cost_left}
 use Rattle.gcl_readers.proofs.listing.read_count.Given as goal
 
--- those that were met and those that are left are all from k on
+-- those that were met and those that are left are all that start at or after k
 abbrev pub invariant-loop-member : goal.invariant-loop-member
 invariant-loop-member g l =
     let text = g.L.Leaves.text l.leaves in

@@ -8,7 +8,7 @@ use Rattle.gcl_readers.specs.Reading.{behind_page}
 use Rattle.gcl_readers.specs.MergeCost.{cost_left}
 use Rattle.gcl_readers.proofs.listing.read_list_from.Given as goal
 
--- those that were put into the page and those that are left from there on are all from k on
+-- those that were put into the page and those that are left after them are all that start at or after k
 abbrev pub invariant-loop-readers : goal.invariant-loop-readers
 invariant-loop-readers g l =
     let text = g.L.Leaves.text l.leaves in

@@ -3,7 +3,7 @@ use Rattle.phrase_walk.specs.Starts.{IsInPlace}
 use Rattle.phrase_walk.proofs.Steps.{NoneBefore, IsAskedForward}
 use Rattle.phrase_walk.proofs.walks.first_from.Given as goal
 
--- no row starts from k on before here, the tokens were asked in a ring, and if it is said that the one at this turn stands in its place, it does
+-- no row starts at or after k and before here, the tokens were asked in a ring, and if the one at this turn is called in place, it is
 abbrev pub invariant-loop-agreed : goal.invariant-loop-agreed
 invariant-loop-agreed g l =
     let text = g.C.CountedLeaves.text l.source in
