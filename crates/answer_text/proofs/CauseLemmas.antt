@@ -1,4 +1,4 @@
--- What is counted where a call that puts an answer ends.
+-- What is counted when a call that puts an answer ends.
 use Rattle.std.proofs.Common.{◌≡◌, ℕ, Result, Ok, Err, refl, sym, ap, ◌∙◌, subst, arith}
 use Rattle.std.specs.Result.{IsErrAnd}
 use Rattle.outside.specs.Causes.{CountsWriteFault, HasWriteCause, Rose}

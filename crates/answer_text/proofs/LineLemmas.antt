@@ -29,7 +29,7 @@ pub parts_more : {A : Type 0} (text : List A → List ℕ) (one : List ℕ) (xs 
 parts_more text one xs i x out more all first lt is put so =
     ap (λ l. l ++ text (drop (i + 1) xs)) put ∙ append_assoc out one (text (drop (i + 1) xs)) ∙ ap (λ l. out ++ l) (sym first) ∙ ap (λ l. out ++ text l) (sym (drop_here xs i x lt is)) ∙ so
 
--- where none is left, all are put
+-- if none is left, all are put
 pub parts_all : {A : Type 0} (text : List A → List ℕ) (xs : List A) (i : ℕ) (out all : List ℕ) → text [] ≡ [] → length xs ≤ i → out ++ text (drop i xs) ≡ all → out ≡ all
 parts_all text xs i out all none le so = sym (append-nil out) ∙ ap (λ l. out ++ l) (sym none) ∙ ap (λ l. out ++ text l) (sym (drop_all i xs le)) ∙ so
 

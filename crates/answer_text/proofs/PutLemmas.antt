@@ -109,7 +109,7 @@ module _ {A : Type 0} (text : List A → List ℕ) (on : (xs ys : List A) → te
   part_so_far a b h h' list left count put =
       subst (λ l. GetsPart a b (h ++ l)) (sym (ap text put.whole ∙ on put.so_far left)) (part_on a b h (text put.so_far) (text left) (part_of_put a b h h' (text put.so_far) put.puts))
 
-  -- where no part is left, all was put
+  -- if no part is left, all was put
   pub all_put : (a b : Option (List ℕ)) (h h' : List ℕ) (list left : List A) (count : ℕ) → left ≡ [] → PutsFirst text a b h h' list left count → Puts a b h h' (text list) × (count ≡ length list)
   all_put a b h h' list left count none put =
       let whole : list ≡ put.so_far = put.whole ∙ ap (λ l. put.so_far ++ l) none ∙ append-nil put.so_far in

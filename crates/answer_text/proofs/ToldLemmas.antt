@@ -1,4 +1,4 @@
--- The lines and the text of what is told.
+-- The lines and the text of what is reported.
 use Rattle.std.proofs.Common.{◌≡◌, ℕ, ◌+◌, ◌<◌, length, drop, Bool, true, false, ◌||◌, List, [], ◌∷◌, ◌++◌, map, refl, sym, ap, ◌∙◌, append-nil, None, Some}
 use Rattle.std.specs.Prelude.{flat_map, slice_index_or, Option}
 use Rattle.std.specs.List.{list_any}
@@ -42,12 +42,12 @@ watches-plain before now [] = refl
 watches-plain before now (w ∷ live) =
     list_any-append is_refusal (watch_lines before now w) (flat_map (watch_lines before now) live) ∙ rw (told_lines-plain w.number (changes (wide before w.form) (wide now w.form)), watches-plain before now live) refl
 
--- no line that is told is a refusal
+-- no line that is reported is a refusal
 pub told-plain : (before : Option Account) (watches : WatchListContent) (now : VersionContent) → list_any is_refusal (told_since before watches now) ≡ false
 told-plain None watches now = refl
 told-plain (Some pass) watches now = watches-plain (version_text (last_of pass.history)) (version_text now) (watching_of watches).live
 
--- so a refusal is among the lines of an answer and what is told after it where it is among those of the answer
+-- so a refusal is among the lines of an answer and what is reported after it if it is among those of the answer
 pub refused_alone : (refused : Bool) (lines told : List (List ℕ)) (found : Bool) → found ≡ list_any is_refusal lines → list_any is_refusal told ≡ false →
     (refused || found) ≡ (refused || list_any is_refusal (lines ++ told))
 refused_alone refused lines told found is plain =

@@ -15,7 +15,7 @@ use Rattle.answer_text.specs.declared.action.Action.TheVariants.{Add, Delete, Op
 use Rattle.answer_text.specs.declared.answer.Answer.{Answer}
 use Rattle.answer_text.specs.declared.answer.Answer.TheVariants.{Added, Gone, Files, Merging, Slots, Saved, Opened, Watching, Unwatched, Refused}
 
--- whether it may change the collection, which the watches are told
+-- whether it may change the collection: then the watches report what changed
 abbrev pub edits : Action → Bool
 edits (Add name) = true
 edits (Delete id) = true
@@ -48,22 +48,22 @@ is_change (Saved bytes) = true
 is_change (Opened files) = true
 is_change _ = false
 
--- Before an action there is a pass of the engine's version where it may change what is watched, and only there
+-- Before an action there is a pass of the engine's version if it may change what is watched, and only if it may change the collection
 abbrev pub IsBefore : Action → EngineContent → WatchListContent → Option Account → Type 0
 IsBefore action engine watches None = (edits action ≡ false) ⊎ (watches.live ≡ [])
 IsBefore action engine watches (Some pass) = (edits action ≡ true) × EndsWith pass.history engine.version
 
--- that pass, where the answer says that the collection was changed
+-- that pass, if the answer says that something was changed
 abbrev pub since : Answer → Option Account → Option Account
 since given before = if is_change given then before else None
 
--- The texts of two versions are the same at all addresses but those that a file got, or that the file had which is gone
+-- The texts of two versions are the same at all addresses except those that a file got, or that the file which is gone had
 abbrev pub IsLocal : Answer → VersionContent → VersionContent → Type 0
 IsLocal (Added id first last) old new = AgreeOutside (version_text old) (version_text new) first last
 IsLocal (Gone id) old new =
     (file : FileEntry) → file_with_id id (files_of old.slots) ≡ Some file → AgreeOutside (version_text old) (version_text new) file.base (file.base + file.len - 1)
 IsLocal _ old new = ⊤
 
--- where it is known that two texts differ between two addresses alone, they do
+-- if it is known that two texts differ only between two addresses, they do
 abbrev pub AgreeApart : Option (ℕ × ℕ) → Text → Text → Type 0
 AgreeApart range old new = IfSome range (λ r. AgreeOutside old new r.0 r.1)

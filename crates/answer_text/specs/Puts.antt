@@ -28,7 +28,7 @@ members_text list = text_of_lines (map interval_line list)
 abbrev pub founds_text : List Found → List ℕ
 founds_text founds = text_of_lines (flat_map found_lines founds)
 
--- of a list with a text the first parts were put, this many, and the others are left
+-- the first `count` parts of a list with a text were put, and the others are left
 pub record PutsFirst {A : Type 0} (text : List A → List ℕ) (old new : Option (List ℕ)) (held held' : List ℕ) (list left : List A) (count : ℕ) : Type 0 where
   pub so_far : List A
   pub whole : list ≡ so_far ++ left

@@ -1,4 +1,4 @@
--- What is watched, and what is told of it.
+-- What is watched, and what is reported of it.
 use Rattle.std.specs.Prelude.{ℕ, List, [], flat_map, map, Option, None, Some, true, false}
 use Rattle.gcl_model.specs.Forms.{Form}
 use Rattle.gcl_model.specs.FormOf.{form_of}
@@ -42,7 +42,7 @@ told_line number (Came interval) = change_line number true interval
 abbrev pub watch_lines : Text → Text → Watched → List (List ℕ)
 watch_lines before after watch = map (told_line watch.number) (changes (wide before watch.form) (wide after watch.form))
 
--- the same of each live watch, in rising number
+-- the same for each live watch, in rising number
 abbrev pub changes_lines : Watches → Text → Text → List (List ℕ)
 changes_lines watches before after = flat_map (watch_lines before after) watches.live
 

@@ -4,7 +4,7 @@ ghost use Rattle.answer_text.specs.Given.{edits, merges};
 use gcl_model::Bytes;
 use script_lang::Refusal;
 
-/// What a line asks for that asks no query.
+/// What a line that is not a query asks for.
 #[derive(Drop)]
 pub enum Action {
     /// Adds the file of this name.
@@ -37,7 +37,7 @@ impl Action {
         matches!(self, Action::Merge)
     }
 
-    /// Whether it may change the collection, which the watches are told.
+    /// Whether it may change the collection: then the watches report what changed.
     pub fn is_edit(&self) -> bool
         ensures { result ≡ edits self.now }
     {

@@ -1,7 +1,6 @@
-//! The answer to a line that asks no query, and the text that it is put into.
+//! The answer to a line that is not a query, and its text.
 ghost use Rattle.std.specs.Prelude.{◌≡◌, ◌++◌, OnOk};
 ghost use Rattle.std.specs.List.{list_any};
-ghost use Rattle.address_space.specs.Runs.{FileEntry};
 ghost use Rattle.file_runs.specs.Records.{files_in};
 ghost use Rattle.live_version.specs.Contents.{VersionContent, files_of};
 ghost use Rattle.script_lang.specs.Answers.{is_refusal};
@@ -18,14 +17,14 @@ use script_lang::{
 };
 use std::alloc::AllocError;
 
-/// What a line that asks no query is answered.
+/// The answer to a line that is not a query.
 #[derive(Clone, Copy)]
 pub enum Answer {
     /// A file got this id and these addresses, the first and the last.
     Added(u64, u64, u64),
     /// The file with this id is gone.
     Gone(u64),
-    /// The surviving files, which stand in the version.
+    /// The surviving files, which the version has.
     Files,
     /// A merge is pending.
     Merging,
@@ -44,7 +43,8 @@ pub enum Answer {
 }
 
 impl Answer {
-    /// Whether the collection or a file was changed. Such a line is completed once that is done, and every other one once its answer is made.
+    /// Whether the collection or a file was changed. Such a line is completed once that is done, and every other line once its answer is
+    /// made.
     pub fn is_change(&self) -> bool
         ensures { result ≡ is_change self.now }
     {

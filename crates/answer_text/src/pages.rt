@@ -1,5 +1,5 @@
 //! The answers to the queries of a batch are put page by page.
-ghost use Rattle.std.specs.Prelude.{◌≡◌, ◌+◌, ◌-◌, ◌≤◌, ◌++◌, [], ℕ, flat_map, length, map, take, IfOk, OnOk, OnErr};
+ghost use Rattle.std.specs.Prelude.{◌≡◌, ◌+◌, ◌-◌, ◌≤◌, ◌++◌, [], flat_map, length, map, take, IfOk, OnOk, OnErr};
 ghost use Rattle.std.specs.List.{list_any};
 ghost use Rattle.std.specs.Io.KnownBytes.{Appends};
 ghost use Rattle.gcl_model.specs.Limits.{far};
@@ -91,7 +91,7 @@ fn put_all_members<K: Sink>(
 {
     let mut listing = listing;
     let put = put_members(alloc, sink, out, &mut listing);
-    // let go by name: at the end of its block this takes long to prove
+    // dropped by name: at the end of its block this takes long to prove
     drop(listing);
     put
 }
@@ -121,7 +121,8 @@ fn put_found<K: Sink>(
     out: &mut Vec<u8>,
     found: Found,
 ) -> Result<bool, WriteError>
-    ensures puts { OnOk result (Puts (K.written sink.old) (K.written sink.new) out.old.items out.new.items (text_of_lines (found_lines found))) }
+    ensures puts { OnOk result (Puts (K.written sink.old) (K.written sink.new) out.old.items out.new.items
+        (text_of_lines (found_lines found))) }
     ensures part { OnErr result (GetsPart (K.written sink.old) (K.written sink.new) (out.old.items ++ text_of_lines (found_lines found))) }
     ensures refusal { IfOk result (λ refusal. refusal ≡ list_any is_refusal (found_lines found)) }
     ensures cause { HasWriteCause (K.faults sink.old) (K.faults sink.new) result }

@@ -1,6 +1,5 @@
 //! What an edit changed for the watches is put after its answer.
 ghost use Rattle.std.specs.Prelude.{◌≡◌, ◌++◌, ◌∷◌, [], IfOk, IfSome, OnOk, OnErr};
-ghost use Rattle.std.specs.List.{AllByRecursion};
 ghost use Rattle.gcl_model.specs.FormOf.{form_of};
 ghost use Rattle.gcl_model.specs.WellFormed.{IsWellFormed};
 ghost use Rattle.gcl_model.specs.Wide.{wide};
@@ -43,7 +42,7 @@ pub fn pass_before(
     Ok(Some(pass))
 }
 
-/// That pass, where the answer says that the collection was changed.
+/// That pass, if the answer says that something was changed.
 pub fn since(answer: &Answer, before: Option<Pass>) -> Option<Pass>
     ensures { result ≡ since answer.now before }
 {
@@ -112,7 +111,7 @@ fn put_all_changes<K: Sink>(
 {
     let mut listing = listing;
     let put = put_listing(alloc, sink, out, number, &mut listing);
-    // let go by name: at the end of its block this takes long to prove
+    // dropped by name: at the end of its block this takes long to prove
     drop(listing);
     put
 }
@@ -220,7 +219,7 @@ fn put_watches<K: Sink>(
     Ok(())
 }
 
-/// Puts what was changed for each live watch since the version of a pass, where there is one.
+/// Puts what was changed for each live watch since the version of a pass, if there is one.
 pub fn put_changes<K: Sink>(
     alloc: Global,
     sink: &mut K,

@@ -21,14 +21,14 @@ leaps_paid each n left all le =
     let more : (n + 1 + left) * each ≤ all * each = mul-le-mul_right each le in
     omega (arith, more)
 
--- the same where the number of look-ups that each may make is known by another name
+-- the same if the number of look-ups that each may make is known by another name
 leaps_paid_by : (each other members left all steps steps' : ℕ) → each ≡ other → members + 1 + left ≤ all → steps' ≤ steps + (members + 1) * each → steps' + left * other ≤ steps + all * each
 leaps_paid_by each other members left all steps steps' same le cost =
     let paid : (members + 1) * each + left * each ≤ all * each = leaps_paid each members left all le in
     let left_same : left * each ≡ left * other = ap (λ (e : ℕ). left * e) same in
     omega (arith, paid, left_same, cost)
 
--- a page is paid by the accesses that it makes, where as many as it could make were left besides those that are left after it
+-- a page is paid by the accesses that it makes, if as many as it could make were left in addition to those that are left after it
 pub page_paid : (before after : Way) (steps steps' members most left all : ℕ) → IsAfter after before → steps' + left_of after ≤ steps + left_of before + leap_cost before members
     → members ≤ most → most + 1 + left ≤ all → steps' + look_ups_by after left ≤ steps + look_ups_by before all
 page_paid (leaping each) (leaping other) steps steps' members most left all is cost few le =
@@ -61,7 +61,7 @@ refusal_paid ended steps steps' members most left all cost few le = omega (arith
 pub nothing_paid : (after : Way) (steps steps' left : ℕ) → after ≡ ended → steps' ≡ steps → steps' + look_ups_by after left ≤ steps
 nothing_paid after steps steps' left is same = subst (λ (w : Way). steps' + look_ups_by w left ≤ steps) (sym is) (omega (arith, same))
 
--- a page that was gone over pays for the next one, which is at most twice as large, and the first page is paid at first
+-- a page whose members were passed pays for the next one, which is at most twice as large, and the first page is paid at first
 pub next_accesses : (left at size next : ℕ) → (size ≡ 0) ⊎ (2 ≤ size) → (size ≡ 0 → next ≡ 2) → (2 ≤ size → next ≤ 2 * size) → size ≤ at → 2 ≤ next
     → next + 1 + accesses_left left 0 next ≤ accesses_left left at size
 next_accesses left at size zero sized first later over some = absurd (omega arith)

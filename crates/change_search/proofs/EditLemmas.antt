@@ -13,11 +13,11 @@ use Rattle.live_version.specs.Contents.{VersionContent, files_of, live_of, versi
 use Rattle.live_version.specs.StandsFor.{StandsFor, entry_of}
 use Rattle.gcl_locality.specs.Agreement.{AgreeOutside}
 
--- p is none of so many addresses from base on
+-- p is none of the given number of addresses starting at base
 abbrev IsOutside : ℕ → ℕ → ℕ → Type 0
 IsOutside base count p = (p < base) ⊎ (base + count ≤ p)
 
--- no token stands there in a file with these addresses
+-- no token is there in a file with these addresses
 none_outside : (list : List (List ℕ)) (base p : ℕ) (token : List ℕ) → IsOutside base (length list) p → holds (words_from base list) token p ≡ false
 none_outside [] base p token out = refl
 none_outside (t ∷ list) base p token out =

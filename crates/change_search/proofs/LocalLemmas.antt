@@ -11,7 +11,7 @@ use Rattle.gcl_model.proofs.Lists.{all_weaker}
 use Rattle.near_search.specs.Contents.{starts_by}
 use Rattle.query_search.proofs.SearchLemmas.{start_before}
 
--- where all start there or before, they are all of them
+-- if all start there or before, they are all of them
 all_start : (high : ℕ) (list : List Extent) → AllByRecursion (λ (a : Extent). a.start ≤ high) list → take_while (starts_by high) list ≡ list
 all_start high [] all = refl
 all_start high (x ∷ list) all =

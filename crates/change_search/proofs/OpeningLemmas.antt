@@ -1,4 +1,4 @@
--- What is gone over of an expansion is what is gone over of the expression.
+-- The members of an expansion that are compared are those of the expression.
 use Rattle.std.proofs.Common.{◌≡◌, ℕ, Bool, List, length, filter, ap, ◌∙◌}
 use Rattle.gcl_locality.specs.Changed.{touches}
 use Rattle.gcl_model.specs.Extents.{Extent}

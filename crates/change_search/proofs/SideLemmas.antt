@@ -27,7 +27,7 @@ pub past_first : (test : Extent → Bool) (page rest : List Extent) (at : ℕ) �
     → take_while test (drop (at + 1) page ++ rest) ≡ drop 1 (take_while test (drop at page ++ rest))
 past_first test page rest at lt some = ap (λ (l : List Extent). take_while test l) (past page rest at lt) ∙ taken_past test (drop at page ++ rest) some
 
--- the member at a place of the page is the first one, if there is one
+-- the member at a place of the page is the first, if there is one
 module _ (test : Extent → Bool) (page rest list : List Extent) (at : ℕ) (m : Extent) (lt : at < length page) (is : m ≡ slice_index_or page at m) (same : drop at page ++ rest ≡ list) where
   here : list ≡ m ∷ (drop (at + 1) page ++ rest)
   here = sym same ∙ ap (λ (l : List Extent). l ++ rest) (drop_here page at m lt is)

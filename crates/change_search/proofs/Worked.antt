@@ -1,4 +1,4 @@
--- What going over members costs, computed.
+-- What finding members costs, computed.
 use Rattle.std.specs.Prelude.{◌≡◌, ◌*◌, false, true, refl, codes}
 use Rattle.gcl_model.specs.Forms.{term}
 use Rattle.gcl_model.specs.Limits.{most_slots}
@@ -6,7 +6,7 @@ use Rattle.gcl_model.specs.Slots.{slot_range}
 use Rattle.live_version.specs.Changes.{empty_version}
 use Rattle.change_search.specs.Costs.{change_cost, near_listing_cost, paged_accesses}
 
--- where no member touches the addresses, it is looked for a page alone: 2 members, and that no more are wanted
+-- if no member touches the addresses, only one page is looked for: 2 members, and that no more are needed
 none_is_touched : paged_accesses 0 ≡ 3
 none_is_touched = refl
 
@@ -17,6 +17,6 @@ two_are_touched = refl
 over_no_words : change_cost (empty_version 0) (empty_version 0) (slot_range 0 0) false false (term (codes "be")) ≡ 8 * most_slots
 over_no_words = refl
 
--- where readers find the members there, two accesses find the window, and one more that there is no word in it
+-- if readers find the members there, two accesses find the window, and one more that there is no word in it
 read_no_words : near_listing_cost (empty_version 0) 0 0 (term (codes "be")) true 0 ≡ 3 * most_slots
 read_no_words = refl

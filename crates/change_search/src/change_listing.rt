@@ -18,7 +18,7 @@ use std::marker::{Brand, Model};
 use std::sync::ledger;
 use std::sync::ledger::Blank;
 
-/// A `CountedListing` for whoever has no counter of look-ups. Contracts see the changes that are still to come.
+/// A `CountedListing` for a caller without a counter of look-ups. Contracts see the changes that are still to come.
 #[derive(Drop)]
 pub struct ChangeListing {
     listing: CountedListing,
@@ -34,7 +34,7 @@ impl Model for ChangeListing {
 }
 
 impl ChangeListing {
-    /// The changes between the versions of two passes. `Err` is out of memory.
+    /// The changes between the versions of two passes. `Err` means out of memory.
     pub fn of(
         alloc: Global,
         before: Pass,
@@ -49,12 +49,11 @@ impl ChangeListing {
         Ok(ChangeListing { listing })
     }
 
-    /// The same of two versions whose texts differ between two addresses alone, as they do before and after a file with these addresses
-    /// is added, or deleted. Only the members are looked for that lie near these addresses: between them, but for `<` and `/<`, where
-    /// what contains a member may reach further. Where one access may take longer than that, whole lists are gone through. `Err` is out of
-    /// memory.
+    /// The same for two versions whose texts differ only between two addresses, as they do before and after a file with these addresses is
+    /// added, or deleted. Only members near these addresses are looked for: between them, except for `<` and `/<`, where what contains a
+    /// member may reach further. If one access may take longer than that, whole lists are compared. `Err` means out of memory.
     ///
-    /// With a file `x` that is added at 8 to 10 behind `to be or not to be`, those of `"be" /< ("to".."x")` are that 6 to 6 went.
+    /// If a file `x` is added at 8 to 10 after `to be or not to be`, the one change of `"be" /< ("to".."x")` is that 6 to 6 went.
     pub fn between(
         alloc: Global,
         before: Pass,
@@ -79,9 +78,9 @@ impl ChangeListing {
         Ok(ChangeListing { listing })
     }
 
-    /// The next change. None comes where none is left. `Err` is out of memory, and then the same one can be asked for again.
+    /// The next change, or None if none is left. `Err` means out of memory, and then the same one can be asked for again.
     ///
-    /// Between `to be or not to be` and no file, those of `"or"` are that 3 to 3 went, and then none.
+    /// Between `to be or not to be` and no file, the first change of `"or"` is that 3 to 3 went, and then comes None.
     pub fn next(&mut self, alloc: Global) -> Result<Option<Change>, AllocError>
         ensures some { IfOk result (λ next. IfSome next (λ change. self.old ≡ change ∷ self.new)) }
         ensures none { IfOk result (λ next. IsNone next → self.old ≡ []) }

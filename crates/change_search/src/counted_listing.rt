@@ -29,7 +29,7 @@ use std::sync::Arc;
 use wide_terms::expansions_are_wide;
 
 /// What an edit changed of the list of a query, change by change: intervals that went and that came, in rising start and then in rising
-/// end. It keeps a page of each of the two lists, however long they are. Contracts see the changes that are still to come, how many
+/// end. It keeps one page of each of the two lists, however long they are. Contracts see the changes that are still to come, how many
 /// look-ups may be made for them, and whether readers find the members of either list.
 #[derive(Drop)]
 pub struct CountedListing {
@@ -91,8 +91,8 @@ fn whole_over<S: Ledger>(
     whole_side(alloc, pass, expanded)
 }
 
-/// The members over the version of a pass that touch the addresses: from the first one that ends at the lower address or later, which one
-/// access finds, to the last one that starts at the upper address or before.
+/// The members over the version of a pass that touch the addresses: from the first that ends at or after the lower address, which one
+/// access finds, to the last that starts at or before the upper address.
 fn near_side<S: Ledger>(
     alloc: Global,
     pass: Pass,
@@ -154,7 +154,7 @@ fn within<S: Ledger>(
 }
 
 impl CountedListing {
-    /// The changes between the versions of two passes. `Err` is out of memory.
+    /// The changes between the versions of two passes. `Err` means out of memory.
     pub fn of<S: Ledger>(
         alloc: Global,
         before: Pass,
@@ -176,14 +176,14 @@ impl CountedListing {
         Ok(CountedListing { before, after })
     }
 
-    /// The same of two versions whose texts differ at the addresses of an edit alone, as they do before and after the file there is
-    /// added, or deleted. Only the members are looked for that touch the two addresses of the expression: these are the addresses of the
-    /// edit, but for `<` and `/<`, where what contains a member may reach further. The look-ups follow from what lies there, however long
-    /// the lists are: where accesses find the members, so many for each of these and for each operator. Where readers find them, which
-    /// are taken for a query for which accesses may ask again and again what they have asked before, they go over the window of the
-    /// expression alone: the words that tell which members touch the addresses. `Err` is out of memory.
+    /// The same for two versions whose texts differ only at the addresses of an edit, as they do before and after the file there is
+    /// added, or deleted. Only members that touch the two addresses of the expression are looked for: these are the addresses of the
+    /// edit, except for `<` and `/<`, where what contains a member may reach further. The look-ups follow from what lies there, however
+    /// long the lists are: if accesses find the members, a certain number for each of these and for each operator. Readers find the
+    /// members of a query for which accesses may ask again and again what they have asked before; they read only the window of the
+    /// expression: the words that determine which members touch the addresses. `Err` means out of memory.
     ///
-    /// With a file `x` that is added at 8 to 10 behind `to be or not to be`, those of `"be" /< ("to".."x")` are that 6 to 6 went.
+    /// If a file `x` is added at 8 to 10 after `to be or not to be`, the one change of `"be" /< ("to".."x")` is that 6 to 6 went.
     pub fn between<S: Ledger>(
         alloc: Global,
         before: Pass,
@@ -212,10 +212,10 @@ impl CountedListing {
         within(alloc, before, old_expr, after, new_expr, addresses, steps)
     }
 
-    /// The next change. None comes where none is left. `Err` is out of memory, and then the same one can be asked for again: what was
-    /// asked for it in vain is asked again, and readers are given up.
+    /// The next change, or None if none is left. `Err` means out of memory, and then the same one can be asked for again: what was
+    /// asked for it in vain is asked again, and readers are dropped.
     ///
-    /// Between `to be or not to be` and no file, those of `"or"` are that 3 to 3 went, and then none.
+    /// Between `to be or not to be` and no file, the first change of `"or"` is that 3 to 3 went, and then comes None.
     pub fn next<S: Ledger>(
         &mut self,
         alloc: Global,

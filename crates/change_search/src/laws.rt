@@ -1,7 +1,7 @@
 ghost use Rattle.change_search.specs.Laws.{AddsAgree, DeletesAgree};
 
-/// The texts of two versions differ within the addresses of the file alone that was added, or deleted, between them: so
-/// `ChangeListing::between` may be asked with these.
+/// The texts of two versions differ only within the addresses of the file that was added, or deleted, between them: so
+/// `ChangeListing::between` may be called with these.
 pub fn edits_agree()
     ensures added { AddsAgree }
     ensures deleted { DeletesAgree }

@@ -5,14 +5,13 @@
 //! needs neither of the two lists.
 //!
 //! A `CountedListing` goes through both lists side by side, a page of each at a time, and leaves out what is in both. `of` goes through
-//! whole lists. `between` is told the addresses of an edit, outside of which nothing changed, and goes through the members near them
-//! alone: it gives the same changes, and its clause says at which cost (`change_cost`), that of what lies there, however long the lists
-//! are: where readers find the members and not accesses, they go over the window of the expression alone, and not over whole lists. A
-//! `ChangeListing` is the same for whoever has no counter. `edits_agree` says that these are the addresses of the file that was added, or
-//! deleted.
+//! whole lists. `between` gets the addresses of an edit, outside of which nothing changed, and goes through only the members near them:
+//! it gives the same changes, and its clause states the cost (`change_cost`), that of what lies there, however long the lists are: if
+//! readers find the members instead of accesses, they read only the window of the expression, not whole lists. A `ChangeListing` is the
+//! same for a caller without a counter. `edits_agree` says that these are the addresses of the file that was added, or deleted.
 //!
-//! Between no file at all and the file `to be or not to be` from address 0 on, `"to".."be"` has two changes: 1 to 2 came, and 5 to 6 came.
-//! With a file `x` behind it, at 8 to 10, `"be" /< ("to".."x")` has one: 6 to 6 went, since 5 to 9 came to contain it.
+//! Between no file at all and the file `to be or not to be` at address 0, `"to".."be"` has two changes: 1 to 2 came, and 5 to 6 came. With
+//! a file `x` after it, at 8 to 10, `"be" /< ("to".."x")` has one: 6 to 6 went, since 5 to 9 came to contain it.
 #![tactic(auto)]
 
 mod change_listing;

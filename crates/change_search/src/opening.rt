@@ -1,4 +1,4 @@
-//! What is done before the members of two lists are gone over: a query is expanded, and the addresses are found between which they lie.
+//! What is done before the members of two lists are compared: a query is expanded, and the addresses between which they lie are found.
 ghost use Rattle.std.specs.Prelude.{◌≡◌, ◌+◌, ◌<◌, ◌≤◌, IfOk};
 ghost use Rattle.gcl_locality.specs.Agreement.{AgreeOutside};
 ghost use Rattle.gcl_locality.specs.Changed.{changed_from, changed_upto};
@@ -33,12 +33,12 @@ pub fn expanded_over<S: Ledger>(
     ensures cost { steps.new ≤ steps.old + sum_of_prefixes (prefix_cost (last_of pass.now.history)) (form_of expr.now) }
 {
     let version = pass.version();
-    // the end of the version tells that its addresses are in range
+    // the end of the version shows that its addresses are in range
     let _end = version.next();
     expand(alloc, version, expr, steps)
 }
 
-/// The two addresses of an expression over the versions of two passes, of which the other two are the expansions.
+/// The two addresses of an expression over the versions of two passes; `old_expr` and `new_expr` are its expansions over these.
 pub fn addresses_over<S: Ledger>(
     expr: &Expr,
     old_expr: &Expr,
@@ -62,7 +62,7 @@ pub fn addresses_over<S: Ledger>(
     ensures ordered { result.low ≤ result.high }
     ensures cost { steps.new ≤ steps.old + finding_cost (last_of before.now.history) (last_of after.now.history) (form_of expr.now) }
 {
-    // what is read of a range tells that its addresses are in order
+    // reading a field of a range shows that its addresses are in order
     let _ = &edited.first;
     let old = before.version();
     let new = after.version();

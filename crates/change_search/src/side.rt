@@ -13,8 +13,8 @@ use std::alloc::{AllocError, Global};
 /// members looks for few.
 const FIRST_PAGE: u64 = 2;
 
-/// The members of one of the two lists that are to come: those of a page from a place on, and those of the pages after it, up to the
-/// first that starts after an address.
+/// The members of one of the two lists that are to come: those of a page at or after a place, and those of the pages after it,
+/// before the first that starts after an address.
 #[derive(Drop)]
 pub struct Side {
     pub page: IntervalList,
@@ -52,7 +52,7 @@ impl Side {
         }
     }
 
-    /// Finds the next page, where the last one is used up. `Err` is out of memory.
+    /// Finds the next page, if the last one is used up. `Err` means out of memory.
     fn fill<S: Ledger>(&mut self, alloc: Global, steps: &mut Steps<S>) -> Result<(), AllocError>
         requires { IsSide self.old }
         ensures side { IsSide self.new }
@@ -72,7 +72,7 @@ impl Side {
         Ok(())
     }
 
-    /// The first member that is to come, which stays. `Err` is out of memory.
+    /// The first member that is to come, which stays. `Err` means out of memory.
     pub fn first<S: Ledger>(
         &mut self,
         alloc: Global,
@@ -98,7 +98,7 @@ impl Side {
         Ok(Some(member))
     }
 
-    /// Goes past the first member, once it is found.
+    /// Moves past the first member, once it is found.
     pub fn pass(&mut self)
         requires side { IsSide self.old }
         requires found { IsFound self.old }

@@ -9,14 +9,14 @@ use gcl_model::{Interval, Ledger, Steps};
 use standing_query::Change;
 use std::alloc::{AllocError, Global};
 
-/// What is found where the first members of two sides are compared.
+/// The result of comparing the first members of two sides.
 #[derive(Drop)]
 pub enum Step {
-    /// The lesser one is in one list alone, and is passed.
+    /// The lesser member is in one list alone, and is passed.
     Tells(Change),
     /// They are the same, and are passed.
     Skips,
-    /// There is none.
+    /// There is no member.
     Ends,
 }
 
@@ -27,7 +27,7 @@ fn comes_before(a: Interval, b: Interval) -> bool
     a.start < b.start || (a.start == b.start && a.end < b.end)
 }
 
-/// Goes past the lesser first member, or past both where they are the same.
+/// Moves past the lesser first member, or past both if they are the same.
 fn advance<S: Ledger>(
     alloc: Global,
     before: &mut Side,
@@ -72,7 +72,7 @@ fn advance<S: Ledger>(
     }
 }
 
-/// The first change between what is to come of two sides. `Err` is out of memory.
+/// The first change between what is to come of two sides. `Err` means out of memory.
 pub fn next_change<S: Ledger>(
     alloc: Global,
     before: &mut Side,

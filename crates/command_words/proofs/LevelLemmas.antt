@@ -61,7 +61,7 @@ enters_none (Some p) = refl
 ids : List Text
 ids = codes "first" ∷ codes "readers" ∷ codes "made" ∷ codes "count" ∷ []
 
--- where those steps pass, only the words and what is pending at their end can fail
+-- if those steps pass, only the words and what is pending at their end can fail
 ends : (walk below settle defaults check : Kinds) → below ≡ [] → defaults ≡ [] → check ≡ []
     → or_else walk (or_else below (or_else settle (or_else defaults check))) ≡ or_else walk settle
 ends walk below settle defaults check no_below no_defaults no_check = rw (no_below, no_defaults, no_check) (ap (or_else walk) (go settle))
@@ -111,7 +111,7 @@ value_row name (given ∷ rest) options = go (bytes_eq given.0 (45 ∷ 45 ∷ na
 abbrev pub options_found : List Row → Option Options
 options_found rows = options_from (first_of (codes "first") rows) (first_of (codes "readers") rows) (first_of (codes "made") rows) (first_of (codes "count") rows)
 
--- where no step fails, the rows give the options
+-- if no step fails, the rows give the options
 pub found_options : (words : List Text) → HasNoEnd words → fault_of program words ≡ [] → options_found (matches_of program words) ≡ options_of words
 found_options words plain clear = go (parse_reads words plain)
   where
@@ -128,7 +128,7 @@ found_options words plain clear = go (parse_reads words plain)
     go (taken reads) = ap options_found reads.ends ∙ values reads.pairs reads.options ∙ sym (ap (option_and_then options_in) reads.parts)
     go (refused reads) = absurd (reads.fault clear)
 
--- where one fails, the words are outside the grammar
+-- if one fails, the words are outside the grammar
 pub fault_outside : (words : List Text) → HasNoEnd words → HasFault (fault_of program words) → options_of words ≡ None
 fault_outside words plain fault = go (parse_reads words plain)
   where
@@ -142,7 +142,7 @@ fault_outside words plain fault = go (parse_reads words plain)
 
 -- ---- the same, of the matches of a parse
 
--- clap tells the matches of such a command, and its faults
+-- clap gives the matches of such a command, and its faults
 pub is_simple_program : is_simple program ≡ true
 is_simple_program = refl
 
@@ -162,7 +162,7 @@ pub is_none : {X : Type 0} (o : Option X) → IsNone o → o ≡ None
 is_none None none = refl
 is_none (Some x) none = absurd (true≢false none)
 
--- an error that is not for want of memory is a step that failed
+-- an error that is not out of memory is a step that failed
 pub error_outside : (kinds : Kinds) (words : List Text) (e : Error) → HasNoEnd words → kinds ≡ fault_of program words → HasKind kinds e → ¬ (kind_of e ≡ OutOfMemory)
     → options_of words ≡ None
 error_outside kinds words e plain is (inl memory) other = absurd (other memory)

@@ -30,7 +30,7 @@ drop-more b rest n =
     let more : 1 + n + 1 ≡ suc (n + 1) = omega arith in
     ap (λ k. drop k (b ∷ rest)) more
 
--- a byte that is no `=` stands at the front of the first part
+-- a byte that is no `=` is at the front of the first part
 pub parted-more : (b : ℕ) (rest : List ℕ) → nat_eq b 61 ≡ false → parted (b ∷ rest) ≡ (b ∷ (parted rest).0, (parted rest).1)
 parted-more b rest other = rw other (ap₂ (λ (x y : List ℕ). (x, y)) (take_past b rest _) (drop-more b rest _))
 

@@ -39,7 +39,7 @@ pub data Reads (all : List Given) (spelled : List Text) (kinds : Kinds) (rows : 
 
 -- ---- pairs at the front
 
--- where a pair is put in front, what comes out begins with it
+-- if a pair is put in front, what comes out begins with it
 pub is_cons : (given : Given) (o : Option (List Given)) (pairs : List Given) → option_map (λ rest. given ∷ rest) o ≡ Some pairs
     → (rest : List Given) × (o ≡ Some rest) × (pairs ≡ given ∷ rest)
 is_cons given None pairs is = absurd (none-some pairs is)
@@ -72,7 +72,7 @@ with_front all given spelled rest kinds kinds' rows rows' parts same_kinds same_
           ap (λ xs. options_in (all ++ xs)) cut.2 ∙ sym (ap options_in (append_assoc all (given ∷ []) cut.0)) ∙ reads.none cut.0 cut.1;
     })
 
--- the same outcome, told of equal things
+-- the same outcome, said of equal things
 carried : (all : List Given) (spelled spelled' : List Text) (kinds kinds' : Kinds) (rows rows' : List Row) → spelled' ≡ spelled → kinds ≡ kinds' → rows ≡ rows'
     → Reads all spelled' kinds' rows' → Reads all spelled kinds rows
 carried all spelled spelled' kinds kinds' rows rows' words same_kinds same_rows reads =
@@ -116,7 +116,7 @@ module _ (s : Shape) (is : IsProgram s) where
   unfolding walk_fault
   faults-end w = settle-again w
 
-  -- a long word fails where what is pending does
+  -- a long word fails if what is pending does
   long_fails : (waiting : Waiting) (word : Text) → subcommand_met [] waiting word ≡ None → bytes_eq word (45 ∷ 45 ∷ []) ≡ false → (rows : List Row)
       (pending : Option (Text × List Text)) → HasFault (settle_fault s.rules false (hold rows pending)) → (name : Text) (value : Option Text)
       → long_of word ≡ Some (name, value) → HasFault (turn_fault s [] (stand waiting (hold rows pending)) word)
@@ -142,7 +142,7 @@ module _ (s : Shape) (is : IsProgram s) where
       go None long = stray-fails s is word other rows pending long
       go (Some p) long = long_fails idle word refl other rows pending fault p.0 p.1 long
 
-  -- the rows of the options so far, where what is pending passes
+  -- the rows of the options so far, if what is pending passes
   pub record Holds (all : List Given) (rows : List Row) (pending : Option (Text × List Text)) : Type 0 where
     pub options : are_options all ≡ true
     pub clear : settle_fault s.rules false (hold rows pending) ≡ []
@@ -221,7 +221,7 @@ module _ (s : Shape) (is : IsProgram s) where
           go (Some p) long =
               no_value (long_no_number word p.0 p.1 long) (long_fails (option name) word refl other rows (Some (name, [])) unfilled p.0 p.1 long)
 
-  -- a word where no option waits for a value
+  -- a word if no option waits for a value
   module _ (all : List Given) (rows : List Row) (pending : Option (Text × List Text)) (holds : Holds all rows pending) (word : Text) (rest : List Text)
       (other : bytes_eq word (45 ∷ 45 ∷ []) ≡ false)
       (idle_after : (now : List Given) (left : List Row) (next : Option (Text × List Text)) → Holds now left next → ReadsIdle now left next rest)
@@ -303,7 +303,7 @@ module _ (s : Shape) (is : IsProgram s) where
         go None long = stray_word long
         go (Some p) long = long_read p.0 p.1 long (is_option_name (45 ∷ 45 ∷ p.0)) refl
 
-  -- what is read of the words, where no option waits for a value and where one does
+  -- what is read of the words, if no option waits for a value and if one does
   pub record ReadsFrom (words : List Text) : Type 0 where
     pub unwaited : (all : List Given) (rows : List Row) (pending : Option (Text × List Text)) → Holds all rows pending → ReadsIdle all rows pending words
     pub awaited : (all : List Given) (name : Text) → is_option_name (45 ∷ 45 ∷ name) ≡ true → are_options all ≡ true → (rows : List Row) → rows ≡ map row all

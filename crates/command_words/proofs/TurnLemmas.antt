@@ -47,7 +47,7 @@ later (k ∷ ks) b fault = fails k ks
 abbrev pub row : Given → Row
 row given = record { id = drop 2 given.0; values = given.1 ∷ []; count = None; source = Some CommandLine; reading = reading.AsWritten }
 
--- an option has a row where it is given
+-- an option has a row if it is given
 pub has_row-given : (all : List Given) (name : Text) → are_options all ≡ true → has_row name (map row all) ≡ is_given (45 ∷ 45 ∷ name) all
 has_row-given [] name options = refl
 has_row-given (given ∷ rest) name options =
@@ -55,7 +55,7 @@ has_row-given (given ∷ rest) name options =
     (and_parts (is_option_name given.0) (not (is_given given.0 rest)) (and_parts (is_option_name given.0 && not (is_given given.0 rest)) (are_options rest) options).0).0)
     (has_row-given rest name (and_parts (is_option_name given.0 && not (is_given given.0 rest)) (are_options rest) options).1)
 
--- where no row has this id, the rows get what stands for a missing one
+-- if no row has this id, the rows get what represents a missing one
 at_row-missing : (id : Text) (change : Row → List Row) (missing rows : List Row) → has_row id rows ≡ false → at_row id change missing rows ≡ rows ++ missing
 at_row-missing id change missing [] none = refl
 at_row-missing id change missing (r ∷ rs) none = go (bytes_eq r.id id) refl none (at_row-missing id change missing rs)
@@ -92,7 +92,7 @@ hold rows pending = record { rows = rows; pending = pending; skip = 0 }
 abbrev pub stand : Waiting → Held → Walk
 stand waiting held = record { held = held; waiting = waiting; position = 1; is_trailing = false; stopped = None }
 
--- the faults of the words from where the walk stands, up to the use of what is pending at their end
+-- the faults of the words from where the walk is, up to the use of what is pending at their end
 abbrev pub faults : Shape → Walk → List Text → Kinds
 faults s w words = or_else (walk_fault s [] w words) (settle_fault s.rules s.args_override_self (fold (walked s.rules []) w words).held)
 

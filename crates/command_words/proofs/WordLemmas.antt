@@ -21,7 +21,7 @@ stripped (b ∷ bs) rest is = go (nat_eq b 45) refl is
     go true same is = ap₂ (λ (x : ℕ) (xs : Text). x ∷ xs) (eqb-true b 45 same) (ap (λ o. unwrap_or o bs) is)
     go false other is = absurd (none-some rest is)
 
--- without an `=` all of a text stands before the first one
+-- without an `=` all of a text comes before the first one
 before_all : (text : Text) → is_joined text ≡ false → before_first is_equals text ≡ text
 before_all [] none = refl
 before_all (b ∷ bs) none = go (nat_eq b 61) refl none (before_all bs)

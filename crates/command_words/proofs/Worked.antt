@@ -7,7 +7,7 @@ use Rattle.command_words.specs.Grammar.{pairs_of, options_of}
 abbrev first_is_7 : Option Options
 first_is_7 = Some (record { first = 7; readers = 4; made = None })
 
--- a corpus of 8 files from the number 3, from address 9 on, with 2 readers
+-- a corpus of 8 files from the number 3, starting at address 9, with 2 readers
 abbrev made_of_8 : Option Options
 made_of_8 = Some (record { first = 9; readers = 2; made = Some (record { start = 3; count = 8 }) })
 

@@ -21,11 +21,11 @@ is_equals b = b == 61
 abbrev pub is_joined : List ℕ → Bool
 is_joined word = list_any is_equals word
 
--- what stands before the first `=` of the word, and what comes after it: of `--first=7` these are "--first" and "7"
+-- what comes before the first `=` of the word, and what comes after it: of `--first=7` these are "--first" and "7"
 abbrev pub parted : List ℕ → Given
 parted word = (before_first is_equals word, after_first is_equals word)
 
--- the words two by two, but for those that are joined: `--first=7 --readers 2` gives ("--first", "7") and ("--readers", "2")
+-- the words two by two, except those that are joined: `--first=7 --readers 2` gives ("--first", "7") and ("--readers", "2")
 abbrev pub pairs_of : List (List ℕ) → Option (List Given)
 pairs_of [] = Some []
 pairs_of (word ∷ []) = if is_joined word then Some (parted word ∷ []) else None
@@ -55,7 +55,7 @@ are_options (given ∷ rest) = is_option_name given.0 && not (is_given given.0 r
 abbrev pub value_of : List ℕ → List Given → Option (List ℕ)
 value_of name pairs = option_map (λ given. given.1) (find (λ given. bytes_eq given.0 name) pairs)
 
--- the number that 1 to 18 digits write, where it lies within these bounds: from 1 to 16 "08" is 8, and "17" is none
+-- the number that 1 to 18 digits write, if it lies within these bounds: from 1 to 16 "08" is 8, and "17" is none
 abbrev pub number_within : ℕ → ℕ → List ℕ → Option ℕ
 number_within least most text = option_and_then (λ n. if nat_le least n && nat_le n most then Some n else None) (number_of text)
 
@@ -69,7 +69,7 @@ made_from None None = Some None
 made_from (Some start) (Some count) = option_map (λ made. Some made) (made_of start count)
 made_from _ _ = None
 
--- the options of these values: the first address is 0 and there are 4 readers where nothing is given for them
+-- the options of these values: the first address is 0 and there are 4 readers if nothing is given for them
 abbrev pub options_from : Option (List ℕ) → Option (List ℕ) → Option (List ℕ) → Option (List ℕ) → Option Options
 options_from first readers start count =
     option_and_then (λ f. option_and_then (λ r. option_map (λ m. record { first = f; readers = r; made = m }) (made_from start count))
@@ -80,7 +80,7 @@ abbrev pub options_in : List Given → Option Options
 options_in pairs = if are_options pairs then options_from (value_of (codes "--first") pairs) (value_of (codes "--readers") pairs)
     (value_of (codes "--made") pairs) (value_of (codes "--count") pairs) else None
 
--- the options that the words write, none where they are outside the grammar
+-- the options that the words write, none if they are outside the grammar
 abbrev pub options_of : List (List ℕ) → Option Options
 options_of words = option_and_then options_in (pairs_of words)
 

@@ -22,7 +22,7 @@ fn plain<'a>(alloc: Global) -> Command<'a>
         .disable_help_flag(true)
 }
 
-/// The command with an option more.
+/// The command with one more option.
 fn with_option<'a>(
     alloc: Global,
     command: Command<'a>,

@@ -18,7 +18,7 @@ pub struct Made {
 pub struct Options {
     /// The address that the collection begins at.
     pub first: u64,
-    /// How many readers there are, from 1 on.
+    /// How many readers there are, 1 or more.
     pub readers: usize,
     /// The corpus to run over in place of the script and the files.
     pub made: Option<Made>,

@@ -13,7 +13,7 @@ use gcl_model::{ADDRESS_END, Bytes};
 use script_lang::number_of;
 use std::alloc::{AllocError, Global};
 
-/// The number that a value writes, where it lies within these bounds.
+/// The number that a value writes, if it lies within these bounds.
 pub(crate) fn number_within(least: u64, most: u64, value: &[u8]) -> Option<u64>
     ensures { result ≡ number_within least most value.now }
 {
@@ -85,7 +85,7 @@ fn texts_of<'a>(alloc: Global, words: &'a [Bytes]) -> Result<Option<Vec<&'a str>
     Ok(Some(texts))
 }
 
-/// None for words that clap refuses, but not where it wanted memory.
+/// None for words that clap refuses, unless it was out of memory.
 fn refusal(kind: ErrorKind) -> Result<Option<Options>, AllocError>
     ensures { IfOk result (λ options. IsNone options × ¬ (kind ≡ OutOfMemory)) }
 {
@@ -120,7 +120,7 @@ fn options_in(alloc: Global, texts: &[&str]) -> Result<Option<Options>, AllocErr
     }
 }
 
-/// The options that the words write, None where they are outside the grammar: of `--first=7 --readers 2` the first
+/// The options that the words write, or None if they are outside the grammar: with `--first=7 --readers 2` the first
 /// address is 7, and there are two readers.
 pub fn options_of(alloc: Global, words: &[Bytes]) -> Result<Option<Options>, AllocError>
     ensures value { IfOk result (λ options. options ≡ options_of words.now) }

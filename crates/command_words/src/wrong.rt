@@ -13,7 +13,7 @@ fn bounds_of(name: &[u8]) -> Option<(u64, u64)> {
     }
 }
 
-/// The name in a word, and the value where one is joined to it.
+/// The name in a word, and the value if one is joined to it.
 fn parted(word: &[u8]) -> (&[u8], Option<&[u8]>) {
     match word.iter().position(|b| *b == b'=') {
         Some(at) => (&word[..at], Some(&word[at + 1..])),
@@ -22,8 +22,8 @@ fn parted(word: &[u8]) -> (&[u8], Option<&[u8]>) {
 }
 
 /// The first word that is no option and no value of one, or else the name whose value is missing, for a message: no
-/// clause says which it is. Where it is None and the words are outside the grammar, a name comes twice, or `--made` and
-/// `--count` do not come both.
+/// clause says which it is. If it is None and the words are outside the grammar, a name comes twice, or only one of
+/// `--made` and `--count` comes.
 pub fn wrong_word(words: &[Bytes]) -> Option<&[u8]> {
     let mut awaited: Option<&[u8]> = None;
     for word in words {

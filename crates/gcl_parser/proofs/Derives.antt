@@ -30,7 +30,7 @@ pub record ReadsQuery (tokens : List QueryToken) : Type 0 where
   pub spelled : tokens ≡ query_spelling tree rest
   pub ends : EndsQuery rest
 
--- tokens shorter than n, where an operand is to come, are read
+-- tokens shorter than n, if an operand is to come, are read
 abbrev pub AreRead : (List QueryToken → Type 0) → ℕ → Type 0
 AreRead Read n = (tokens : List QueryToken) (o c : ℕ) → length tokens < n → o ≤ most_brackets → IsFaultless true o c tokens → Read tokens
 
@@ -93,7 +93,7 @@ single_reads n queries (open_bracket ∷ tokens) o c short le h = inside (querie
 single_reads n queries (close_bracket ∷ rest) o c short le h = absurd (let no = h.0 in cc)
 single_reads n queries (broken kind ∷ rest) o c short le h = absurd (let no = h.0 in cc)
 
--- a chain of parts, where each part is read
+-- a chain of parts, if each part is read
 chain_reads : (j : Joint) (n : ℕ) → AreRead (Reads (below j)) n → (m : ℕ) → m ≤ n → AreRead (Reads (joined j)) m
 chain_reads j n parts zero le tokens o c short deep h = absurd (omega arith)
 chain_reads j n parts (suc m) le tokens o c short deep h = go (parts tokens o c (omega arith) deep h) (chain_reads j n parts m (omega arith))
@@ -111,7 +111,7 @@ chain_reads j n parts (suc m) le tokens o c short deep h = go (parts tokens o c 
     go : Reads (below j) tokens → AreRead (Reads (joined j)) m → Reads (joined j) tokens
     go r chains = on r.tree r.rest r.spelled (after j r.rest r.ends) chains
 
--- containments, where each chain is read
+-- containments, if each chain is read
 more_reads : (n : ℕ) → AreRead (Reads (joined OneOf)) n → (m : ℕ) → m ≤ n → (tokens : List QueryToken) (o c : ℕ) → length tokens < m → o ≤ most_brackets → Ends (joined OneOf) tokens → IsFaultless false o c tokens → ReadsMore tokens
 more_reads n parts zero le tokens o c short deep ends h = absurd (omega arith)
 more_reads n parts (suc m) le [] o c short deep ends h = record { tree = no_more; rest = []; spelled = refl; ends = tt }
@@ -161,7 +161,7 @@ whole tokens r h = go r.rest r.spelled r.ends (query_behind r.tree 0 0 r.rest (o
 pub faultless_spelled : (tokens : List QueryToken) → IsFaultless true 0 0 tokens → (q : Query) × (tokens ≡ query_spelling q [])
 faultless_spelled tokens h = whole tokens (queries_read (length tokens + 1) tokens 0 0 (omega arith) (omega arith) h) h
 
--- a text is not refused exactly where a tree within the limits spells it
+-- a text is not refused if and only if a tree within the limits spells it
 pub not_refused : (text : List ℕ) → refused text ≡ None → (form : Form) × IsQueryWithin text form
 not_refused text none = go (faultless_spelled (map token_of (query_tokens text)) faultless)
   where

@@ -130,7 +130,7 @@ chain_goes_on j text at next place exprs member can c parsed is lt le =
       within = le;
     }
 
--- where the joint does not come next the chain ends
+-- if the joint does not come next the chain ends
 ends_chain : (j : Joint) (rest : List QueryToken) → After j rest → IsNotNext (joint j) rest → Ends (joined j) rest
 ends_chain j rest (stops others ends) other = ends
 ends_chain j rest (goes tail) other = absurd (other refl)

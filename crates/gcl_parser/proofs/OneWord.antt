@@ -1,5 +1,5 @@
 -- A text of one word, by its first lexeme.
-use Rattle.std.proofs.Common.{◌≡◌, ℕ, ◌<◌, ◌≤◌, ◌+◌, Bool, true, false, ◌&&◌, nat_le, ◌==◌, List, [], ◌∷◌, ◌++◌, length, drop, map, refl, sym, ap, ◌∙◌, subst, arith}
+use Rattle.std.proofs.Common.{◌≡◌, ℕ, ◌<◌, ◌≤◌, ◌+◌, true, false, ◌&&◌, nat_le, ◌==◌, List, [], ◌∷◌, ◌++◌, length, drop, map, refl, sym, ap, ◌∙◌, subst, arith}
 use Rattle.std.specs.Char.{to_ascii_lowercase}
 use Rattle.std.specs.List.{list_all}
 use Rattle.std.proofs.lemmas.Bool.Decides.{nat_tests}
@@ -42,7 +42,7 @@ is_word-lower word =
     ap (λ n. nat_le 1 n && list_all is_word_byte (map to_ascii_lowercase word)) (length-map word to_ascii_lowercase)
     ∙ ap (λ all. nat_le 1 (length word) && all) (list_all-map is_word_byte to_ascii_lowercase word ∙ all_word_bytes-lower word)
 
--- a word is alone where no token is behind it
+-- a word is alone if no token comes after it
 pub alone : (word : List ℕ) (behind : List (List ℕ)) → is_word word ≡ true → is_one_word (map to_ascii_lowercase word ∷ behind) ≡ (length behind == 0)
 alone word [] is = is_word-lower word ∙ is
 alone word (token ∷ behind) is = grind (arith, nat_tests)

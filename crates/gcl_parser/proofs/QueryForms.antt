@@ -49,7 +49,7 @@ seqs_after (join k part chain) u =
     ∙ seqs_after chain (with_operand u (form_of_part part))
     ∙ ap (λ forms. record { left = u.left; ones = u.ones; boths = u.boths; seqs = forms }) (forms_append-assoc u.seqs (more_forms (form_of_part part) no_forms) (members chain))
 
--- a chain of `..` was read where none was begun
+-- a chain of `..` was read when none was begun
 record IsSeqRead (u v : Unfinished) (form : Form) : Type 0 where
   left : v.left ≡ u.left
   ones : v.ones ≡ u.ones

@@ -7,7 +7,7 @@ use Rattle.gcl_parser.specs.QueryTokens.{close_bracket}
 use Rattle.gcl_parser.specs.Grammar.{Level, Query, query_spelling, form_of_query}
 use Rattle.gcl_parser.specs.Reading.{IsRead, IsQueryRead}
 
--- from a place on a part of the level was read, up to the end that is told
+-- starting at a place, a part of the level was read, up to the end that `parsed` gives
 pub record IsParsed (level : Level) (text : List ℕ) (at : ℕ) (parsed : Parsed) : Type 0 where
   pub read : IsRead level (bare_from text at) (bare_from text parsed.end) (form_of parsed.expr)
   pub later : at < parsed.end

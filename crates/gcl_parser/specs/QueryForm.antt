@@ -15,7 +15,7 @@ abbrev pub forms_append : Forms → Forms → Forms
 forms_append no_forms others = others
 forms_append (more_forms form forms) others = more_forms form (forms_append forms others)
 
--- one form more at the end
+-- one more form at the end
 abbrev pub forms_and : Forms → Form → Forms
 forms_and forms form = forms_append forms (more_forms form no_forms)
 
@@ -33,7 +33,7 @@ pub record Unfinished : Type 0 where
   pub boths : Forms
   pub seqs : Forms
 
--- nothing was read yet, but for this left side
+-- nothing was read yet, except this left side
 abbrev pub begun : Option (Form × Containment) → Unfinished
 begun left = record { left = left; ones = no_forms; boths = no_forms; seqs = no_forms }
 
@@ -49,7 +49,7 @@ both_of u = chain_of BothOf (forms_and u.boths (seq_of u))
 abbrev pub one_of : Unfinished → Form
 one_of u = chain_of OneOf (forms_and u.ones (both_of u))
 
--- a form, or the containment of which it is the right side, where there is a left one
+-- a form, or the containment of which it is the right side, if there is a left one
 abbrev pub behind_left : Option (Form × Containment) → Form → Form
 behind_left None right = right
 behind_left (Some left) right = containment_form left.1 left.0 right
@@ -58,11 +58,11 @@ behind_left (Some left) right = containment_form left.1 left.0 right
 abbrev pub whole_of : Unfinished → Form
 whole_of u = behind_left u.left (one_of u)
 
--- one operand more
+-- one more operand
 abbrev pub with_operand : Unfinished → Form → Unfinished
 with_operand u form = record { left = u.left; ones = u.ones; boths = u.boths; seqs = forms_and u.seqs form }
 
--- a joint ends the chains that bind more than it does
+-- a joint ends the chains that bind tighter than it does
 abbrev pub with_joint : Joint → Unfinished → Unfinished
 with_joint FollowedBy u = u
 with_joint BothOf u = record { left = u.left; ones = u.ones; boths = forms_and u.boths (seq_of u); seqs = no_forms }
@@ -73,7 +73,7 @@ abbrev pub with_containment : Containment → Unfinished → Unfinished
 with_containment operator u = begun (Some (whole_of u, operator))
 
 -- The form of all tokens, by those that are left: what was read so far inside the nearest bracket that is open, and inside each of
--- those around it, the nearest first. None where the brackets do not match
+-- those around it, the nearest first. None if the brackets do not match
 abbrev pub form_from : List QueryToken → Unfinished → List Unfinished → Option Form
 form_from [] u [] = Some (whole_of u)
 form_from [] u (outer ∷ outers) = None
@@ -85,11 +85,11 @@ form_from (close_bracket ∷ tokens) u [] = None
 form_from (close_bracket ∷ tokens) u (outer ∷ outers) = form_from tokens (with_operand outer (whole_of u)) outers
 form_from (broken kind ∷ tokens) u outers = None
 
--- a form, where there is no fault
+-- a form, if there is no fault
 abbrev pub unless : Option QueryFault → Option Form → Option Form
 unless None form = form
 unless (Some fault) form = None
 
--- the form that a text stands for, and none where it is refused: of `"to".."be"` it is `to` followed by `be`
+-- the form that a text stands for, and none if it is refused: of `"to".."be"` it is `to` followed by `be`
 abbrev pub query_form : List ℕ → Option Form
 query_form text = unless (refused text) (form_from (map token_of (query_tokens text)) (begun None) [])

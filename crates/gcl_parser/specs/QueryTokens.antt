@@ -24,7 +24,7 @@ pub data QueryToken : Type 0 where
   close_bracket : QueryToken
   broken : QueryKind → QueryToken
 
--- a beginning of the text: how many bytes it has, and its query token, none where it is a blank
+-- a beginning of the text: how many bytes it has, and its query token, none if it is a blank
 pub record Piece : Type 0 where
   pub size : ℕ
   pub tokens : List QueryToken
@@ -46,7 +46,7 @@ abbrev pub quoted_form : List (List ℕ) → Form
 quoted_form (token ∷ []) = term token
 quoted_form tokens = phrase tokens
 
--- a quoted text without a term is none
+-- a quoted text without a term is broken
 abbrev pub quoted_token : List (List ℕ) → QueryToken
 quoted_token [] = broken EmptyTerm
 quoted_token (token ∷ more) = operand (quoted_form (token ∷ more))
@@ -65,23 +65,23 @@ is_one_word (token ∷ next ∷ more) = false
 abbrev pub prefix_form : List (List ℕ) → Form
 prefix_form tokens = term (slice_index_or tokens 0 [] ++ codes "*")
 
--- a quoted text with a `*` right behind it: one word, and neither several nor a tag
+-- a quoted text with a `*` right after it: one word, and neither several nor a tag
 abbrev pub prefix_token : List (List ℕ) → QueryToken
 prefix_token tokens =
     if length tokens == 0 then broken EmptyTerm
     else if is_one_word tokens then operand (prefix_form tokens)
     else broken BadPrefix
 
--- any byte but `"`
+-- any byte except `"`
 abbrev pub is_no_quote : ℕ → Bool
 is_no_quote b = not (b == 34)
 
--- the piece of a quoted text that has its second quote, with the `*` right behind that where there is one
+-- the piece of a quoted text that has its second quote, with the `*` right after that if there is one
 abbrev pub closed_piece : List ℕ → Bool → Piece
 closed_piece content starred =
     if starred then one_token (prefix_token (tokens_of content)) (length content + 3) else one_token (quoted_token (terms_of content)) (length content + 2)
 
--- the quoted text whose first quote stands before these bytes: up to the next quote, and a `*` that follows at once
+-- the quoted text whose first quote comes before these bytes: up to the next quote, and a `*` that follows immediately
 abbrev pub quoted_piece : List ℕ → Piece
 quoted_piece bytes =
     let content = take_while is_no_quote bytes in
@@ -92,7 +92,7 @@ quoted_piece bytes =
 abbrev pub width_token : ℕ → QueryToken
 width_token n = if nat_le 1 n && nat_le n address_end then operand (width n) else broken BadWidth
 
--- the width whose `[` stands before these bytes: digits, and `]`
+-- the width whose `[` comes before these bytes: digits, and `]`
 abbrev pub width_piece : List ℕ → Piece
 width_piece bytes =
     let digits = take_while is_ascii_digit bytes in

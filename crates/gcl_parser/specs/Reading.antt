@@ -102,7 +102,7 @@ abbrev pub IsNoContainment : List QueryToken → Type 0
 IsNoContainment (containment operator ∷ tokens) = ⊥
 IsNoContainment tokens = Unit {0}
 
--- how deep a chain stands in a query
+-- how deep a chain is in a query
 abbrev pub rank : Joint → ℕ
 rank FollowedBy = 1
 rank BothOf = 2

@@ -41,8 +41,8 @@ open_count before = count_by is_open before - count_by is_close before
 abbrev pub operand_count : List QueryToken → ℕ
 operand_count before = count_by is_operand before
 
--- what is wrong with a token, by the first rule that it breaks, where an operand is to come or not, by how many brackets
--- are open and how many operands stand before
+-- what is wrong with a token, by the first rule that it breaks, given whether an operand is to come, how many brackets
+-- are open and how many operands come before
 abbrev pub fault_in : Bool → ℕ → ℕ → QueryToken → Option QueryKind
 fault_in wants opened count (broken kind) = Some kind
 fault_in wants opened count token =

@@ -32,17 +32,17 @@ pub record IsPiece (text : List ℕ) (at : ℕ) (piece : Piece) (l : PlacedToken
   pub within : l.end ≤ length text
   pub range : HasRange text l.token
 
--- the query tokens of a text from a place on
+-- the query tokens of a text at or after a place
 abbrev pub tokens_from : List ℕ → ℕ → List Placed
 tokens_from text at = tokens_behind at (drop at text)
 
--- the placed is the first query token from a place on
+-- the placed is the first query token at or after a place
 pub record IsNext (text : List ℕ) (from : ℕ) (l : PlacedToken) : Type 0 where
   pub tokens : tokens_from text from ≡ record { at = l.at; token = shown text l.token } ∷ tokens_from text l.end
   pub later : from < l.end
   pub within : l.end ≤ length text
   pub range : HasRange text l.token
 
--- the query tokens from a place on, without their places
+-- the query tokens at or after a place, without their places
 abbrev pub bare_from : List ℕ → ℕ → List QueryToken
 bare_from text at = map token_of (tokens_from text at)

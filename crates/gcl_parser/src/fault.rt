@@ -7,16 +7,16 @@ use thiserror::Error;
 /// What is wrong at a place of a text that is no query.
 #[derive(Clone, Copy, Debug, PartialEq, Eq, Error)]
 pub enum QueryKind {
-    /// An operand is to stand here.
+    /// An operand is expected here.
     #[error("operand expected")]
     OperandExpected,
-    /// An operator is to stand here, or a `)` that closes an open bracket.
+    /// An operator is expected here, or a `)` that closes an open bracket.
     #[error("operator or close expected")]
     OperatorOrCloseExpected,
     /// The quoted text has no token.
     #[error("empty term")]
     EmptyTerm,
-    /// The quoted text has a `*` right behind it, and is not one word: it has several tokens, or its token is a tag.
+    /// The quoted text has a `*` right after it, and is not one word: it has several tokens, or its token is a tag.
     #[error("bad prefix")]
     BadPrefix,
     /// A `[` is not followed by digits and `]`, or the number is 0 or above 2^56.
@@ -28,7 +28,7 @@ pub enum QueryKind {
     /// No query token begins with this byte.
     #[error("character")]
     Character,
-    /// 256 quoted texts and widths stand before this one.
+    /// 256 quoted texts and widths come before this one.
     #[error("too large")]
     TooLarge,
     /// 12 brackets are open before this one.
@@ -40,7 +40,7 @@ pub enum QueryKind {
 #[derive(Clone, Copy, Debug, PartialEq, Eq, Error)]
 #[error("query at {at}: {kind}")]
 pub struct QueryFault {
-    /// The place, in bytes from 0; the length of the text where it ends too early.
+    /// The place, in bytes from 0; the length of the text if it ends too early.
     pub at: u64,
     /// What is wrong there.
     pub kind: QueryKind,

@@ -12,7 +12,7 @@ use gcl_model::Expr;
 use std::alloc::Global;
 
 /// The expression of a query. `Query` has the first place at which the text is no query, and what is wrong there;
-/// it takes no memory to find out. `NoMemory` comes only from `alloc`.
+/// finding these allocates nothing. `NoMemory` comes only from `alloc`.
 ///
 /// Of `"to" .. "be"` it is `to` followed by `be`; `("to"` is refused at 5, where an operator or `)` is expected.
 pub fn parse(alloc: Global, text: &[u8]) -> Result<Expr, ParseFault>

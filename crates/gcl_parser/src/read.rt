@@ -29,7 +29,7 @@ pub fn query(alloc: Global, text: &[u8], at: usize) -> Result<Parsed, AllocError
     Ok(whole)
 }
 
-/// A containment of what stands on both sides of it, which ends where the right one does.
+/// A containment of what is on both sides of it, which ends where the right side does.
 fn contained(
     alloc: Global,
     containment: Containment,
@@ -55,7 +55,7 @@ fn right_side(alloc: Global, text: &[u8], at: usize) -> Result<Parsed, AllocErro
     chain(alloc, text, at, Joint::OneOf)
 }
 
-/// The members that the joint joins, from a place on; one member alone is itself.
+/// The members that the joint joins, starting at a place; one member alone is itself.
 #[cycle(read)]
 fn chain(alloc: Global, text: &[u8], at: usize, joint: Joint) -> Result<Parsed, AllocError>
     requires within { at ≤ length text.now }
@@ -96,7 +96,7 @@ fn member(alloc: Global, text: &[u8], at: usize, joint: Joint) -> Result<Parsed,
     }
 }
 
-/// The joint that binds next more than this one. None does where it joins single operands.
+/// The joint that binds next tighter than this one, or None if this one joins single operands.
 fn tighter(joint: Joint) -> Option<Joint>
     ensures none { IfNone result (below joint ≡ single) }
     ensures some { IfSome result (λ tighter. below joint ≡ joined_level tighter) }
@@ -137,7 +137,7 @@ fn operand(alloc: Global, text: &[u8], at: usize) -> Result<Parsed, AllocError>
     }
 }
 
-/// The query after an open bracket, up to and with the bracket that closes it.
+/// The query after an open bracket, up to and including the bracket that closes it.
 #[cycle(read)]
 fn bracketed(alloc: Global, text: &[u8], at: usize) -> Result<Parsed, AllocError>
     requires within { at ≤ length text.now }
@@ -154,7 +154,7 @@ fn bracketed(alloc: Global, text: &[u8], at: usize) -> Result<Parsed, AllocError
     })
 }
 
-/// The place after the joint, where it comes next.
+/// The place after the joint, if it comes next.
 fn joined(text: &[u8], from: usize, joint: Joint) -> Option<usize>
     requires { from ≤ length text.now }
     ensures next { IfSome result (λ place. bare_from text.now from ≡ joint_token joint ∷ bare_from text.now place) }

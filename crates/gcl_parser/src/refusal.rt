@@ -5,7 +5,7 @@ use crate::fault::{QueryFault, QueryKind};
 use crate::scan::next_placed;
 use crate::state::State;
 
-/// The first fault of a text. It takes no memory, and one pass over the text.
+/// The first fault of a text. It allocates nothing, and reads the text once.
 pub fn refusal(text: &[u8]) -> Option<QueryFault>
     ensures { result ≡ refused text.now }
 {

@@ -1,7 +1,8 @@
-ghost use Rattle.std.specs.Prelude.{◌≡◌, ◌+◌, ◌<◌, ◌≤◌, ◌^◌, ℕ, [], false, length, drop, nat_le, slice_index, slice_range, IfNone, IfSome};
+ghost use Rattle.std.specs.Prelude.{◌≡◌, ◌+◌, ◌<◌, ◌≤◌, ◌^◌, [], false, length, drop, nat_le, slice_index, slice_range, IfNone, IfSome};
 ghost use Rattle.gcl_model.specs.Collections.{is_boundary as is_boundary_token};
 ghost use Rattle.gcl_model.specs.Tokens.{is_blank as is_blank_byte, starts_with_byte, tokens_of};
-ghost use Rattle.gcl_parser.specs.QueryTokens.{terms_of, quoted_token, prefix_token, closed_piece, quoted_piece, width_piece, sign_piece, first_piece, one_token};
+ghost use Rattle.gcl_parser.specs.QueryTokens.{terms_of, quoted_token, prefix_token, closed_piece};
+ghost use Rattle.gcl_parser.specs.QueryTokens.{quoted_piece, width_piece, sign_piece, first_piece};
 ghost use Rattle.gcl_parser.specs.Scanned.{shown, HasRange, IsPiece, IsNext, tokens_from};
 
 use crate::fault::QueryKind;
@@ -12,7 +13,7 @@ use gcl_model::{Containment, file_end, file_start, is_blank};
 use memchr::memchr;
 use word_tokens::token_count;
 
-/// The first query token from a place on; none where only blanks are left.
+/// The first query token at or after a place; None if only blanks are left.
 pub fn next_placed(text: &[u8], from: usize) -> Option<PlacedToken>
     requires { from ≤ length text.now }
     ensures none { IfNone result (tokens_from text.now from ≡ []) }
@@ -25,7 +26,7 @@ pub fn next_placed(text: &[u8], from: usize) -> Option<PlacedToken>
     Some(placed_at(text, at))
 }
 
-/// The place of the first byte from a place on that is no blank, or the length of the text.
+/// The place of the first byte at or after a place that is no blank, or the length of the text.
 fn after_blanks(text: &[u8], from: usize) -> usize
     requires { from ≤ length text.now }
     ensures later { from ≤ result }
@@ -53,7 +54,7 @@ fn placed_at(text: &[u8], at: usize) -> PlacedToken
     }
 }
 
-/// The quoted text whose first quote stands at the place.
+/// The quoted text whose first quote is at the place.
 fn quoted(text: &[u8], at: usize) -> PlacedToken
     requires { at < length text.now }
     ensures { IsPiece text.now at (quoted_piece (drop (at + 1) text.now)) result }
@@ -65,11 +66,12 @@ fn quoted(text: &[u8], at: usize) -> PlacedToken
     }
 }
 
-/// The quoted text between the quotes at two places, with the `*` that follows at once.
+/// The quoted text between the quotes at two places, with the `*` that follows immediately.
 fn closed(text: &[u8], at: usize, end: usize) -> PlacedToken
     requires order { at < end }
     requires within { end < length text.now }
-    ensures { IsPiece text.now at (closed_piece (slice_range text.now (at + 1) end) (starts_with_byte 42 (drop (end + 1) text.now))) result }
+    ensures { IsPiece text.now at
+        (closed_piece (slice_range text.now (at + 1) end) (starts_with_byte 42 (drop (end + 1) text.now))) result }
 {
     let size = end + 1 - at;
     if !stands(text, end + 1, b'*') {
@@ -78,7 +80,7 @@ fn closed(text: &[u8], at: usize, end: usize) -> PlacedToken
     placed(at, size + 1, prefix(text, at + 1, end))
 }
 
-/// What stands between two quotes with a `*` behind them, from one place to another.
+/// What is between two quotes with a `*` after them, from one place to another.
 fn prefix(text: &[u8], from: usize, to: usize) -> Token
     requires order { from ≤ to }
     requires within { to ≤ length text.now }
@@ -95,7 +97,7 @@ fn prefix(text: &[u8], from: usize, to: usize) -> Token
     }
 }
 
-/// What stands between two quotes, from one place to another.
+/// What is between two quotes, from one place to another.
 fn content(text: &[u8], from: usize, to: usize) -> Token
     requires order { from ≤ to }
     requires within { to ≤ length text.now }
@@ -122,7 +124,7 @@ pub fn is_boundary(bytes: &[u8]) -> bool
     bytes == file_start() || bytes == file_end()
 }
 
-/// The width whose `[` stands at the place.
+/// The width whose `[` is at the place.
 fn width(text: &[u8], at: usize) -> PlacedToken
     requires { at < length text.now }
     ensures { IsPiece text.now at (width_piece (drop (at + 1) text.now)) result }
@@ -158,7 +160,7 @@ fn sign(text: &[u8], at: usize) -> PlacedToken
     }
 }
 
-/// Whether the byte stands at the place.
+/// Whether the byte is at the place.
 fn stands(text: &[u8], at: usize, byte: u8) -> bool
     ensures { result ≡ starts_with_byte byte (drop at text.now) }
 {

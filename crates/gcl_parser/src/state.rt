@@ -7,14 +7,14 @@ const MOST_BRACKETS: u64 = 12;
 /// How many quoted texts and widths a query may have.
 const MOST_OPERANDS: u64 = 256;
 
-/// What is to come at a place, and what stands before it.
+/// What is to come at a place, and what comes before it.
 #[derive(Clone, Copy)]
 pub struct State {
-    /// An operand is to come, and else an operator or a `)`.
+    /// Whether an operand is to come; else an operator or a `)` is.
     pub wants_operand: bool,
     /// How many brackets are open.
     pub opened: u64,
-    /// How many quoted texts and widths stand before.
+    /// How many quoted texts and widths come before.
     pub operands: u64,
 }
 

@@ -12,12 +12,12 @@ pub enum Joint {
     OneOf,
 }
 
-/// A query token as it stands in the text, or what is wrong where none begins.
+/// A query token as it occurs in the text, or what is wrong if none begins.
 #[derive(Clone, Copy)]
 pub enum Token {
     /// A quoted text: the bytes from the first place up to the second, without its quotes.
     Quoted(usize, usize),
-    /// A quoted text of one word, with a `*` right behind it: the bytes as for `Quoted`, without quotes and `*`.
+    /// A quoted text of one word, with a `*` right after it: the bytes as for `Quoted`, without quotes and `*`.
     Prefix(usize, usize),
     /// A width, 1 to 2^56.
     Width(u64),

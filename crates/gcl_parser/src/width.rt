@@ -10,7 +10,7 @@ use crate::fault::QueryKind;
 use crate::token::Token;
 use gcl_model::ADDRESS_END;
 
-/// How many digits stand in front.
+/// How many digits are in front.
 pub fn digit_count(bytes: &[u8]) -> usize
     ensures { result ≡ length (take_while is_ascii_digit bytes.now) }
 {
@@ -20,7 +20,7 @@ pub fn digit_count(bytes: &[u8]) -> usize
         .count()
 }
 
-/// The number that the digits write, or `ADDRESS_END + 1` where it is more.
+/// The number that the digits write, or `ADDRESS_END + 1` if it is more.
 fn capped_value(digits: &[u8]) -> u64
     requires { list_all is_ascii_digit digits.now ≡ true }
     ensures { result ≡ min (digits_value 10 digits.now) (address_end + 1) }

@@ -5,7 +5,7 @@ ghost use Rattle.std.specs.Prelude.{◌≡◌};
 
 use word_tokens::{Lexeme, first_lexeme, token_count};
 
-/// Whether the text gives one token alone, and that is a word. It takes no memory.
+/// Whether the text gives just one token, and that is a word. It allocates nothing.
 pub fn is_one_word(text: &[u8]) -> bool
     ensures { result ≡ is_one_word (tokens_of text.now) }
 {

@@ -35,7 +35,7 @@ pub fn advice_on_keep(cause: Option<FileCause>) -> &'static str {
     }
 }
 
-/// What is said besides of a name that a shell would have changed.
+/// What is also said of a name that a shell would have changed.
 pub fn advice_on_name(name: &str) -> &'static str {
     if name.starts_with('~')
         || name.starts_with('"')

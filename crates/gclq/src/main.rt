@@ -1,9 +1,9 @@
 //! Answers a script of queries over files: the real objects, lent to `run`, and the status that it gives.
 //!
-//! The script stands on standard input, and the answers go to standard output. One line on standard error says what
-//! was wrong where the status is 2 or more, but not where the reader of the answers has gone. `main` only makes the real
-//! objects. What the program promises of them and of its arguments is the contract of `begin`: that of `query_run::run`
-//! by the words after the program's name, with the exit status in place of the run's.
+//! The script comes on standard input, and the answers go to standard output. One line on standard error says what was
+//! wrong if the status is 2 or more, unless the reader of the answers has gone. `main` only makes the real objects. What
+//! the program promises of them and of its arguments is the contract of `begin`: that of `query_run::run` for the words
+//! after the program's name, with the exit status in place of the run's.
 #![tactic(auto)]
 
 mod advice;

@@ -16,7 +16,7 @@ use std::random::RandomSource;
 use std::sync::Wait;
 use std::thread::Threads;
 
-/// Runs the script of the source by the arguments of the program, of which the first is its name, and gives the exit status. Where the
+/// Runs the script of the source by the arguments of the program, of which the first is its name, and gives the exit status. If the
 /// script is awaited from a terminal, that is said on standard error, and so is what was wrong.
 pub fn begin<
     R: Threads + Wait + Sync + RandomSource + Eprint,
@@ -49,7 +49,7 @@ pub fn begin<
     answer(rt, alloc, words.as_slice(), files, source, sink)
 }
 
-/// Runs the script of the source, tells on standard error what was wrong, and gives the exit status.
+/// Runs the script of the source, says on standard error what was wrong, and gives the exit status.
 fn answer<R: Threads + Wait + Sync + RandomSource + Eprint, F: FaultName, S: Source, K: ReaderGone>(
     rt: &R,
     alloc: Global,

@@ -30,8 +30,8 @@ pub struct Told<'a> {
     pub words: &'a [Bytes],
 }
 
-/// One line on standard error for each status from 2 on: what was wrong, with which word or name, and what to see to.
-/// Where nobody reads the answers any more that is said by the status alone.
+/// One line on standard error for each status of 2 or more: what was wrong, with which word or name, and what to do.
+/// If nobody reads the answers any more, only the status says so.
 pub fn tell<R: Eprint, F: FaultName, K: ReaderGone>(rt: &R, ended: &Told<'_>, files: &F, sink: &K) {
     let _ = match ended.status {
         Status::Done | Status::DoneWithRefusals => Ok(()),
@@ -51,7 +51,7 @@ pub fn tell<R: Eprint, F: FaultName, K: ReaderGone>(rt: &R, ended: &Told<'_>, fi
     };
 }
 
-/// A word may have any characters, and is told within quotes and with escapes.
+/// A word may have any characters, and is printed in quotes with escapes.
 fn tell_usage<R: Eprint>(rt: &R, words: &[Bytes]) -> io::Result<()> {
     match wrong_word(words).and_then(|word: &[u8]| str::from_utf8(word).ok()) {
         Some(word) => eprintln!(rt; "gclq: unexpected word {word:?}; {USAGE}"),
@@ -59,7 +59,7 @@ fn tell_usage<R: Eprint>(rt: &R, words: &[Bytes]) -> io::Result<()> {
     }
 }
 
-/// A name is told within quotes and with escapes, so that it moves nothing on a terminal. The line that names the file is the one after
+/// A name is printed in quotes with escapes, so that it moves nothing on a terminal. The line that names the file is the one after
 /// those that are completed.
 fn tell_file<R: Eprint, F: FaultName>(rt: &R, files: &F, completed: u64) -> io::Result<()> {
     let line = completed.saturating_add(1);
@@ -76,7 +76,7 @@ fn tell_file<R: Eprint, F: FaultName>(rt: &R, files: &F, completed: u64) -> io::
     }
 }
 
-/// One line where a terminal is to give the script: that it is awaited, and how it ends.
+/// One line if a terminal is to give the script: that it is awaited, and how it ends.
 pub fn invite<R: Eprint>(rt: &R, alloc: Global, words: &[Bytes]) {
     let Ok(Some(options)) = options_of(alloc, words) else {
         return;

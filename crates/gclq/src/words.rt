@@ -21,7 +21,7 @@ impl From<AllocError> for WordFault {
     }
 }
 
-/// The arguments of the program, from its name on.
+/// The arguments of the program, starting with its name.
 pub fn arguments<R: Env + AllocGlobal>(rt: &R) -> Result<Vec<String>, WordFault> {
     let args = match env::args(rt) {
         Ok(args) => args,
@@ -32,7 +32,7 @@ pub fn arguments<R: Env + AllocGlobal>(rt: &R) -> Result<Vec<String>, WordFault>
     Ok(args)
 }
 
-/// The words after the program's name, where there is one.
+/// The words after the program's name, if there is one.
 pub fn after_name(args: &[String]) -> &[String]
     ensures { result.now ≡ drop 1 args.now }
 {

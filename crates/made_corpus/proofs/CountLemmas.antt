@@ -1,4 +1,4 @@
--- What is told of a text, counted byte by byte.
+-- What is counted of a text, byte by byte.
 use Rattle.std.proofs.Common.{◌≡◌, ℕ, ◌+◌, ◌==◌, Bool, true, false, List, [], ◌∷◌, ◌++◌, length, refl, sym, ap, subst, ◌∙◌, append_assoc, arith, length-append, cond}
 use Rattle.std.specs.Prelude.{if◌then◌else◌, drop}
 use Rattle.std.specs.List.{filter, slice_split, onto_first, sum}
@@ -11,7 +11,7 @@ use Rattle.made_corpus.specs.Summary.{refusals}
 use Rattle.made_corpus.specs.Counted.{marks, counts_with, counts_with_all, begins_behind, AreCountsOf}
 use Rattle.made_corpus.specs.declared.counts.Counts.{Counts}
 
--- the lines that begin so, from a place on
+-- the lines that begin so, starting at a place
 abbrev pub marked_from : Bool → List ℕ → ℕ
 marked_from begins [] = 0
 marked_from begins (b ∷ rest) = marks begins b + marked_from (b == 10) rest
@@ -56,7 +56,7 @@ later_by b rest false is all later =
     ap (λ l. marked (drop 1 l)) (slice_split-cons_no (λ x. x == 10) b rest is) ∙ ap marked (later_onto b (parts rest)) ∙ later
     ∙ sym (ap (λ t. 0 + marked_from t rest) is ∙ omega arith)
 
--- the lines that begin so, with the first one and without it
+-- the lines that begin so, with the first line and without it
 marked_both : (text : List ℕ) → (marked (parts text) ≡ marked_from true text) × (marked (drop 1 (parts text)) ≡ marked_from false text)
 marked_both [] = (refl, refl)
 marked_both (b ∷ rest) =

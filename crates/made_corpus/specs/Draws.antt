@@ -9,7 +9,7 @@ next_state state = (6364136223846793005 * state + 1442695040888963407) % 2 ^ 64
 abbrev pub draw : ℕ → ℕ → ℕ
 draw state below = next_state state / 2 ^ 33 % below
 
--- the state after so many draws
+-- the state after the given number of draws
 abbrev pub state_after : ℕ → ℕ → ℕ
 state_after zero state = state
 state_after (suc n) state = state_after n (next_state state)

@@ -48,7 +48,7 @@ content start i = content_from ((start + i) % 2 ^ 64)
 abbrev pub name_of : ℕ → List ℕ
 name_of i = codes "m" ++ decimal i
 
--- which of so many files has the name: `m07` is the name of none
+-- which of `count` files has the name: `m07` is the name of none
 abbrev pub file_named : ℕ → List ℕ → Option ℕ
 file_named count name = find (λ i. bytes_eq name (name_of i)) (range_with_len 0 count)
 

@@ -51,7 +51,7 @@ top_from state = one_line (codes "top 5 (" ++ quoted (draw state 50) ++ codes "^
 abbrev pub turn_from : ℕ → ℕ → DrawnLines
 turn_from i state = followed (followed (followed (followed (add_from i state) (change_from i)) find_from) count_from) top_from
 
--- the lines of n turns, from file i on
+-- the lines of n turns, starting with file i
 abbrev pub turns_from : ℕ → ℕ → ℕ → List (List ℕ)
 turns_from zero i state = []
 turns_from (suc n) i state = (turn_from i state).lines ++ turns_from n (i + 1) (turn_from i state).state

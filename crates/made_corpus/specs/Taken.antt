@@ -1,4 +1,4 @@
--- Bytes of which none is there.
+-- Bytes that only clauses read.
 use Rattle.std.specs.Prelude.{ℕ, List, [], ◌∷◌, ◌++◌}
 use Rattle.made_corpus.specs.declared.taken.Last.{Last}
 use Rattle.made_corpus.specs.declared.taken.Last.TheVariants.{None, Byte}

@@ -1,7 +1,7 @@
 ghost use Rattle.std.specs.Prelude.{◌≡◌, [], IfSome};
 ghost use Rattle.made_corpus.specs.Counted.{AreCountsOf, counts_with, counts_with_all};
 
-/// What is told of a text, as it is counted byte by byte.
+/// What is counted of a text, byte by byte.
 #[derive(Clone, Copy, Debug, PartialEq, Eq)]
 pub(crate) struct Counts {
     /// How many lines begin with an exclamation mark.
@@ -14,7 +14,7 @@ pub(crate) struct Counts {
 }
 
 impl Counts {
-    /// Those of no bytes.
+    /// The counts of no bytes.
     pub(crate) fn none() -> Counts
         ensures { AreCountsOf result [] }
     {
@@ -26,7 +26,7 @@ impl Counts {
         }
     }
 
-    /// Those with a byte more, None where a number has no room for it.
+    /// These counts with one more byte, or None if a number has no room for it.
     pub(crate) fn with(self, byte: u8) -> Option<Counts>
         ensures { IfSome result (λ counts. counts ≡ counts_with self byte) }
     {
@@ -39,11 +39,11 @@ impl Counts {
         })
     }
 
-    /// Those with a piece more, None where a number might have no room for it, or the piece is longer than some 16 MiB.
+    /// These counts with one more piece, or None if a number might have no room for it, or the piece is longer than some 16 MiB.
     pub(crate) fn with_all(self, piece: &[u8]) -> Option<Counts>
         ensures { IfSome result (λ counts. counts ≡ counts_with_all self piece.now) }
     {
-        // a byte adds at most 255 to each number, so one look before the loop spares one at every byte
+        // a byte adds at most 255 to each number, so one check before the loop saves one at every byte
         let most = u32::try_from(piece.len()).ok()?.checked_mul(255)?;
         self.refused.checked_add(u64::from(most))?;
         self.bytes.checked_add(u64::from(most))?;

@@ -55,7 +55,7 @@ pub struct MadeFiles {
 }
 
 impl MadeFiles {
-    /// So many files, made from this number. It takes no memory.
+    /// `count` files, made from the number `start`. It allocates nothing.
     pub fn new(alloc: Global, start: u64, count: u64) -> Self
         requires { count ≤ most_made }
         ensures held { ⟦<MadeFiles as Files>⟧.held result ≡ Some (made_files start count) }

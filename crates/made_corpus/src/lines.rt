@@ -1,5 +1,5 @@
-ghost use Rattle.std.specs.Prelude.{◌≡◌, ◌<◌, ◌≤◌, ◌+◌, ◌^◌, ◌-◌, ◌++◌, OnOk, IfOk, length, codes, decimal};
-ghost use Rattle.made_corpus.specs.MadeLines.{quoted, add_from, change_from, find_from, count_from, top_from, turn_from, HasDrawnLines};
+ghost use Rattle.std.specs.Prelude.{◌≡◌, ◌<◌, ◌≤◌, ◌+◌, ◌^◌, ◌-◌, ◌++◌, OnOk, IfOk, length, decimal};
+ghost use Rattle.made_corpus.specs.MadeLines.{add_from, change_from, find_from, count_from, top_from, turn_from, HasDrawnLines};
 
 use crate::draws::Draws;
 use crate::put::{put_number, put_text};
@@ -20,7 +20,7 @@ fn put_add(out: &mut Vec<u8>, draws: &Draws, i: u64) -> Result<(), AllocError>
     put_between(out, b"add m", i, b"\n")
 }
 
-/// There is a line or none.
+/// Appends one line or none.
 fn put_change(out: &mut Vec<u8>, draws: &mut Draws, i: u64) -> Result<u64, AllocError>
     requires { i < 2 ^ 64 - 1 }
     ensures lines { OnOk result (HasDrawnLines (change_from i draws.old.state) out.old.items out.new.items draws.new.state) }

@@ -4,7 +4,7 @@ ghost use Rattle.made_corpus.specs.MadeFiles.{file_named};
 use itoa::Buffer;
 use std::str::from_utf8;
 
-/// The number that is written so, without a zero in front.
+/// The number that these digits write, without a zero in front.
 fn number_of(digits: &[u8]) -> Option<u64>
     ensures some { IfSome result (λ n. decimal n ≡ digits.now) }
     ensures each { (n : ℕ) → n < 2 ^ 64 → digits.now ≡ decimal n → result ≡ Some n }

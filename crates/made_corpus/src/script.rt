@@ -19,7 +19,7 @@ pub struct MadeScript {
     pub lines: u64,
 }
 
-/// The script over so many files, made from this number.
+/// The script over `count` files, made from the number `start`.
 pub fn made_script(alloc: Global, start: u64, count: u64) -> Result<MadeScript, AllocError>
     requires { count ≤ most_made }
     ensures text { IfOk result (λ script. script.text ≡ made_text start count) }

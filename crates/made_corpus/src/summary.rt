@@ -10,7 +10,7 @@ use crate::taken::Taken;
 use outside::{Sink, WriteError};
 use std::alloc::AllocError;
 
-/// Takes a text and keeps of it only what a summary tells. It never fails; NoMemory comes where a number would not fit into 64 bits.
+/// Takes a text and keeps of it only what a summary reports. It never fails, except with NoMemory if a number would not fit into 64 bits.
 #[derive(Drop)]
 pub struct SummarySink {
     counts: Counts,
@@ -19,7 +19,7 @@ pub struct SummarySink {
 }
 
 impl SummarySink {
-    /// Nothing was taken yet. It takes no memory.
+    /// Nothing was taken yet. It allocates nothing.
     pub fn new() -> Self
         ensures { ⟦<SummarySink as Sink>⟧.written result ≡ Some [] }
     {
@@ -29,7 +29,7 @@ impl SummarySink {
         }
     }
 
-    /// One that took a byte more, None where a number has no room for it.
+    /// One that took one more byte, or None if a number has no room for it.
     fn with(&self, byte: u8) -> Option<SummarySink>
         ensures { IfSome result (λ sink. sink.taken ≡ self.now.taken ++ byte ∷ []) }
     {
@@ -38,7 +38,7 @@ impl SummarySink {
         Some(SummarySink { counts, taken })
     }
 
-    /// One that took a piece more, None where it has no byte, or where it is not counted as a whole.
+    /// One that took one more piece, or None if the piece has no byte or is not counted as a whole.
     fn with_all(&self, piece: &[u8]) -> Option<SummarySink>
         ensures { IfSome result (λ sink. sink.taken ≡ self.now.taken ++ piece.now) }
     {
@@ -48,7 +48,7 @@ impl SummarySink {
         Some(SummarySink { counts, taken })
     }
 
-    /// Takes bytes from the front of a piece, one by one, for as long as the numbers have room.
+    /// Takes bytes from the front of a piece, one by one, while the numbers have room.
     fn write_each(&mut self, piece: &[u8]) -> Result<usize, WriteError>
         ensures bound { IfOk result (λ n. n ≤ length piece.now) }
         ensures some { IfOk result (λ n. 0 < length piece.now → 0 < n) }
@@ -67,8 +67,8 @@ impl SummarySink {
         Ok(count)
     }
 
-    /// Appends what is told of a run over so many files from this number, whose script has so many lines: five lines, of which the
-    /// last three are those of the text that was taken.
+    /// Appends what is reported of a run over `count` files made from the number `start`, whose script has `lines` lines: five
+    /// lines, of which the last three are about the text that was taken.
     pub fn put_summary(
         &self,
         out: &mut Vec<u8>,
@@ -77,7 +77,8 @@ impl SummarySink {
         lines: u64,
     ) -> Result<(), AllocError>
         requires { lines ≡ length (made_lines start count) }
-        ensures { IfSome (⟦<SummarySink as Sink>⟧.written self.now) (λ text. OnOk result (out.new.items ≡ out.old.items ++ summary start count text)) }
+        ensures { IfSome (⟦<SummarySink as Sink>⟧.written self.now) (λ text.
+            OnOk result (out.new.items ≡ out.old.items ++ summary start count text)) }
     {
         put_text(out, b"made ")?;
         put_number(out, start)?;

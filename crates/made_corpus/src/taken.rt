@@ -3,7 +3,7 @@ ghost use Rattle.std.specs.Prelude.{◌≡◌, [], ◌∷◌, ◌++◌};
 use std::marker::Model;
 use std::snapshot::Snapshot;
 
-/// Bytes that only clauses read: all that were taken so far, in the room of a flag that says whether there is one.
+/// Bytes that only clauses read: all that were taken so far, in the space of a flag that says whether there is one.
 #[cycle(taken)]
 #[derive(Drop)]
 pub struct Taken {

@@ -8,10 +8,10 @@ use std::rt::Clock;
 use std::time::Instant;
 use word_tokens::{TokenText, token_text};
 
-/// A longer file is not read.
+/// Of a longer file only this many bytes and one more are read.
 const FILE_MOST: u64 = 1 << 26;
 
-/// The bytes of a file, None where something failed.
+/// The bytes of a file, or None if something failed.
 pub(crate) fn content_of<R: rt::Files + AllocGlobal>(rt: &R, name: &[u8]) -> Option<Vec<u8>> {
     let mut content = Vec::new(rt.alloc());
     StdFiles::new(rt).load(name, FILE_MOST, &mut content).ok()?;
@@ -35,7 +35,7 @@ pub(crate) fn measure_tokens<R: rt::Files + Clock + Print + AllocGlobal>(
     println!(rt; "{words} tokens cut in {took} ns").ok()
 }
 
-/// So many shards of a text.
+/// The given number of shards of a text.
 fn shards_of(alloc: Global, text: &TokenText, times: u64) -> Result<Vec<Shard>, AllocError> {
     let mut shards = Vec::new(alloc);
     for i in 0..times {

@@ -15,7 +15,7 @@ fn drawn(state: u64) -> u64 {
         .wrapping_add(1442695040888963407)
 }
 
-/// So many addresses, with gaps from 1 to 16.
+/// The given number of addresses, with gaps from 1 to 16.
 fn rising(alloc: Global, count: u64) -> Result<Vec<u64>, AllocError>
     ensures { IfOk result (λ numbers. ArePostings numbers.items) }
 {
@@ -34,7 +34,7 @@ fn rising(alloc: Global, count: u64) -> Result<Vec<u64>, AllocError>
     Ok(numbers)
 }
 
-/// The least address of a list from `k` on.
+/// The least address of a list at or after `k`.
 #[derive(Drop)]
 struct LeastFrom<'a> {
     list: &'a Postings<'a>,
@@ -119,8 +119,8 @@ fn summed<R: Clock>(rt: &R, members: &[u64]) -> Option<(u64, u64)> {
     Some((u64::try_from(took).ok()?, sum))
 }
 
-/// Prints the times of look-ups in a list of a million addresses with gaps from 1 to 16 and of a walk over it, each beside the
-/// same over plain numbers.
+/// Prints the times of look-ups in a list of a million addresses with gaps from 1 to 16 and of a walk over it, each next to
+/// the same over plain numbers.
 pub(crate) fn measure_lists<R: Clock + Print + AllocGlobal>(rt: &R) -> Option<()> {
     let members = rising(rt.alloc(), 1_000_000).ok()?;
     let end = members.last().copied().unwrap_or(0).saturating_add(1);

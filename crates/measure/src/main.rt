@@ -1,13 +1,14 @@
-//! What the scripts of `bench/` run to measure single layers. It serves no command of `gclq`, and promises nothing but to be safe.
+//! What the scripts of `bench/` run to measure single layers. It serves no command of `gclq`, and promises nothing except to be safe.
 //!
 //! Its words are one of these:
 //!
 //! - `tokens FILE` cuts the file into tokens.
-//! - `shards FILE TIMES` builds its shard too, so many times, and keeps them all: memory grows by one shard for each.
-//! - `packed FILE TIMES` counts the postings in lists of 64 or more, and keeps these lists so many times more.
+//! - `shards FILE TIMES` builds its shard too, TIMES times, and keeps them all: memory grows by one shard for each.
+//! - `packed FILE TIMES` counts the postings in lists of 64 or more, and keeps TIMES more copies of these lists.
 //! - `count FILE QUERY` counts the intervals of a query over the file's tokens, and the look-ups that this took.
-//! - `slots FILE TIMES QUERY` puts the file so many times into one version, each time in a slot of its own, and counts the same, by bytes and by fingers.
-//! - `lists` takes the times of look-ups in and walks over a posting list of a million addresses, beside plain numbers.
+//! - `slots FILE TIMES QUERY` puts the file TIMES times into one version, each time in a slot of its own, and counts the same, by bytes and
+//!   by fingers.
+//! - `lists` takes the times of look-ups in and walks over a posting list of a million addresses, next to plain numbers.
 #![tactic(auto)]
 
 mod files;

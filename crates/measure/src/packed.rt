@@ -26,7 +26,7 @@ fn packed_size(n: u64) -> u64 {
     70u64.saturating_sub(unused) / 7
 }
 
-/// How many bytes the differences of a list take, the first address counted as the one from 0.
+/// How many bytes the differences of a list take, the first address counted as the difference from 0.
 fn differences_of(list: &Postings<'_>) -> u64 {
     let mut size = 0u64;
     let mut before = 0;
@@ -41,8 +41,8 @@ fn differences_of(list: &Postings<'_>) -> u64 {
     size
 }
 
-/// Puts the members of a block after what is there, and gives the least address that may come next. It ends early where one does not
-/// rise, which no list has.
+/// Appends the members of a block, and returns the least address that may come next. It ends early if one does not rise, which no
+/// list has.
 fn put_block(maker: &mut PostingMaker, least: u64, members: &[u64]) -> Result<u64, AllocError>
     requires rising { RiseWithin 0 least maker.old }
     requires below { least ≤ address_end }
@@ -71,7 +71,7 @@ fn copied(alloc: Global, list: &Postings<'_>) -> Result<PostingList, AllocError>
     Ok(maker.finish())
 }
 
-/// Puts a copy of each long list after the others, and gives what they have together.
+/// Appends a copy of each long list, and returns what they have together.
 fn copy_long(
     alloc: Global,
     shard: &Shard,
@@ -94,8 +94,8 @@ fn copy_long(
     Ok(sizes)
 }
 
-/// Prints how many postings the lists of 64 or more have over a file, and how many bytes their packed differences. It keeps them so many
-/// times more: memory grows by these lists for each.
+/// Prints how many postings the lists of 64 or more have over a file, and how many bytes their packed differences. It keeps `times` more
+/// copies of them: memory grows by these lists for each.
 pub(crate) fn measure_packed<R: rt::Files + Print + AllocGlobal>(
     rt: &R,
     name: &[u8],

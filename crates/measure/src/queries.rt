@@ -42,7 +42,7 @@ impl<L: Leaves> Question for MemberCount<'_, L> {
     }
 }
 
-/// A version of a text so many times, each as a file in a slot of its own. It ends where a version is full.
+/// A version that has a text `times` times, each as a file in a slot of its own. It ends when a version is full.
 fn version_of(alloc: Global, text: &TokenText, times: u64) -> Result<Version, AllocError> {
     let mut version = Version::empty(alloc, 0);
     for i in 0..times {
@@ -113,7 +113,7 @@ pub(crate) fn measure_count<R: Files + Print + AllocGlobal>(
     println!(rt; "{members} intervals, {look_ups} look-ups").ok()
 }
 
-/// Counts a query over a version that has a file so many times, by bytes and by fingers.
+/// Counts a query over a version that has a file `times` times, by bytes and by fingers.
 pub(crate) fn measure_slots<R: Files + Clock + Print + AllocGlobal>(
     rt: &R,
     name: &[u8],
@@ -127,7 +127,7 @@ pub(crate) fn measure_slots<R: Files + Clock + Print + AllocGlobal>(
     let start = Instant::now(rt).ok()?;
     let (same, fewer) = count_by_fingers::<Brand>(rt.alloc(), &version, query)?;
     let fingered = start.elapsed(rt).ok()?.as_nanos();
-    // fingers tell of a phrase some of what the version has to look up
+    // for a phrase, fingers know some of what the version has to look up
     if same != members {
         return None;
     }

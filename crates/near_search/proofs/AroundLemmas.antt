@@ -21,7 +21,7 @@ end_within text form y sound le = here (first_start (concordance text form) (y +
         let of = of_each (IsOf text) (concordance text form) a (each_of_text text (denotes text form)) (find_gives (λ c. leb (y + 1) c.start) (concordance text form) a some).0 in
         omega (arith, of.below, sound, le)
 
--- and the first one that ends at an address or later starts in range
+-- and the first that ends at or after an address starts in range
 pub start_within : (text : Text) (form : Form) (low : ℕ) → text.next ≤ address_end → start_of text form low ≤ address_end
 start_within text form low sound = here (first_end (concordance text form) low) refl
   where

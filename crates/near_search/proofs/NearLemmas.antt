@@ -19,7 +19,7 @@ use Rattle.query_search.specs.Pages.{Way, leaping, reading, ended, reads, IsWayO
 use Rattle.query_search.proofs.SearchLemmas.{none_at_end, none_from, start_before}
 use Rattle.near_search.specs.Contents.{IsNearWay, start_of, starts_by}
 
--- where all members end at the lower address or later, those up to the last one that starts at the upper address touch both
+-- if all members end at or after the lower address, those up to the last one that starts at the upper address touch both
 upto_touches : (low high : ℕ) (list : List Extent) → IsRising list → AllByRecursion (λ (a : Extent). low ≤ a.end) list → take_while (starts_by high) list ≡ filter (touches low high) list
 upto_touches low high [] r from = refl
 upto_touches low high (x ∷ list) r from =
@@ -76,7 +76,7 @@ touching_from low high (x ∷ list) a r is =
           ap (λ (l : List Extent). take_while (starts_by high) l) skip ∙ touching_from low high list a r.1 h ∙ sym (not_touching low high x list f)
     ]
 
--- and where none does, none is there
+-- and if none does, none is there
 pub touching_none : (low high : ℕ) (list : List Extent) → first_end list low ≡ None → filter (touches low high) list ≡ []
 touching_none low high [] is = refl
 touching_none low high (x ∷ list) is =
@@ -85,7 +85,7 @@ touching_none low high (x ∷ list) is =
       | inr f ↦ let h : first_end list low ≡ None = rw f at is in not_touching low high x list f ∙ touching_none low high list h
     ]
 
--- where the first member that ends at the lower address or later starts after the upper one, none touches both
+-- if the first member that ends at or after the lower address starts after the upper one, none touches both
 pub none_touch : (low high n : ℕ) (list : List Extent) → IsRising list → high < start_or n (first_end list low) → filter (touches low high) list ≡ []
 none_touch low high n [] r gt = refl
 none_touch low high n (x ∷ list) r gt =
@@ -120,7 +120,7 @@ is_first low high (x ∷ list) a is le =
           (rest.0, not_touching low high x list f ∙ rest.1)
     ]
 
--- and back: the first one that touches both is the first one that ends at the lower address or later
+-- and back: the first that touches both is the first that ends at or after the lower address
 pub first_is : (low high : ℕ) (list : List Extent) (a : Extent) (rest : List Extent) → IsRising list → filter (touches low high) list ≡ a ∷ rest → first_end list low ≡ Some a
 first_is low high [] a rest r is = absurd cc
 first_is low high (x ∷ list) a rest r is =
@@ -139,7 +139,7 @@ first_is low high (x ∷ list) a rest r is =
       | inr f ↦ rw f (first_is low high list a rest r.1 (sym (not_touching low high x list f) ∙ is))
     ]
 
--- the members from the first one on that ends at the lower address or later
+-- the members starting with the first that ends at or after the lower address
 pub touching_start : (text : Text) (form : Form) (low high : ℕ) →
     take_while (starts_by high) (members_from (concordance text form) (start_of text form low)) ≡ filter (touches low high) (concordance text form)
 touching_start text form low high = here (first_end (concordance text form) low) refl
@@ -166,7 +166,7 @@ touching_part text part form low high within same le = here (first_end (concorda
         let found : first_end (concordance part form) low ≡ Some a = first_is low high (concordance part form) a first.0 (concordance_rises part form) (same ∙ first.1) in
         touching_from low high (concordance part form) a (concordance_rises part form) found ∙ same
 
--- where no readers find the members, it is all the same over which part of the text
+-- if no readers find the members, it does not matter over which part of the text
 pub way_is_near : (v : VersionContent) (low high : ℕ) (form : Form) (way : Way) → reads way ≡ false → IsWayOver v form way → IsNearWay v low high form way
 way_is_near v low high form (leaping each) not_read is = is
 way_is_near v low high form (reading left) not_read is = absurd (true≢false not_read)

@@ -1,5 +1,5 @@
 -- Members near two addresses, page by page.
-use Rattle.std.specs.Prelude.{◌≡◌, ℕ, Bool, nat_le, List, Option, None, Some}
+use Rattle.std.specs.Prelude.{◌≡◌, ℕ, Bool, nat_le, List}
 use Rattle.gcl_locality.specs.Windows.{start_or}
 use Rattle.gcl_model.specs.Access.{first_end}
 use Rattle.gcl_model.specs.Extents.{Extent}
@@ -16,7 +16,7 @@ use Rattle.reader_pass.specs.Members.{access_most}
 abbrev pub starts_by : ℕ → Extent → Bool
 starts_by high a = nat_le a.start high
 
--- where the first member starts that ends at `low` or later, and the end of the addresses where there is none
+-- where the first member that ends at or after `low` starts, or the end of the text if there is none
 abbrev pub start_of : Text → Form → ℕ → ℕ
 start_of text form low = start_or text.next (first_end (concordance text form) low)
 
@@ -29,8 +29,8 @@ pub record NearContent : Type 0 where
 abbrev pub near_content : List Extent → Way → NearContent
 near_content to_come way = record { to_come = to_come; way = way }
 
--- an access makes at most the look-ups of one to the expression over the version, and readers begin with those of a merge of the lists over the
--- window
+-- an access makes at most the look-ups of one access to the expression over the version; readers begin with those of a merge of the lists
+-- over the window
 abbrev pub IsNearWay : VersionContent → (low high : ℕ) → Form → Way → Type 0
 IsNearWay v low high form (leaping each) = each ≡ one_access v form
 IsNearWay v low high form (reading left) = left ≡ merge_cost (window v low high form) (access_most v) form

@@ -12,7 +12,7 @@ use Rattle.text_window.specs.Within.{within}
 abbrev pub one_access : VersionContent → Form → ℕ
 one_access v form = cost (version_text v) (access_most v) form
 
--- the part of the text of a version that tells which members touch two addresses
+-- the part of the text of a version that determines which members touch two addresses
 abbrev pub window : VersionContent → (low high : ℕ) → Form → Text
 window v low high form = within (version_text v) (window_from (version_text v) low high form) (window_upto (version_text v) low high form)
 
@@ -30,7 +30,7 @@ abbrev mutual
   surround_cost v (not_containing a b) = surround_cost v a + surround_cost v b
   surround_cost v (not_contained_in a b) = surround_cost v a + (2 * one_access v b + surround_cost v b)
 
-  -- the same of all operands
+  -- the same for all operands
   pub surround_costs : VersionContent → Forms → ℕ
   surround_costs v no_forms = 0
   surround_costs v (more_forms form forms) = surround_cost v form + surround_costs v forms

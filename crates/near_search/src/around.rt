@@ -1,4 +1,4 @@
-//! Which part of the text of a version tells the members that touch two addresses.
+//! Which part of the text of a version determines the members that touch two addresses.
 ghost use Rattle.std.specs.Prelude.{◌≡◌, ◌+◌, ◌*◌, ◌<◌, ◌≤◌, map};
 ghost use Rattle.gcl_locality.specs.Windows.{all_told_from, all_told_upto, told_from, told_upto};
 ghost use Rattle.gcl_locality.specs.Windows.{end_behind, start_before, window_from, window_upto};
@@ -15,8 +15,8 @@ use gcl_model::{Expr, Leaves, Ledger, Steps};
 use live_version::Version;
 use standing_query::Addresses;
 
-/// From the start of the last member before the addresses to the end of the first one behind them: each member that reaches them lies
-/// between.
+/// From the start of the last member before the addresses to the end of the first member after them: each member that reaches them
+/// lies between.
 fn around<S: Ledger>(
     expr: &Expr,
     version: &Version,
@@ -43,8 +43,8 @@ fn around<S: Ledger>(
     }
 }
 
-/// Where the text has to have its words, so that it tells the members which lie between two addresses: there, and around that for what
-/// `<` and `/<` look at.
+/// Where the text must have its words to determine the members that lie between two addresses: there, and around that for what `<` and
+/// `/<` look at.
 #[cycle(told)]
 fn told<S: Ledger>(
     expr: &Expr,
@@ -78,7 +78,7 @@ fn told<S: Ledger>(
     }
 }
 
-/// The same of several expressions together.
+/// The same for several expressions together.
 #[cycle(told)]
 fn all_told<S: Ledger>(
     exprs: &[Expr],
@@ -105,8 +105,8 @@ fn all_told<S: Ledger>(
     all
 }
 
-/// The window of an expression without prefix terms: what is evaluated over it has the same members that touch two addresses. It is found
-/// by two accesses to the expression and to the second operand of each `<` and `/<`.
+/// The window of an expression without prefix terms: evaluated over it, the expression has the same members that touch two addresses. It
+/// is found by two accesses to the expression and to the second operand of each `<` and `/<`.
 ///
 /// Over `to be or not to be` from address 0, that of `"to"` at 3 to 4 is from 1 to 5.
 pub fn window_of<S: Ledger>(

@@ -28,7 +28,7 @@ use std::marker::Model;
 use std::sync::Arc;
 use text_window::windows_are_parts;
 
-/// Who finds the members.
+/// What finds the members.
 #[derive(Drop)]
 pub enum Finder {
     /// Pages over the whole text.
@@ -39,8 +39,8 @@ pub enum Finder {
     Over,
 }
 
-/// The members of an expression over a version, page by page, from the first that touches two addresses on. Contracts see those that are to
-/// come, and how they are found. Up to the first that starts after the upper address they are those that touch the two.
+/// The members of an expression over a version, page by page, starting at the first that touches two addresses. Contracts see those that
+/// are to come, and how they are found. Those before the first that starts after the upper address are those that touch the two.
 #[derive(Drop)]
 pub struct NearPages {
     finder: Finder,
@@ -55,7 +55,7 @@ impl Model for NearPages {
     ghost view = { λ p. content_of p.finder };
 }
 
-/// Where the first member starts that ends at `low` or later, or the end of the version where there is none.
+/// Where the first member that ends at or after `low` starts, or the end of the version if there is none.
 fn start_of<S: Ledger>(pass: &Pass, expr: &Expr, low: u64, steps: &mut Steps<S>) -> u64
     requires well_formed { IsWellFormed (form_of expr.now) }
     requires below { low ≤ address_end }
@@ -71,7 +71,7 @@ fn start_of<S: Ledger>(pass: &Pass, expr: &Expr, low: u64, steps: &mut Steps<S>)
     }
 }
 
-/// Those that readers find over the window, from the first that touches the addresses on.
+/// Those that readers find over the window, starting at the first that touches the addresses.
 fn read_near<S: Ledger>(
     pass: Pass,
     expr: Arc<Expr>,
@@ -94,13 +94,14 @@ fn read_near<S: Ledger>(
     windows_tell();
     windows_are_parts();
     let version = pass.version();
-    // the span tells that the words rise
+    // the span shows that the words rise
     let _span = version.span();
     let window = window_of(&expr, version, near, steps);
     WindowPages::of(Part { pass, expr, window }, from)
 }
 
-/// Who finds those that touch the addresses over the whole text, from the first on. None where readers would: they can go over a window.
+/// What finds those that touch the addresses over the whole text, starting at the first. Returns None if readers would find them: they can
+/// read a window.
 fn over_text(
     alloc: Global,
     pass: &Pass,
@@ -138,8 +139,8 @@ impl NearPages {
         }
     }
 
-    /// Those near two addresses, of an expression without prefix terms. One access finds the first. Where readers find the others, they go
-    /// over the window of the expression alone, which has to be found first. `Err` is out of memory.
+    /// Those near two addresses, of an expression without prefix terms. One access finds the first. If readers find the others, they read
+    /// the window of the expression alone, which has to be found first. `Err` means out of memory.
     pub fn of<S: Ledger>(
         alloc: Global,
         pass: Pass,
@@ -169,7 +170,7 @@ impl NearPages {
         })
     }
 
-    /// The next `most` members, or all where fewer are to come. `Err` is out of memory, and then the same page can be asked for again.
+    /// The next `most` members, or all if fewer are to come. `Err` means out of memory, and then the same page can be asked for again.
     pub fn page<S: Ledger>(
         &mut self,
         alloc: Global,

@@ -45,7 +45,7 @@ pub struct Part {
 }
 
 impl Part {
-    /// The next members by readers that passed none of these.
+    /// The next members, found by readers that passed none of them.
     fn read_by<S: Ledger>(
         &self,
         alloc: Global,
@@ -68,7 +68,7 @@ impl Part {
         read_list_from(alloc, readers, &self.expr, &text, from, most, steps)
     }
 
-    /// The same, after which the readers go on if the page is full, and are given up if it is not. They are lost where `Err` is answered.
+    /// The same; then the readers go on if the page is full, and are dropped if it is not. They are lost if it returns `Err`.
     fn page_by<S: Ledger>(
         &self,
         alloc: Global,
@@ -95,7 +95,7 @@ impl Part {
         Ok(page)
     }
 
-    /// The next members, as readers find them that passed none of these. `Err` is out of memory: then readers begin anew.
+    /// The next members, found by readers that passed none of them. `Err` means out of memory: then readers begin anew.
     fn read<S: Ledger>(
         &self,
         alloc: Global,
@@ -127,7 +127,7 @@ impl Part {
     }
 }
 
-/// Behind the start of the last member of a page, and where the page began if it has none.
+/// The address after the start of the last member of a page, or where the page began if it has none.
 fn behind(from: u64, page: &IntervalList) -> u64
     requires { AllByRecursion (λ (a : Extent). a.start < address_end) page.now }
     ensures { result ≡ behind_page from page.now }
@@ -180,7 +180,7 @@ impl WindowPages {
         }
     }
 
-    /// The next `most` members, or all where fewer are to come. `Err` is out of memory, and then the same page can be asked for again:
+    /// The next `most` members, or all if fewer are to come. `Err` means out of memory, and then the same page can be asked for again:
     /// readers begin anew for it.
     pub fn page<S: Ledger>(
         &mut self,

@@ -16,7 +16,7 @@ use Rattle.prefix_leaves.specs.Prefixes.{tokens_of, is_meant_by_one, places_amon
 use Rattle.prefix_leaves.proofs.NameLemmas.{apart_name, plain_name, lost_name}
 use Rattle.prefix_leaves.proofs.Renamed.{holds_by, places_by, none_by}
 
--- what all pass, they pass where it is asked less
+-- what all pass, they pass if it is asked less
 all_later : (p q : List ℕ → Bool) (xs : List (List ℕ)) → ((x : List ℕ) → p x ≡ true → q x ≡ true) → list_all p xs ≡ true → list_all q xs ≡ true
 all_later p q [] on h = refl
 all_later p q (x ∷ xs) on h = let parts = and_parts (p x) (list_all p xs) h in and_from (q x) (list_all q xs) (on x parts.0) (all_later p q xs on parts.1)

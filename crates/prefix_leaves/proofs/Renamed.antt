@@ -11,7 +11,7 @@ use Rattle.prefix_leaves.specs.Renaming.{name_among, renamed_word, renamed, is_m
 use Rattle.prefix_leaves.specs.Laws.{NamesThatAreApartDecide}
 use Rattle.prefix_leaves.proofs.NameLemmas.{apart_name, untouched_name}
 
--- where a name is that of the words that pass a test, it stands where these stand
+-- if a name is that of the words that pass a test, it is where these are
 pub holds_by : (prefixes : List (List ℕ)) (name : List ℕ) (test : List ℕ → Bool) → ((word : List ℕ) → bytes_eq (name_among prefixes word) name ≡ test word)
     → (words : List Word) (p : ℕ) → holds (map (renamed_word prefixes) words) name p ≡ list_any (λ w. eqb w.address p && test w.token) words
 holds_by prefixes name test same [] p = refl

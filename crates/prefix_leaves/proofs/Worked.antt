@@ -10,7 +10,7 @@ use Rattle.prefix_leaves.specs.Renaming.{name_among, renamed, is_apart, are_alon
 abbrev word : ℕ → List ℕ → Word
 word p token = record { address = p; token = token }
 
--- `to be or not to be` from address 1 on
+-- `to be or not to be`, starting at address 1
 abbrev hamlet : Text
 hamlet = record {
   first = 1;

@@ -16,7 +16,7 @@ tokens_of prefixes = map (λ p. p.token) prefixes
 abbrev pub is_meant_by_one : List PrefixContent → List ℕ → Bool
 is_meant_by_one prefixes token = list_any (λ p. is_meant_by token p.token) prefixes
 
--- the places of the one with this token, and none where there is none
+-- the places of the prefix term with this token, and no places if there is none
 abbrev pub places_among : List PrefixContent → List ℕ → List ℕ
 places_among [] token = []
 places_among (p ∷ prefixes) token = if bytes_eq p.token token then p.places else places_among prefixes token
@@ -27,7 +27,7 @@ pub record AreOver (text : Text) (prefixes : List PrefixContent) : Type 0 where
   pub alone : are_alone (tokens_of prefixes) ≡ true
   pub exact : map (λ p. p.places) prefixes ≡ map (λ p. wide_places text.words p.token) prefixes
 
--- each has the places that its token has in the renamed text, as AreOver says it of the words
+-- each has the places that its token has in the renamed text; AreOver says the same with the words
 abbrev pub HavePlaces : Text → List PrefixContent → Type 0
 HavePlaces text prefixes = map (λ p. p.places) prefixes ≡ map (λ p. places (renamed (tokens_of prefixes) text).words p.token) prefixes
 

@@ -1,4 +1,4 @@
--- A text in which a prefix term is the token of each word that it stands for, so that it is asked as one word is.
+-- A text in which a prefix term is the token of each word that it stands for, so that it is looked up like a single word.
 use Rattle.std.specs.Prelude.{ℕ, Bool, true, not, ◌&&◌, ◌||◌, List, [], ◌∷◌, map, bytes_eq, if◌then◌else◌}
 use Rattle.std.specs.List.{list_any, list_all}
 use Rattle.gcl_model.specs.Texts.{Text, Word}
@@ -33,7 +33,7 @@ do_overlap a b = begins_with (prefix_of a) (prefix_of b) || begins_with (prefix_
 abbrev pub is_among : List (List ℕ) → List ℕ → Bool
 is_among prefixes token = list_any (λ prefix. bytes_eq prefix token) prefixes
 
--- no other one of the prefix terms overlaps with this one
+-- no other prefix term overlaps with this one
 abbrev pub is_alone : List (List ℕ) → List ℕ → Bool
 is_alone prefixes token = list_all (λ prefix. bytes_eq prefix token || not (do_overlap prefix token)) prefixes
 

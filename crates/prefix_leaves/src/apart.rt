@@ -2,7 +2,6 @@
 ghost use Rattle.std.specs.Prelude.{◌≡◌, map, not};
 ghost use Rattle.std.specs.List.{list_all};
 ghost use Rattle.gcl_model.specs.FormOf.{form_of, forms_from};
-ghost use Rattle.gcl_model.specs.Wide.{prefix_of};
 ghost use Rattle.prefix_leaves.specs.Renaming.{are_alone, do_overlap, is_alone, is_among, is_meant_among};
 ghost use Rattle.prefix_leaves.specs.Renaming.{are_apart, is_apart, is_apart_token};
 
@@ -10,7 +9,7 @@ use crate::meant::{begins_with, front, is_meant_by};
 use gcl_model::{Bytes, Expr};
 use wide_terms::is_prefix_term;
 
-/// Whether each name of the expression means words that no other one means, where these are its prefix terms.
+/// Whether each name of the expression means words that no other name means, given that these are its prefix terms.
 #[cycle(apart)]
 pub(crate) fn is_apart(prefixes: &[Bytes], expr: &Expr) -> bool
     ensures { result ≡ is_apart prefixes.now (form_of expr.now) }

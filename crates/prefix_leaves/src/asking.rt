@@ -1,4 +1,4 @@
-//! The members of an expression over a version, of whose prefix terms the places are at hand.
+//! The members of an expression over a version, with the places of its prefix terms already gathered.
 ghost use Rattle.std.specs.Prelude.{◌≡◌, ℕ, ◌+◌, ◌<◌, ◌≤◌, true, length, take, IfOk, OnErr};
 ghost use Rattle.gcl_model.specs.FormOf.{form_of};
 ghost use Rattle.gcl_model.specs.Limits.{far};
@@ -23,9 +23,9 @@ use std::marker::Brand;
 use std::sync::ledger;
 use term_fingers::{Fingers, Naming};
 
-/// The members of the page, of which the cursor has passed none. Its full pages, and one that is not full or a number after them, make no
-/// more look-ups in all than it has left when it is made, unless memory is refused. `Err` is out of memory: then the page can be asked for
-/// again, and the look-ups have no limit any more.
+/// The members of the page, of which the cursor has passed none. The cursor's full pages, and a page that is not full or a number after
+/// them, make no more look-ups in all than the cursor has left when it is made, unless an allocation fails. `Err` means out of memory:
+/// then the page can be asked for again, but the look-ups no longer have a limit.
 pub fn wide_page<S: ledger::Ledger>(
     alloc: Global,
     cursor: &mut Cursor,
@@ -91,7 +91,7 @@ fn page_of<J: Naming, S: ledger::Ledger>(
     cursor.page(alloc, expr, &leaves, page, steps)
 }
 
-/// How many members start at `from` or later, where this many came before. It takes no memory.
+/// How many members start at `from` or later, if `given` came before. It allocates nothing.
 pub fn wide_number<S: ledger::Ledger>(
     cursor: &mut Cursor,
     version: &Version,

@@ -1,5 +1,4 @@
-ghost use Rattle.std.specs.Prelude.{◌≡◌, ◌+◌, ◌*◌, ◌≤◌, IfSome, IsNone};
-ghost use Rattle.gcl_model.specs.Elements.{IsElementFrom, IsElementUpTo};
+ghost use Rattle.std.specs.Prelude.{◌≡◌, ◌+◌};
 ghost use Rattle.prefix_leaves.specs.Prefixes.{AreOver, HavePlaces, tokens_of};
 ghost use Rattle.prefix_leaves.specs.Renaming.{renamed};
 
@@ -8,7 +7,7 @@ use gcl_model::{Interval, Leaves, Ledger, Pair, Span, Steps};
 use prefix_places::PrefixPlaces;
 
 /// Leaves, and the places of some prefix terms over them. Each of their words has the prefix term that means it as its token, so a prefix
-/// term is asked as one word is, and no word has two tokens.
+/// term is looked up like a single word, and no word has two tokens.
 #[derive(Drop)]
 pub struct PrefixLeaves<'a, L: Leaves> {
     inner: &'a L,
@@ -38,7 +37,7 @@ impl<L: Leaves> Leaves for PrefixLeaves<'_, L> {
 
     #[inline]
     fn next<S: Ledger>(&self, term: &[u8], k: u64, steps: &mut Steps<S>) -> Option<u64> {
-        // the span tells that the words rise
+        // the span shows that the words rise
         let _span = self.inner.span();
         if !is_meant_by_one(self.prefixes, term) {
             return self.inner.next(term, k, steps);
@@ -50,7 +49,7 @@ impl<L: Leaves> Leaves for PrefixLeaves<'_, L> {
 
     #[inline]
     fn prev<S: Ledger>(&self, term: &[u8], k: u64, steps: &mut Steps<S>) -> Option<u64> {
-        // the span tells that the words rise
+        // the span shows that the words rise
         let _span = self.inner.span();
         if !is_meant_by_one(self.prefixes, term) {
             return self.inner.prev(term, k, steps);

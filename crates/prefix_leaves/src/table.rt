@@ -1,4 +1,4 @@
-ghost use Rattle.std.specs.Prelude.{◌≡◌, ◌++◌, true, IfOk, map};
+ghost use Rattle.std.specs.Prelude.{◌≡◌, true, IfOk, map};
 ghost use Rattle.std.specs.List.{list_all};
 ghost use Rattle.gcl_model.specs.Wide.{is_prefix_term};
 ghost use Rattle.live_version.specs.Contents.{version_text};
@@ -28,7 +28,7 @@ impl Model for PrefixTable {
 }
 
 impl PrefixTable {
-    /// These terms over the version: all their places are gathered here. `Err` is out of memory.
+    /// These terms over the version: all their places are gathered here. `Err` means out of memory.
     pub fn of(
         alloc: Global,
         version: &Version,

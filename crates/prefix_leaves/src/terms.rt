@@ -1,5 +1,5 @@
 //! The prefix terms of an expression.
-ghost use Rattle.std.specs.Prelude.{◌≡◌, true, IfOk, IfSome, OnOk};
+ghost use Rattle.std.specs.Prelude.{◌≡◌, true, IfOk, IfSome};
 ghost use Rattle.std.specs.List.{list_all};
 ghost use Rattle.gcl_model.specs.FormOf.{form_of};
 ghost use Rattle.gcl_model.specs.Wide.{is_prefix_term};
@@ -11,7 +11,7 @@ use std::alloc::{AllocError, Global};
 use std::marker::Model;
 use wide_terms::is_prefix_term;
 
-/// So many prefix terms are looked for: each token is compared with each of them.
+/// The most prefix terms that are used: each token is compared with each of them.
 const MOST_PREFIXES: usize = 8;
 
 /// Some prefix terms, of which no two overlap. Contracts see them as a list.
@@ -34,9 +34,9 @@ impl Model for PrefixTerms {
 }
 
 impl PrefixTerms {
-    /// Those of an expression, where no word is meant by two of its names, and where they are few. `Err` is out of memory.
+    /// Those of an expression, or None if a word is meant by two of its names or if there are too many. `Err` means out of memory.
     ///
-    /// Of `t* ^ be` it is `t*`. Of `t* ^ to` there is none.
+    /// For `t* ^ be` it is `t*`; for `t* ^ to` it is None.
     pub fn of(alloc: Global, expr: &Expr) -> Result<Option<PrefixTerms>, AllocError>
         ensures { IfOk result (λ terms. IfSome terms (λ prefixes. is_apart prefixes (form_of expr.now) ≡ true)) }
     {
@@ -64,7 +64,7 @@ impl PrefixTerms {
     }
 }
 
-/// Puts the prefix terms of the expression to the others, each once.
+/// Adds the prefix terms of the expression to the others, each once.
 #[cycle(gather)]
 fn gather(alloc: Global, expr: &Expr, tokens: &mut TokenList) -> Result<(), AllocError>
     requires { list_all is_prefix_term tokens.old ≡ true }

@@ -15,14 +15,14 @@ skips_past low end k (x ∷ xs) (suc n) r within lt =
     let e : leb k x ≡ false = lt-leb k x (omega arith) in
     rw e (skips_past (x + 1) end k xs n r.2 (omega arith) lt)
 
--- where a member from k on comes first, it is the answer
+-- if a member at or after k comes first, it is the answer
 first_beyond : (k : ℕ) (xs : List ℕ) (n : ℕ) → (n < length xs → k ≤ get_or xs n 0) → find (λ p. leb k p) (drop n xs) ≡ slice_get xs n
 first_beyond k [] zero after = refl
 first_beyond k [] (suc n) after = refl
 first_beyond k (x ∷ xs) zero after = let e : leb k x ≡ true = le-leb k x (after (omega arith)) in rw e refl
 first_beyond k (x ∷ xs) (suc n) after = first_beyond k xs n (λ lt. after (omega arith))
 
--- the least member from k on stands at the border of those below k
+-- the least member at or after k is at the border of those below k
 pub least_at_border : (k : ℕ) (xs : List ℕ) (n : ℕ) → ArePostings xs → n ≤ length xs → (0 < n → get_or xs (n - 1) 0 < k) → (n < length xs → k ≤ get_or xs n 0) → slice_get xs n ≡ find (λ p. leb k p) xs
 least_at_border k xs zero r within before after = sym (first_beyond k xs zero after)
 least_at_border k xs (suc n) r within before after =
@@ -30,7 +30,7 @@ least_at_border k xs (suc n) r within before after =
     let below : get_or xs n 0 < k = let b = before (omega arith) in let b = rw back at b in b in
     sym (skips_past 0 (2 ^ 56) k xs n r (omega arith) below ∙ first_beyond k xs (suc n) after)
 
--- where every member is greater than k there is none up to k
+-- if every member is greater than k there is none up to k
 none_up_to : (low end k : ℕ) (xs : List ℕ) → RiseWithin low end xs → k < low → find_last (λ p. leb p k) xs ≡ None
 none_up_to low end k [] r lt = refl
 none_up_to low end k (x ∷ xs) r lt =
@@ -75,7 +75,7 @@ pub none_at_border : (xs : List ℕ) (k above n : ℕ) → IsBorderAbove xs k ab
 none_at_border xs k above zero b is = sym (none_before_first 0 (2 ^ 56) k xs b.rising (λ lt. after_border xs k above zero b lt))
 none_at_border xs k above (suc n) b is = absurd (omega arith)
 
--- the greatest member up to k stands before that border
+-- the greatest member up to k is just before that border
 pub greatest_before_border : (xs : List ℕ) (k above n last : ℕ) → IsBorderAbove xs k above n → n ≡ last + 1 → slice_get xs last ≡ find_last (λ p. leb p k) xs
 greatest_before_border xs k above n last b is =
     let within = b.within in

@@ -91,7 +91,7 @@ slots_more slots i slot prefix old new lt at was put =
     ∙ sym (prefix_places-append (live_of (take i slots)) (live_words slot) prefix)
     ∙ ap (λ words. prefix_places words prefix) (sym (live_of_more slots i slot lt at))
 
--- where no range is dead, no place is
+-- if no range is dead, no place is
 pub whole_alive : (mask : List SlotRange) (places old new : List ℕ) → length mask ≡ 0 → new ≡ old ++ places → new ≡ old ++ filter (is_alive mask) places
 whole_alive mask places old new none put =
     let empty : mask ≡ [] = nil_from_length mask none in

@@ -49,7 +49,7 @@ all_apart : (e : TermEntry) (es : List TermEntry) → AllByRecursion (Precedes e
 all_apart e [] all = tt
 all_apart e (d ∷ ds) all = (all.0.addresses, all_apart e ds all.1)
 
--- an address stands once where its term begins with the prefix, and else not at all
+-- an address occurs once if its term begins with the prefix, and else not at all
 times_run : (range : SlotRange) (prefix : List ℕ) (es : List TermEntry) (q : ℕ) → IsTable range es → times q (run_addresses prefix es) ≡ cond (begins_at prefix (term_at es q)) 1 0
 times_run range prefix [] q table = refl
 times_run range prefix (e ∷ es) q table =

@@ -1,4 +1,4 @@
--- How often a number stands in a list: two lists that do not fall are equal where this agrees for every number.
+-- How often a number occurs in a list: two lists that do not fall are equal if this agrees for every number.
 use Rattle.std.proofs.Common.{◌≡◌, ◌⊎◌, ℕ, suc, ◌+◌, ◌<◌, ◌≤◌, cond, eqb, List, [], ◌∷◌, ◌++◌, length, get_or, inl, inr, refl, sym, ap, ◌∙◌, arith, le_refl, zero-add}
 use Rattle.std.specs.List.{sum_by}
 use Rattle.std.specs.List.Sorted.{IsNonDecreasingBy}
@@ -7,7 +7,7 @@ use Rattle.std.proofs.lemmas.List.Sums.{sum_by-cons, sum_by-append}
 use Rattle.posting_code.specs.Postings.{RiseWithin}
 use Rattle.index_shard.specs.Tables.{has_address}
 
--- 1 where the numbers are equal, and else 0
+-- 1 if the numbers are equal, and else 0
 abbrev pub one : ℕ → ℕ → ℕ
 one p q = cond (eqb q p) 1 0
 
@@ -98,7 +98,7 @@ sorted_up xs sorted = from 0 xs (λ lt. omega arith) sorted
     from low [] le sorted = tt
     from low (x ∷ xs) le sorted = (le (omega arith), from x xs (λ lt. sorted 0 1 0 (omega arith) (omega arith)) (λ i j d ij lt. sorted (suc i) (suc j) d (omega arith) (omega arith)))
 
--- in a rising list a number stands once where it is a member, and else not at all
+-- in a rising list a number occurs once if it is a member, and else not at all
 pub times_rising : (low end p : ℕ) (xs : List ℕ) → RiseWithin low end xs → times p xs ≡ cond (has_address xs p) 1 0
 times_rising low end p [] r = refl
 times_rising low end p (x ∷ xs) r =

@@ -12,6 +12,6 @@ run_entries prefix entries = filter (λ (entry : TermEntry). begins_with prefix 
 abbrev pub run_addresses : List ℕ → List TermEntry → List ℕ
 run_addresses prefix entries = flat_map (λ (entry : TermEntry). entry.addresses) (run_entries prefix entries)
 
--- the addresses of the words that begin with the prefix, as the words stand in the list
+-- the addresses of the words that begin with the prefix, in the order of the list
 abbrev pub prefix_places : List Word → List ℕ → List ℕ
 prefix_places words prefix = map (λ w. w.address) (filter (λ w. begins_with prefix w.token) words)

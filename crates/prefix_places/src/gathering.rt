@@ -12,8 +12,8 @@ use posting_code::{BLOCK, Postings};
 use prefix_terms::run_of;
 use std::alloc::{AllocError, Global};
 
-/// The places of the live words of some slots that begin with the prefix. Slots stand in rising address, so those of one come after those
-/// of the slots before it.
+/// The places of the live words of some slots that begin with the prefix. Slots are in rising order of address, so the places of one come
+/// after those of the slots before it.
 pub(crate) fn gathered(alloc: Global, slots: &[Slot], prefix: &[u8]) -> Result<Vec<u64>, AllocError>
     ensures { IfOk result (λ places. places.items ≡ prefix_places (live_of slots.now) prefix.now) }
 {
@@ -24,7 +24,7 @@ pub(crate) fn gathered(alloc: Global, slots: &[Slot], prefix: &[u8]) -> Result<V
     Ok(places)
 }
 
-/// Puts the places of a slot's live words after the others.
+/// Appends the places of a slot's live words that begin with the prefix.
 fn put_slot(
     alloc: Global,
     slot: &Slot,
@@ -38,7 +38,7 @@ fn put_slot(
     Ok(())
 }
 
-/// Puts those of the places that are not dead after the others.
+/// Appends the places that are not dead.
 fn put_live(all: &[u64], mask: &SharedMask, places: &mut Vec<u64>) -> Result<(), AllocError>
     requires { ArePostings all.now }
     ensures { OnOk result (places.new.items ≡ places.old.items ++ filter (is_alive mask.now) all.now) }
@@ -57,7 +57,7 @@ fn is_whole(mask: &SharedMask) -> bool
     mask.range_count() == 0
 }
 
-/// The same, where each dead range is looked up once, at the first place in it.
+/// The same; each dead range is looked up once, at the first place in it.
 fn put_each(all: &[u64], mask: &SharedMask, places: &mut Vec<u64>) -> Result<(), AllocError>
     requires { ArePostings all.now }
     ensures { OnOk result (places.new.items ≡ places.old.items ++ filter (is_alive mask.now) all.now) }
@@ -97,7 +97,7 @@ fn addresses_of_run(alloc: Global, shard: &Shard, prefix: &[u8]) -> Result<Vec<u
     Ok(addresses)
 }
 
-/// Puts the postings after the addresses. Each block is read once.
+/// Appends the postings to the addresses. Each block is read once.
 fn put_all(list: &Postings<'_>, addresses: &mut Vec<u64>) -> Result<(), AllocError>
     ensures { OnOk result (addresses.new.items ≡ addresses.old.items ++ list.now) }
 {

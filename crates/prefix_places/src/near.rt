@@ -1,7 +1,8 @@
 ghost use Rattle.std.specs.Prelude.{◌≡◌, ◌-◌, ◌<◌, ◌≤◌, length, slice_index, slice_get};
 
-/// A place in the list whose number is not below `k`, or the end, where the one before it is below, or it is the first. In a rising list
-/// it is how many are below. It is looked for from the place `hint` on, in steps that double and then by halving. Any hint is right.
+/// The border of `k`: a place whose number is not below `k`, or the end, such that the number before it, if any, is below `k`. In a
+/// rising list it is how many numbers are below `k`. The search starts at the place `hint`, in steps that double, and then halves. Any
+/// hint is right.
 #[inline]
 pub(crate) fn border_near(numbers: &[u64], k: u64, hint: usize) -> usize
     ensures within { result ≤ length numbers.now }
@@ -19,7 +20,7 @@ pub(crate) fn border_near(numbers: &[u64], k: u64, hint: usize) -> usize
     }
 }
 
-/// The border from a place on.
+/// The border at or after a place.
 fn border_from(numbers: &[u64], k: u64, from: usize) -> usize
     requires within { from ≤ length numbers.now }
     requires before { 0 < from → slice_index numbers.now (from - 1) < k }
@@ -84,7 +85,7 @@ fn border(numbers: &[u64], k: u64, from: usize, upto: usize) -> usize
     low
 }
 
-/// The number at a place, and None at the end.
+/// The number at a place, or None at the end.
 #[inline]
 pub(crate) fn member_at(numbers: &[u64], at: usize) -> Option<u64>
     ensures { result ≡ slice_get numbers.now at }

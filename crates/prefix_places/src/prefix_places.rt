@@ -17,7 +17,7 @@ use std::marker::Model;
 pub struct PrefixPlaces {
     token: Bytes,
     places: Vec<u64>,
-    // where the last answer stood: the next one is most often near it
+    // where the last answer was: the next one is most often near it
     last: Cell<usize>,
 }
 
@@ -33,7 +33,7 @@ impl Model for PrefixPlaces {
 }
 
 impl PrefixPlaces {
-    /// The places of the term. An Err is want of memory.
+    /// The places of the term. Err means out of memory.
     pub fn of(alloc: Global, version: &Version, token: &[u8]) -> Result<PrefixPlaces, AllocError>
         requires { is_prefix_term token.now ≡ true }
         ensures { IfOk result (λ p. (p.token ≡ token.now) × (p.places ≡ wide_places (version_text version.now).words token.now)) }
@@ -62,7 +62,7 @@ impl PrefixPlaces {
         self.places.len()
     }
 
-    /// The least place from `k` on.
+    /// The least place at or after `k`.
     pub fn next(&self, k: u64) -> Option<u64>
         ensures { result ≡ find (λ p. nat_le k p) self.now.places }
     {

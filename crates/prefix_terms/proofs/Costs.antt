@@ -1,16 +1,14 @@
 -- What the words of a prefix cost in all slots.
-use Rattle.std.proofs.Common.{nat_cmp, ◌≡◌, ◌⊎◌, ℕ, zero, suc, ◌+◌, ◌*◌, ◌<◌, ◌≤◌, Bool, true, false, cond, filter, map, flat_map, List, [], ◌∷◌, ◌++◌, length, take, get_or, inl, inr, refl, sym, ap, ◌∙◌, subst, arith}
+use Rattle.std.proofs.Common.{◌≡◌, ℕ, zero, suc, ◌+◌, ◌*◌, ◌<◌, ◌≤◌, filter, List, [], ◌∷◌, ◌++◌, length, take, get_or, sym, ap, ◌∙◌, arith}
 use Rattle.std.specs.List.{AllByRecursion}
 use Rattle.std.proofs.Math.Nat.{mul-le-mul_left}
-use Rattle.gcl_model.specs.Limits.{most_slots}
 use Rattle.gcl_model.specs.Wide.{begins_with}
-use Rattle.index_shard.specs.Tables.{TermEntry}
 use Rattle.std.proofs.lemmas.List.{append-nil, append_assoc}
 use Rattle.live_version.specs.Contents.{SlotContent, VersionContent, IsSlot, IsVersion, live_of, live_words}
 use Rattle.live_version.specs.LookUps.{look_ups}
 use Rattle.live_version.specs.Terms.{terms_of}
 use Rattle.live_version.proofs.WordLemmas.{look_ups-cons, look_ups_most}
-use Rattle.wide_terms.specs.Vocabulary.{RiseInBytes, in_byte_order}
+use Rattle.wide_terms.specs.Vocabulary.{in_byte_order}
 use Rattle.wide_terms.proofs.Tokens.{Has, filter_has, has_filter, has_left, has_right, rising_filter, rising_shorter}
 use Rattle.wide_terms.proofs.Vocabularies.{order_rises, order_has}
 use Rattle.prefix_terms.specs.Costs.{terms_with_prefix, prefix_cost}

@@ -1,6 +1,6 @@
--- The terms that begin with a prefix stand in a row of a rising table.
-use Rattle.std.proofs.Common.{nat_cmp, Ordering, ◌≡◌, ◌⊎◌, ℕ, zero, suc, ◌+◌, ◌-◌, ◌<◌, ◌≤◌, Bool, true, false, cond, ◌&&◌, filter, map, find, List, [], ◌∷◌, ◌++◌, length, take, drop, bytes_eq, slice_get, Option, Some, None, inl, inr, refl, sym, ap, ◌∙◌, subst, arith}
-use Rattle.std.specs.List.{AllByRecursion, list_any}
+-- The terms that begin with a prefix are consecutive in a rising table.
+use Rattle.std.proofs.Common.{nat_cmp, Ordering, ◌≡◌, ◌⊎◌, ℕ, zero, suc, ◌+◌, ◌-◌, ◌<◌, ◌≤◌, Bool, true, false, cond, map, List, [], ◌∷◌, length, bytes_eq, slice_get, Option, Some, None, inl, inr, refl, sym, ap, ◌∙◌, subst, arith}
+use Rattle.std.specs.List.{AllByRecursion}
 use Rattle.std.specs.Option.{option_map}
 use Rattle.std.specs.Ordering.{ordering_then}
 use Rattle.std.specs.Cmp.Lexicographic.{slice_cmp}
@@ -105,7 +105,7 @@ option_suc : (o : Option ℕ) (i : ℕ) → option_map (λ n. n + 1) o ≡ Some 
 option_suc None i is = absurd cc
 option_suc (Some j) i is = let e : j + 1 ≡ i = cc in (j, refl, omega arith)
 
--- at its place stands the term
+-- at its place is the term
 pub named_at : (es : List TermEntry) (term : List ℕ) (i : ℕ) → place_of es term ≡ Some i → slice_get (names es) i ≡ Some term
 named_at [] term i is = absurd cc
 named_at (e ∷ es) term i is = here (bytes_eq e.term term) refl is (named_at es term)
@@ -120,7 +120,7 @@ pub record IsPlaced (es : List TermEntry) (low term : List ℕ) : Type 0 where
   pub is : place_of es term ≡ Some place
   pub first : IsFirstAbove (names es) low place
 
--- where a table has a least term from the low one on, its place is the first
+-- if a table has a least term at or after the low one, its place is the first
 pub least_placed : (range : SlotRange) (es : List TermEntry) (low term : List ℕ) → IsTable range es → least_term es low false ≡ Some term → IsPlaced es low term
 least_placed range [] low term table least = absurd cc
 least_placed range (e ∷ es) low term table least =
@@ -169,7 +169,7 @@ module _ (tokens : List (List ℕ)) (prefix : List ℕ) (start end : ℕ) (first
     behind = λ k token is le. let lt = slice_get_within tokens k token is in absurd (omega arith);
   }
 
-  -- or one that does not begin with the prefix stands behind it
+  -- or one that does not begin with the prefix comes after it
   pub run_stops : (stop : List ℕ) → RiseInBytes tokens → slice_get tokens end ≡ Some stop → begins_with prefix stop ≡ false → IsRun tokens prefix start end
   run_stops stop rising at fails = record {
     ordered = ordered;

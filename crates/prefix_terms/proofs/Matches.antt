@@ -1,13 +1,9 @@
 -- The live terms of a slot's row are the words of the slot that begin with the prefix.
-use Rattle.std.proofs.Common.{nat_cmp, ◌≡◌, ◌⊎◌, ℕ, zero, suc, ◌+◌, ◌-◌, ◌*◌, ◌<◌, ◌≤◌, Bool, true, false, cond, ◌&&◌, ◌||◌, leb, filter, map, find, List, [], ◌∷◌, ◌++◌, length, take, drop, get_or, bytes_eq, slice_get, Option, Some, None, inl, inr, refl, sym, ap, ◌∙◌, subst, arith, is_some}
+use Rattle.std.proofs.Common.{◌≡◌, ℕ, zero, suc, ◌+◌, ◌-◌, ◌*◌, ◌<◌, ◌≤◌, Bool, true, false, cond, ◌&&◌, ◌||◌, leb, filter, map, find, List, [], ◌∷◌, ◌++◌, length, take, bytes_eq, slice_get, Option, Some, inl, inr, refl, sym, ap, ◌∙◌, subst, arith, is_some}
 use Rattle.std.specs.List.{AllByRecursion, list_any}
-use Rattle.std.specs.Cmp.Lexicographic.{slice_cmp}
-use Rattle.std.specs.declared.cmp.Ordering.TheVariants.{Less}
 use Rattle.std.proofs.Math.Nat.{mul-le-mul_left}
-use Rattle.std.proofs.lemmas.Bool.{true≢false, cases_Bool, and_parts, and_from, and_left, false_from_ne_true, le-leb}
+use Rattle.std.proofs.lemmas.Bool.{cases_Bool, and_parts, and_from, and_left, false_from_ne_true, le-leb}
 use Rattle.std.proofs.lemmas.Slice.Eq.{bytes_eq-Decides}
-use Rattle.std.proofs.lemmas.List.{map-append, take_more}
-use Rattle.std.proofs.lemmas.List.Elements.{filter_more}
 use Rattle.gcl_model.specs.Slots.{SlotRange}
 use Rattle.gcl_model.specs.Texts.{Word, places}
 use Rattle.gcl_model.specs.Wide.{begins_with}
@@ -151,7 +147,7 @@ postings_at range (e ∷ es) (suc n) t table at =
     member (x ∷ xs) zero is = let same : x ≡ t = cc in inl same
     member (x ∷ xs) (suc k) is = inr (member xs k is)
 
--- a search from 0 on finds one exactly where there is one
+-- a search starting at 0 finds one exactly if there is one
 pub found_alive : (mask : List SlotRange) (ps : List ℕ) → is_some (find (λ p. leb 0 p) (filter (is_alive mask) ps)) ≡ list_any (is_alive mask) ps
 found_alive mask [] = refl
 found_alive mask (p ∷ ps) = elim (cases_Bool (is_alive mask p)) [
@@ -165,7 +161,7 @@ pub in_slot : (slot : SlotContent) (shard : ShardContent) (mask : List SlotRange
 in_slot slot shard mask term o at_shard at_mask is =
     is ∙ ap (λ m. nearest Forward (filter (is_alive m) (postings_of shard.table term)) 0) at_mask ∙ ap (λ (s : ShardContent). nearest Forward (filter (is_alive slot.mask) (postings_of s.table term)) 0) at_shard
 
--- where nothing is dead each term has a live posting
+-- if nothing is dead each term has a live posting
 pub whole_live : (range : SlotRange) (mask : List SlotRange) (es : List TermEntry) (n : ℕ) → IsTable range es → n < length es → mask ≡ [] → list_any (is_alive mask) (addresses_at es n) ≡ true
 whole_live range mask [] n table lt none = absurd (omega arith)
 whole_live range mask (e ∷ es) zero table lt none = here e.addresses table.0.some
@@ -196,7 +192,7 @@ count_upto prefix tokens zero = omega arith
 count_upto prefix [] (suc n) = omega arith
 count_upto prefix (x ∷ xs) (suc n) = let rest = count_upto prefix xs n in elim (cases_Bool (begins_with prefix x)) [ inl h ↦ rw h (omega (arith, rest)) | inr h ↦ rw h rest ]
 
--- what so many of them cost
+-- what the given number of them cost
 pub cost_more : (prefix : List ℕ) (tokens : List (List ℕ)) (n : ℕ) (t : List ℕ) (each : ℕ) → slice_get tokens n ≡ Some t → begins_with prefix t ≡ true →
     length (filter (begins_with prefix) (take (n + 1) tokens)) * each ≡ length (filter (begins_with prefix) (take n tokens)) * each + each
 cost_more prefix tokens n t each at begins = ap (λ m. m * each) (count_more prefix tokens n t at begins) ∙ omega arith

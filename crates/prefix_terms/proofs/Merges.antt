@@ -5,7 +5,7 @@ use Rattle.std.specs.declared.cmp.Ordering.TheVariants.{Less, Equal, Greater}
 use Rattle.std.proofs.lemmas.List.{append_assoc, append-nil, drop_all, drop_more, take_all, length-drop, map-append}
 use Rattle.std.proofs.lemmas.Map.Lookups.{exact_bytes}
 use denote.Ref.{Bor}
-use Rattle.wide_terms.specs.Vocabulary.{ComesBefore, RiseInBytes, in_byte_order}
+use Rattle.wide_terms.specs.Vocabulary.{RiseInBytes, in_byte_order}
 use Rattle.wide_terms.proofs.Tokens.{greater_before}
 use Rattle.wide_terms.proofs.Vocabularies.{order_rising, order_less, order_equal, order_greater}
 use Rattle.prefix_terms.specs.Runs.{tokens_in}
@@ -60,7 +60,7 @@ module _ (out first second : List (Bor (List ℕ))) (i j : ℕ) (d e : Bor (List
       ∙ ap (λ l. tokens_in out ++ l)
       (ap (λ l. (get_or second j e).now ∷ in_byte_order (l ++ tokens_in (drop (j + 1) second))) first_is ∙ sym (order_greater (get_or first i d).now (get_or second j e).now (tokens_in (drop (i + 1) first)) (tokens_in (drop (j + 1) second)) rise_i rise_j (greater_before (get_or first i d).now (get_or second j e).now is)) ∙ sym both_are)
 
--- where one of the lists is done, the other one's rest follows
+-- if one of the lists is done, the rest of the other list follows
 pub rest_of : (first second : List (Bor (List ℕ))) (i j : ℕ) → RiseInBytes (tokens_in first) → RiseInBytes (tokens_in second) → (length first ≤ i) ⊎ (length second ≤ j) →
     left_of first second i j ≡ tokens_in (drop i first) ++ tokens_in (drop j second)
 rest_of first second i j rise_first rise_second (inl done) =

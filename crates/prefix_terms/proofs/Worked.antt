@@ -2,7 +2,7 @@
 use Rattle.std.specs.Prelude.{◌≡◌, ℕ, List, [], ◌∷◌, refl, codes}
 use Rattle.gcl_model.specs.Slots.{slot_range}
 use Rattle.index_shard.specs.Tables.{TermEntry, ShardContent}
-use Rattle.live_version.specs.Contents.{SlotContent, VersionContent, version_content, slot_content}
+use Rattle.live_version.specs.Contents.{SlotContent, version_content, slot_content}
 use Rattle.prefix_terms.specs.Costs.{terms_with_prefix, prefix_cost}
 
 abbrev entry : List ℕ → List ℕ → TermEntry

@@ -6,7 +6,7 @@ use Rattle.live_version.specs.Contents.{SlotContent, VersionContent}
 use Rattle.live_version.specs.Terms.{terms_of}
 use Rattle.wide_terms.specs.Vocabulary.{in_byte_order}
 
--- the different terms of the slots' indexes that begin with the prefix, also those of which no posting is alive
+-- the different terms of the slots' indexes that begin with the prefix, including those without a live posting
 abbrev pub terms_with_prefix : List SlotContent → List ℕ → List (List ℕ)
 terms_with_prefix slots prefix = filter (begins_with prefix) (in_byte_order (terms_of slots))
 

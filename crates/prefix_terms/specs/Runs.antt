@@ -1,4 +1,4 @@
--- The terms of an index that begin with a prefix stand in a row.
+-- The terms of an index that begin with a prefix are consecutive.
 use Rattle.std.specs.Prelude.{◌≡◌, ℕ, ◌+◌, ◌*◌, ◌<◌, ◌≤◌, true, false, ◌&&◌, List, [], ◌∷◌, length, map, filter, Some, slice_get}
 use Rattle.std.specs.Ordering.{nat_cmp}
 use Rattle.std.specs.Cmp.Lexicographic.{slice_cmp}
@@ -23,7 +23,7 @@ names entries = map (λ (entry : TermEntry). entry.term) entries
 abbrev pub live_in : List SlotRange → List ℕ → List TermEntry → List (List ℕ)
 live_in mask prefix entries = names (filter (λ (entry : TermEntry). begins_with prefix entry.term && list_any (is_alive mask) entry.addresses) entries)
 
--- the tokens before the place come before the low one, and those from there on do not
+-- the tokens before the place come before `low`, and those at or after it do not
 pub record IsFirstAbove (tokens : List (List ℕ)) (low : List ℕ) (place : ℕ) : Type 0 where
   pub within : place ≤ length tokens
   pub before : (k : ℕ) (token : List ℕ) → slice_get tokens k ≡ Some token → k < place → slice_cmp nat_cmp token low ≡ Less
@@ -37,7 +37,7 @@ pub record IsRun (tokens : List (List ℕ)) (prefix : List ℕ) (start end : ℕ
   pub inside : (k : ℕ) (token : List ℕ) → slice_get tokens k ≡ Some token → start ≤ k → k < end → begins_with prefix token ≡ true
   pub behind : (k : ℕ) (token : List ℕ) → slice_get tokens k ≡ Some token → end ≤ k → begins_with prefix token ≡ false
 
--- what the words of a prefix cost, slot by slot: each term of an index one look-up, and one for each dead range
+-- what the words of a prefix cost, slot by slot: for each term of an index one look-up, and one for each dead range
 abbrev pub run_costs : List ℕ → List SlotContent → ℕ
 run_costs prefix [] = 0
 run_costs prefix (slot ∷ slots) = length (filter (begins_with prefix) (names slot.shard.table)) * (1 + length slot.mask) + run_costs prefix slots

@@ -6,7 +6,6 @@ ghost use Rattle.gcl_model.specs.Wide.{wide};
 ghost use Rattle.live_version.specs.Contents.{version_text};
 ghost use Rattle.prefix_terms.specs.Costs.{prefix_cost};
 ghost use Rattle.wide_terms.specs.Expansion.{expansion, sum_of_prefixes};
-ghost use Rattle.wide_terms.specs.Vocabulary.{matching_words};
 
 use crate::words::matching;
 use gcl_model::{Expr, Ledger, Steps, TokenList};
@@ -56,9 +55,10 @@ impl<S: Ledger> WordTable for VersionWords<'_, S> {
 }
 
 /// The expression with each prefix term replaced by one of the words of the version that begin with its prefix. Its concordance list is the
-/// wide list of the expression, so an evaluator answers a query with prefix terms by it. It depends on the words and the expression alone.
+/// wide list of the expression, so an evaluator answers a query with prefix terms by evaluating it. It depends on the words and the
+/// expression alone.
 ///
-/// Of `t* .. b*` over `to be or not to be` it makes `to .. be`.
+/// Over `to be or not to be` it turns `t* .. b*` into `to .. be`.
 pub fn expand<S: Ledger>(
     alloc: Global,
     version: &Version,
@@ -67,7 +67,8 @@ pub fn expand<S: Ledger>(
 ) -> Result<Expr, AllocError>
     requires { IsWellFormed (form_of expr.now) }
     ensures value { IfOk result (λ expanded. form_of expanded ≡ expansion (version_text version.now) (form_of expr.now)) }
-    ensures wide { IfOk result (λ expanded. concordance (version_text version.now) (form_of expanded) ≡ wide (version_text version.now) (form_of expr.now)) }
+    ensures wide { IfOk result (λ expanded.
+        concordance (version_text version.now) (form_of expanded) ≡ wide (version_text version.now) (form_of expr.now)) }
     ensures well_formed { IfOk result (λ expanded. IsWellFormed (form_of expanded)) }
     ensures counted { steps.old ≤ steps.new }
     ensures cost { steps.new ≤ steps.old + sum_of_prefixes (prefix_cost version.now) (form_of expr.now) }

@@ -23,7 +23,8 @@ pub(crate) fn live_run<'a, S: Ledger>(
 ) -> Result<Vec<&'a [u8]>, AllocError>
     ensures words { IfOk result (λ words. tokens_in words.items ≡ matching_words (live_words slot.now) prefix.now) }
     ensures counted { steps.old ≤ steps.new }
-    ensures cost { steps.new ≤ steps.old + length (filter (begins_with prefix.now) (names slot.now.shard.table)) * (1 + length slot.now.mask) }
+    ensures cost { steps.new ≤ steps.old +
+        length (filter (begins_with prefix.now) (names slot.now.shard.table)) * (1 + length slot.now.mask) }
 {
     let run = run_of(slot.shard(), prefix);
     let mut words = Vec::with_capacity(alloc, run.end - run.from)?;

@@ -1,4 +1,4 @@
-ghost use Rattle.std.specs.Prelude.{◌≡◌, ◌≤◌, ◌<◌, length};
+ghost use Rattle.std.specs.Prelude.{◌≡◌, ◌<◌};
 ghost use Rattle.gcl_model.specs.Wide.{begins_with};
 ghost use Rattle.index_shard.specs.Tables.{IsShard};
 ghost use Rattle.prefix_terms.specs.Runs.{IsFirstAbove, IsRun, names};
@@ -12,7 +12,7 @@ pub struct Run {
     pub end: usize,
 }
 
-/// The places of the terms that begin with the prefix: in byte order they stand in a row.
+/// The places of the terms that begin with the prefix: in byte order they are consecutive.
 pub fn run_of(shard: &Shard, prefix: &[u8]) -> Run
     ensures run { IsRun (names shard.now.table) prefix.now result.from result.end }
     ensures shard { IsShard shard.now }
@@ -28,7 +28,7 @@ pub fn run_of(shard: &Shard, prefix: &[u8]) -> Run
     Run { from, end }
 }
 
-/// The place of the first term that is the prefix or comes after it, or behind the last one where all come before it.
+/// The place of the first term that is the prefix or comes after it, or after the last term if all come before it.
 fn first_place(shard: &Shard, prefix: &[u8]) -> usize
     ensures first { IsFirstAbove (names shard.now.table) prefix.now result }
     ensures shard { IsShard shard.now }

@@ -10,10 +10,10 @@ use gcl_model::{Bytes, Ledger, Steps, TokenList};
 use live_version::{Slot, Version};
 use std::alloc::{AllocError, Global};
 
-/// The words of the version that begin with the prefix, in rising byte order and each once. A word all of whose postings are dead is none.
-/// A look-up is made only for a term of a slot with a dead range.
+/// The words of the version that begin with the prefix, in rising byte order and each once. A word whose postings are all dead does not
+/// count. A look-up is made only for a term of a slot with a dead range.
 ///
-/// Of `to be or not to be` from address 0 on the words with the prefix `o` are `or` alone, and with the prefix `to` they are `to`.
+/// In `to be or not to be` at address 0, the only word with the prefix `o` is `or`, and the only one with the prefix `to` is `to`.
 pub fn matching<S: Ledger>(
     alloc: Global,
     version: &Version,

@@ -29,7 +29,7 @@ run_of asks lanes old new before after works run same of i d lt =
     let lt' : i < length before = subst (λ (n : ℕ). i < n) run.readers lt in
     (run.later i d lt').publisher ∙ of i d lt' ∙ sym same
 
--- the first of them are, beside the others as they were
+-- the first of them are, next to the others as they were
 pub of_parts : (old new : Book) (all low high after : List ReaderContent) → all ≡ low ++ high → new ≡ old → AreOf old all → AreOf new after → AreOf new (after ++ high)
 of_parts old new all low high after is same of now =
     let rest : AreOf old high = all_right (λ (reader : ReaderContent). reader.publisher ≡ old) low high (subst (AreOf old) is of) in
@@ -44,7 +44,7 @@ pub either_publisher : (wanted : Bool) (old new : EngineContent) → (new ≡ ol
 either_publisher wanted old new (inl same) = ap (λ (e : EngineContent). e.publisher) same
 either_publisher wanted old new (inr merged) = where_publisher wanted old new merged
 
--- what holds in any case holds where all went well
+-- what holds in any case holds if all went well
 pub on_ok : {T E : Type 0} (P : Type 0) (result : Result T E) → P → OnOk result P
 on_ok P (Ok value) p = p
 on_ok P (Err fault) p = tt

@@ -5,7 +5,7 @@ use Rattle.manifest_publish.specs.Accounts.{ReaderContent}
 use Rattle.query_lanes.specs.declared.lane.Work.{Work}
 use Rattle.query_lanes.specs.inner.Lanes.{IsTold, IsSettled}
 
--- the readers below a place were told, and the others are as before
+-- the readers below a place were notified, and the others are as before
 pub record ToldUpto (history : List VersionContent) (place : ℕ) (before after : List ReaderContent) : Type 0 where
   pub count : length after ≡ length before
   pub below : (i : ℕ) (d : ReaderContent) → i < place → IsTold history (slice_index_or before i d) (slice_index_or after i d)

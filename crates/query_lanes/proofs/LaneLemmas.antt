@@ -67,8 +67,8 @@ are_made_more asks lanes at next before mid after answers ask some place asked e
         let is : ask ≡ other = cc (asked, there) in
         made_after other before mid after one early (subst (λ (a : Ask). IsMadeOn a mid after one) is (subst (λ (y : Made). IsMadeOn ask mid after y) same new))
 
--- The heart: the reader of a lane was told of the engine's history before the batch, and has seen its history after it. So a version that it
--- entered is one of the engine's where its number is not above the engine's, and not one before the batch
+-- The heart: the reader of a lane was notified of the engine's history before the batch, and has seen its history after it. So a version
+-- that it entered is one of the engine's if its number is not above the engine's, and not one before the batch
 pub trusted : (asks : List Ask) (lanes at : ℕ) (old new : EngineContent) (first told run settled : ReaderContent) (work work' : Work)
     → HasOneText old new → IsTold old.history first told → IsRun asks lanes at told run work → IsSettled new.history run settled work work'
     → IsTrusted asks lanes new.version.number (version_text new.version) at work'
@@ -103,7 +103,7 @@ all_trusted asks lanes old new first told run settled works works' count text t 
     some_reader : EngineContent → ReaderContent
     some_reader e = record { publisher = e.publisher; seen = []; told = []; kept = [] }
 
--- the answers of lanes stay trusted where some of one lane are taken out
+-- the answers of lanes stay trusted if some of one lane are taken out
 pub trusted_less : (asks : List Ask) (last : ℕ) (text : Text) (works : List Work) (at : ℕ) (d work : Work) → at < length works
     → ((k : ℕ) (made : Made) → slice_get work.made.items k ≡ Some (Some made) → slice_get (slice_index_or works at d).made.items k ≡ Some (Some made))
     → work.is_settled ≡ (slice_index_or works at d).is_settled → AreTrusted asks last text works → AreTrusted asks last text (slice_set works at work)
@@ -151,7 +151,7 @@ runs_together asks lanes from up low high low' high' works works' is a b = recor
         rw (get_or-append_right low high (length low) i d refl far.0, get_or-append_right low' high' (length low) i d a.readers far.0, get_or-append_right works works' (length low) i e a.works_are far.0)
         (subst (λ (n : ℕ). AreMadeOn asks lanes n (slice_index_or high (i - length low) d) (slice_index_or high' (i - length low) d) (slice_index_or works' (i - length low) e).made.items) at (b.made (i - length low) d e far.1))
 
--- of a result that is something known where it counts, and something known of that where it counts
+-- of a result that is something known if it counts, and something known of that if it counts
 pub kept_is : {A : Type 0} {counts : Type 0} {here there : A} (result : Option A) → (counts → here ≡ there) → IfSome result (λ found. (found ≡ here) × counts)
     → IfSome result (λ found. found ≡ there)
 kept_is None told is = tt

@@ -7,7 +7,7 @@ pub get_behind : {A : Type 0} (xs : List A) (y : A) → slice_get (xs ++ y ∷ [
 get_behind [] y = refl
 get_behind (x ∷ xs) y = get_behind xs y
 
--- what stands in a list with one member more stood there before, or is that one
+-- what is in a list with one more member was there before, or is that member
 pub get_more : {A : Type 0} (xs : List A) (y : A) (k : ℕ) (x : A) → slice_get (xs ++ y ∷ []) k ≡ Some x → (slice_get xs k ≡ Some x) ⊎ ((k ≡ length xs) × (y ≡ x))
 get_more [] y zero x h = inr (refl, cc h)
 get_more [] y (suc k) x h = absurd (cc h)

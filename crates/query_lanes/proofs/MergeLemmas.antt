@@ -11,7 +11,7 @@ use Rattle.collection.specs.Engines.{EngineContent}
 use Rattle.query_lanes.specs.Merges.{IsMerged, IsMergedWhere, HasOneText}
 use Rattle.query_lanes.proofs.ListLemmas.{get_behind, get_more}
 
--- the last version stands at the place of its number
+-- the last version is at the place of its number
 pub latest_at : (history : List VersionContent) (v : VersionContent) → EndsWith history v → slice_get history v.number ≡ Some v
 latest_at history v ends =
     let count : v.number + 1 ≡ length history = latest-number history v ends.0 ends.1 in
@@ -20,7 +20,7 @@ latest_at history v ends =
     let P : ℕ → Type 0 = λ k. slice_get history k ≡ Some v in
     subst P place (subst (λ (l : List VersionContent). slice_get l (length ends.1.0) ≡ Some v) (sym ends.1.1) (get_behind ends.1.0 v))
 
--- what stands at the last place is the last version
+-- what is at the last place is the last version
 last_is : (history : List VersionContent) (v w : VersionContent) (i : ℕ) → EndsWith history v → length history ≤ i + 1 → slice_get history i ≡ Some w → w ≡ v
 last_is history v w i ends far here =
     let count : v.number + 1 ≡ length history = latest-number history v ends.0 ends.1 in

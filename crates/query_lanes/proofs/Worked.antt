@@ -5,7 +5,7 @@ use Rattle.query_lanes.specs.declared.asks.Asked.TheVariants.{All, First, Number
 use Rattle.query_lanes.specs.declared.asks.Found.TheVariants.{List as Members, Total}
 use Rattle.query_lanes.specs.Answers.{found_in}
 
--- the members of "to" over `to be or not to be` from address 0 on
+-- the members of "to" over `to be or not to be` at address 0
 abbrev to_list : List Extent
 to_list = extent 1 1 ∷ extent 5 5 ∷ []
 

@@ -14,8 +14,8 @@ use Rattle.query_lanes.specs.declared.asks.Ask.{Ask}
 use Rattle.query_lanes.specs.declared.asks.Found.{Found}
 use Rattle.query_lanes.specs.declared.asks.Found.TheVariants.{List as Members, Total, Refused}
 
--- what is found in a list: all of it, its first members up to a number, or how many it has. In (1, 1), (5, 5) a query for the first one
--- finds (1, 1)
+-- what is found in a list: all of it, its first members up to a number, or how many it has. In (1, 1), (5, 5) a query for the first
+-- member finds (1, 1)
 abbrev pub found_in : Asked → List Extent → Found
 found_in All list = Members list
 found_in (First most) list = Members (take most list)
@@ -26,6 +26,6 @@ abbrev pub answer_by : Asked → Text → Result (Arc Expr Global) QueryFault �
 answer_by asked text (Ok expr) = found_in asked (wide text (form_of expr.value))
 answer_by asked text (Err fault) = Refused fault
 
--- the answer to a query over a text: over "to be or not to be" from address 0 on, to `count "to"` it is the number 2
+-- the answer to a query over a text: over "to be or not to be" at address 0, to `count "to"` it is the number 2
 abbrev pub answer_in : Text → Ask → Found
 answer_in text ask = answer_by ask.asked text ask.query

@@ -1,4 +1,4 @@
--- Readers of one publisher, and what they know after some enterings.
+-- Readers of one publisher, and what they know after they entered.
 use Rattle.std.specs.Prelude.{◌≡◌, ℕ, ◌<◌, List, length, slice_index_or}
 use Rattle.std.specs.List.{AllByRecursion}
 use mathlib.Core.List.{IsPrefix}
@@ -10,7 +10,7 @@ use Rattle.manifest_publish.specs.Accounts.{ReaderContent, GoesOn}
 abbrev pub AreOf : Book → List ReaderContent → Type 0
 AreOf publisher readers = AllByRecursion (λ reader. reader.publisher ≡ publisher) readers
 
--- the same, of the reader at each place
+-- the same for the reader at each place
 abbrev pub EachIsOf : Book → List ReaderContent → Type 0
 EachIsOf publisher readers = (i : ℕ) (d : ReaderContent) → i < length readers → (slice_index_or readers i d).publisher ≡ publisher
 

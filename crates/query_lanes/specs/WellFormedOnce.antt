@@ -1,4 +1,4 @@
--- A query may carry that its expression is well formed, since a form is so in one way at most.
+-- A query may carry a proof that its expression is well formed, since there is one at most.
 use Rattle.std.specs.Prelude.{Result, Ok, Err, IfOk}
 use Rattle.std.specs.Global.{Global}
 use Rattle.std.specs.declared.sync.Arc.{Arc}

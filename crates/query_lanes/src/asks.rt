@@ -14,7 +14,7 @@ use std::sync::Arc;
 pub enum Asked {
     /// All members.
     All,
-    /// This many members from the first one, or all where there are fewer.
+    /// The first members, this many, or all if there are fewer.
     First(u64),
     /// How many members there are.
     Number,
@@ -33,7 +33,7 @@ pub struct Ask {
 }
 
 impl Ask {
-    /// About how many look-ups a lane needs to answer it over a version. Of a list it finds the first page alone.
+    /// About how many look-ups a lane needs to answer it over a version. Of a list it finds only the first page.
     pub(crate) fn look_ups(&self, version: &Version) -> u64 {
         if !self.takes_a_walk() {
             return 0;
@@ -49,8 +49,8 @@ impl Ask {
         look_ups_of(version, expr, most)
     }
 
-    /// Whether its answer takes a walk. The number of members of a term, or of one of several terms, is that of their postings, and a fault
-    /// is known.
+    /// Whether its answer takes a walk. The number of members of a term, or of "one of" several terms, is that of their postings, and a
+    /// fault is already known.
     fn takes_a_walk(&self) -> bool {
         let Ok(expr) = &self.query else {
             return false;

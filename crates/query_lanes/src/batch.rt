@@ -25,7 +25,7 @@ use std::alloc::AllocError;
 use std::sync::Wait;
 use std::thread::{Threads, join_mut};
 
-/// The lanes on one side, and a merge on the other. The engine has this thread: where no other can be made, the merge comes first.
+/// The lanes on one side, and a merge on the other. The engine has this thread: if no other can be made, the merge comes first.
 fn run_beside<R: Threads + Wait + Sync, G: Gate + Sync>(
     rt: &R,
     dealt: &Dealt<'_, G>,
@@ -55,7 +55,7 @@ fn run_beside<R: Threads + Wait + Sync, G: Gate + Sync>(
     merged
 }
 
-/// All lanes, and a merge beside them where one is pending.
+/// All lanes, and concurrently a merge if one is pending.
 fn run_all<R: Threads + Wait + Sync, G: Gate + Sync>(
     rt: &R,
     dealt: &Dealt<'_, G>,
@@ -79,11 +79,11 @@ fn run_all<R: Threads + Wait + Sync, G: Gate + Sync>(
     Ok(())
 }
 
-// So many look-ups take half a millisecond, which is how late a thread may start.
+// This many look-ups take half a millisecond, which is how late a thread may start.
 const WORTH_THREADS: u64 = 16_384;
 
-/// Whether threads can take more off this one than they cost. All of them together take as long as the longest query at the least, so what
-/// the others need is all that can be saved.
+/// Whether threads can save this one more than they cost. All of them together take at least as long as the longest query, so what the
+/// others need is all that can be saved.
 fn is_worth_threads(version: &Version, asks: &[Ask]) -> bool {
     let mut all = 0u64;
     let mut longest = 0;
@@ -98,7 +98,7 @@ fn is_worth_threads(version: &Version, asks: &[Ask]) -> bool {
     false
 }
 
-/// How many lanes a batch gets, of this many at the most. One that is not worth threads gets one lane beside a merge, and else none.
+/// How many lanes a batch gets, `most` at most. One that is not worth threads gets one lane if a merge is pending, and else none.
 fn lanes_of(version: &Version, asks: &[Ask], pending: bool, most: usize) -> usize
     ensures { result ≤ most }
 {
@@ -111,7 +111,7 @@ fn lanes_of(version: &Version, asks: &[Ask], pending: bool, most: usize) -> usiz
     most.min(1)
 }
 
-/// A batch that needs no lanes: the merge, where one is pending, and then each query on the engine's own pass.
+/// A batch that needs no lanes: the merge, if one is pending, and then each query on the engine's own pass.
 fn answer_in_turn<R: Wait, G: Gate>(
     context: &Context<'_, R, G>,
     asks: &[Ask],
@@ -168,10 +168,10 @@ fn answer_in_lanes<R: Threads + Wait + Sync, G: Gate + Sync>(
     gather(context.alloc, engine, works, asks)
 }
 
-/// Answers a batch of queries in lanes, and merges beside them where a merge is pending. The query at place `j`, counted from 0, goes to
-/// lane `j` modulo the number of lanes. There is a lane for each reader where the queries are worth threads. If they are not, one lane
-/// answers them beside a merge; and with no merge, or no reader, each query is answered on the engine's own pass. The answers come in the
-/// order of the queries. `Err` is out of memory: then the merge may have been made.
+/// Answers a batch of queries in lanes, and merges concurrently if a merge is pending. The query at place `j`, counted from 0, goes to
+/// lane `j` modulo the number of lanes. If there are several readers and the queries are worth threads, there is a lane for each reader,
+/// but no more lanes than queries. Else one lane answers them alongside a merge; and with no merge, or no reader, each query is answered
+/// on the engine's own pass. The answers come in the order of the queries. `Err` means out of memory: then the merge may have been made.
 ///
 /// Over `to be or not to be` the batch `find "to"`, `count "be"` is answered by the listing 1 to 1, 5 to 5, and the total 2.
 pub fn answer_batch<R: Threads + Wait + Sync, G: Gate + Sync>(

@@ -27,7 +27,7 @@ pub fn find(alloc: Global, pass: Pass, asked: Asked, expr: &Arc<Expr>) -> Result
         Asked::First(most) => most,
         Asked::Number => {
             let total = search.count();
-            // let go by name: at the end of its block this takes long to prove
+            // dropped by name: at the end of its block this takes long to prove
             drop(search);
             return Ok(Found::Total(total));
         }
@@ -50,7 +50,7 @@ pub fn answer_alone(alloc: Global, engine: &Engine, ask: &Ask) -> Result<Found, 
     }
 }
 
-/// Answers all queries there, in their order. The gate is notified of each query, but of no answer: of answers those of lanes alone count.
+/// Answers all queries that way, in their order. The gate is notified of each query, but of no answer: only answers of lanes count.
 pub fn answer_all<G: Gate>(
     alloc: Global,
     gate: &G,

@@ -1,4 +1,4 @@
-ghost use Rattle.std.specs.Prelude.{◌≡◌, ◌↔◌, ◌<◌, ℕ, length, map, slice_get, Some, IfOk, IfSome, IsTrue};
+ghost use Rattle.std.specs.Prelude.{◌≡◌, ◌↔◌, ◌<◌, ℕ, map, slice_get, Some, IfOk, IfSome, IsTrue};
 ghost use Rattle.gcl_model.specs.Texts.{Text};
 ghost use Rattle.live_version.specs.Contents.{version_text};
 ghost use Rattle.query_lanes.specs.declared.asks.Ask.{Ask};
@@ -23,21 +23,21 @@ fn take_made(made: &mut Vec<Option<Made>>, k: usize) -> Option<Made>
     made[k].take()
 }
 
-/// Whether an answer counts, which a lane made on the version of this number, where the engine's last version has the number `last`.
+/// Whether an answer that a lane made on the version of this number counts, if the engine's last version has the number `last`.
 fn counts(last: u64, is_settled: bool, number: u64) -> bool
     ensures { IsTrue result ↔ Counts is_settled last number }
 {
     is_settled && number <= last
 }
 
-/// An answer, where it counts. A function of its own, so that what is not taken is dropped here.
+/// An answer, if it counts. A function of its own, so that what is not taken is dropped here.
 fn kept(last: u64, is_settled: bool, made: Made) -> Option<Found>
     ensures { IfSome result (λ found. (found ≡ made.found) × Counts is_settled last made.number) }
 {
     counts(last, is_settled, made.number).then_some(made.found)
 }
 
-/// Takes the answer that a lane made to the query at `j`, where it counts.
+/// Takes the answer that a lane made to the query at `j`, if it counts.
 fn take_kept(last: u64, works: &mut [Work], asks: &[Ask], j: usize) -> Option<Found>
     ensures trusted { (text : Text) → AreTrusted asks.now last text works.old → AreTrusted asks.now last text works.new }
     ensures found { (text : Text) (ask : Ask) → AreTrusted asks.now last text works.old → slice_get asks.now j ≡ Some ask →
@@ -52,7 +52,7 @@ fn take_kept(last: u64, works: &mut [Work], asks: &[Ask], j: usize) -> Option<Fo
     kept(last, work.is_settled, made)
 }
 
-/// The answers to all queries, in their order: those that the lanes made, where they count, and else made again.
+/// The answers to all queries, in their order: those that the lanes made, if they count, and else made again.
 pub fn gather(
     alloc: Global,
     engine: &Engine,

@@ -21,7 +21,7 @@ pub(crate) struct Made {
 /// What a lane has done.
 #[derive(Drop)]
 pub(crate) struct Work {
-    // The answers to its queries in turn, None where none was made.
+    // The answers to its queries in turn, None if none was made.
     pub made: Vec<Option<Made>>,
     // Whether it was out of memory.
     pub is_short: bool,
@@ -46,7 +46,7 @@ impl Work {
     }
 }
 
-/// Enters anew and answers a query. None comes where there was no pass, and where the query is refused.
+/// Enters anew and answers a query. Returns None if there was no pass, or if the query is refused.
 fn make<G: Gate>(
     dealt: &Dealt<'_, G>,
     ask: &Ask,
@@ -68,7 +68,7 @@ fn make<G: Gate>(
     Ok(Some(Made { number, found }))
 }
 
-/// Answers the queries of lane `at`: every `lanes`-th one from the one at `at`.
+/// Answers the queries of lane `at`: every `lanes`-th query, starting with the one at `at`.
 fn make_all<G: Gate>(
     dealt: &Dealt<'_, G>,
     at: usize,

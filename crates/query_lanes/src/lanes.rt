@@ -22,8 +22,8 @@ fn run_one<G: Gate>(dealt: &Dealt<'_, G>, from: usize, works: &mut [Work], reade
     }
 }
 
-/// Answers the queries of the lanes from `from` to the last one, each lane's in its turn. At each step another thread takes the first
-/// lane: so this thread makes all others, and none of them waits for the start of another one.
+/// Answers the queries of the lanes from `from` to the last one, each lane's in their order. At each step another thread takes the
+/// first lane: so this thread makes all others, and none of them waits for the start of another one.
 #[cycle(parts)]
 pub fn run_lanes<R: Threads + Sync, G: Gate + Sync>(
     rt: &R,

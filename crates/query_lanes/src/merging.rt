@@ -18,7 +18,7 @@ pub fn merge<R: Wait, G: Gate>(rt: &R, gate: &G, engine: &mut Engine) -> Result<
     Ok(())
 }
 
-/// Merges where a merge is pending.
+/// Merges if a merge is pending.
 pub fn merge_where<R: Wait, G: Gate>(
     rt: &R,
     gate: &G,

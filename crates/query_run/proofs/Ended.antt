@@ -1,4 +1,4 @@
--- From what ended a run over a source to the status that tells it.
+-- From what ended a run over a source to the status that reports it.
 use Rattle.std.proofs.Common.{◌≡◌, ℕ, ◌+◌, ◌≤◌, ◌<◌, Bool, true, false, List, length, refl, sym, ap, ◌∙◌, subst, arith, Option, None, Some, IfSome, IsSomeAnd}
 use Rattle.std.specs.Prelude.{Result, Ok, Err, OnOk, IsErrOf}
 use Rattle.std.specs.Io.KnownBytes.{IsAtEnd}
@@ -30,7 +30,7 @@ never_usage (Err Write) refused is = cc is
 never_usage (Err Files) refused is = cc is
 never_usage (Err NoMemory) refused is = cc is
 
--- what holds where all was answered holds at the status that says so
+-- what holds if all was answered holds at the status that says so
 answered : {T : Type 0} {P : Type 0} (r : Result T StreamFault) (refused : Bool) → OnOk r P → IsAllAnswered (status_of r refused) → P
 answered (Ok v) refused p is = p
 answered (Err Read) refused p is = absurd is
@@ -147,7 +147,7 @@ pub stopped_told : {T : Type 0} (r : Result T StreamFault) (refused : Bool) (s :
 stopped_told r refused s told limits first completed version kept left held held' old new =
     subst (λ how. WhereTold limits (Some first) left held (λ start script. IsStopped limits start (lines limits.line script) completed version how kept held' old new)) (sym (ap status_ending told ∙ same_ending r refused))
 
--- where no object failed and the script is within the limit
+-- if no object failed and the script is within the limit
 finished : {T : Type 0} (r : Result T StreamFault) (refused : Bool) (most : ℕ) (left left' : Option (List ℕ)) (source source' sink sink' files files' : ℕ) →
     HasRead most left left' source source' r → Counts sink sink' (IsErrOf r Write) → Counts files files' (IsErrOf r Files) → (Rose source source' → ⊥) → (Rose sink sink' → ⊥) → (Rose files files' → ⊥) →
     IsSomeAnd left (λ script. length script ≤ most) → IsFinished (status_of r refused)
@@ -169,7 +169,7 @@ not_within : (most : ℕ) (left : Option (List ℕ)) → IfSome left (λ script.
 not_within most None short longer = longer
 not_within most (Some script) short longer = omega (arith, short, longer)
 
--- and where it is longer
+-- and if it is longer
 cut : {T : Type 0} (r : Result T StreamFault) (refused : Bool) (most : ℕ) (left left' : Option (List ℕ)) (source source' sink sink' files files' : ℕ) →
     HasRead most left left' source source' r → Counts sink sink' (IsErrOf r Write) → Counts files files' (IsErrOf r Files) → (Rose source source' → ⊥) → (Rose sink sink' → ⊥) → (Rose files files' → ⊥) →
     IsSomeAnd left (λ script. most < length script) → IsCutOff (status_of r refused)
@@ -185,7 +185,7 @@ pub cut_off : {T : Type 0} (r : Result T StreamFault) (refused : Bool) (s : Stat
     IsSomeAnd left (λ script. most < length script) → IsCutOff s
 cut_off r refused s told most left left' source source' sink sink' files files' read wrote kept a b c script = subst IsCutOff (sym told) (cut r refused most left left' source source' sink sink' files files' read wrote kept a b c script)
 
--- an object that the status does not name stands still
+-- an object that the status does not name has no new fault
 pub source_calm : {T : Type 0} (r : Result T StreamFault) (refused : Bool) (before now : ℕ) → Counts before now (IsErrOf r Read) → (status_of r refused ≡ ReadFault → ⊥) → now ≡ before
 source_calm {T} r refused before now counts calm = counts.same (λ of. calm (ap (λ (x : Result T StreamFault). status_of x refused) of))
 

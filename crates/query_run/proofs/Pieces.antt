@@ -56,7 +56,7 @@ feeds_front n read xs behind old new left after within from pushed few same =
       held_few = subst (λ (l : List ℕ). length new.held ≤ length old.held + length l) front few;
     }
 
--- The count of faults where nothing failed.
+-- The count of faults if nothing failed.
 
 pub still : {P : Type 0} (before now : ℕ) → now ≡ before → (P → ⊥) → Counts before now P
 still before now same none = record { later = omega (arith, same); rose = λ p. absurd (none p); same = λ calm. same }

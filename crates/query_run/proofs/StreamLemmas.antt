@@ -34,7 +34,7 @@ use Rattle.query_run.proofs.Beginnings.{halts_after, more_within, take_more}
 pub hands_none : (left : Option (List ℕ)) → HandsOver 0 left left
 hands_none left = record { taken = []; from = Consumes-nil left; count_is = refl }
 
--- and then so many bytes more
+-- and then the given number of bytes more
 pub hands_more : (r count : ℕ) (left mid after : Option (List ℕ)) → HandsOver r left mid → HandsOver count mid after → HandsOver (r + count) left after
 hands_more r count left mid after hands more = record {
   taken = hands.taken ++ more.taken;
@@ -148,12 +148,12 @@ fed_served most r n n' held held' script fed taken count =
           fed.lines_are later ∙ ap (λ (l : List Line). take n all ++ l) (taken later) ∙ sym (append_assoc (take n all) served (lines most (held' ++ later))) ∙ ap (λ (l : List Line). l ++ lines most (held' ++ later)) (sym upto);
     }
 
--- where the script was read to its end, what is held are the lines that are left
+-- if the script was read to its end, what is held are the lines that are left
 pub fed_rest : (most r n : ℕ) (held script : List ℕ) → IsFed most r n held script → length script ≤ r → drop n (lines most script) ≡ lines most held ++ []
 fed_rest most r n held script fed over =
     fed_left most r n held script fed ∙ ap (λ (l : List ℕ). lines most (held ++ l)) (drop_of_length-le script over) ∙ ap (lines most) (append-nil held) ∙ sym (append-nil (lines most held))
 
--- the lines that are completed stand within the limit
+-- the lines that are completed are within the limit
 pub fed_within : (most r n limit : ℕ) (held script : List ℕ) → IsFed most r n held script → has_newline held ≡ false → r ≤ limit →
     (more : List Line) × (lines most (within limit script) ≡ take n (lines most script) ++ more)
 fed_within most r n limit held script fed none short =
@@ -294,7 +294,7 @@ all_done n m all batch within is count =
     let behind : length all - n ≡ length batch + 0 = sym (length-drop n all) ∙ ap length is ∙ length-append batch [] in
     omega (arith, behind, within, count)
 
--- where no line has a name, no lines among them have one
+-- if no line has a name, no lines among them have one
 pub none_among : (f : Line → List (List ℕ)) (n : ℕ) (all batch rest : List Line) → drop n all ≡ batch ++ rest → flat_map f all ≡ [] → flat_map f batch ≡ []
 none_among f n all batch rest is none =
     let split : flat_map f all ≡ flat_map f (take n all) ++ (flat_map f batch ++ flat_map f rest) =

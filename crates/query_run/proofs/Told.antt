@@ -1,4 +1,4 @@
--- Where it is known what the source has left and what the files hold, and of what the lines open it is said rightly what it is an image of.
+-- If it is known what the source has left and what the files hold, and of what the lines open it is said rightly what it is an image of.
 use Rattle.std.proofs.Common.{◌≡◌, ℕ, ◌+◌, ◌||◌, inl, Bool, false, List, [], length, drop, append-nil, refl, sym, ap, ◌∙◌, subst, Option, Some, None, IsSome, IfSome, arith}
 use Rattle.outside.specs.Contents.{Contents}
 use Rattle.collection.specs.Engines.{EngineContent}
@@ -48,7 +48,7 @@ told_read limits first None held P h = tt
 told_read limits first (Some script) None P h = tt
 told_read limits first (Some script) (Some contents) P h = λ images read. h script contents images refl refl read
 
--- what is known where the script is
+-- what is known if the script is
 at_script : (left : Option (List ℕ)) (P : List ℕ → Type 0) (script : List ℕ) → left ≡ Some script → IfSome left P → P script
 at_script None P script is p = absurd (cc is)
 at_script (Some other) P script is p = let same : other ≡ script = cc is in subst P same p
@@ -174,7 +174,7 @@ pub kept_at : {X : Type 0} (left : Option (List ℕ)) (P : List ℕ → Type 0) 
 kept_at None P x = tt
 kept_at (Some script) P x = λ p. refl
 
--- a made run whose sink did not fail answered all, or wanted memory
+-- a made run whose sink did not fail answered all, or is out of memory
 pub made_finishes : (s : Status) (Failed : Type 0) → IsMadeEnd s → (s ≡ WriteFault → Failed) → (Failed → ⊥) → IsFinished s
 made_finishes Done Failed is cause calm = tt
 made_finishes DoneWithRefusals Failed is cause calm = tt
@@ -190,7 +190,7 @@ pub made_at : (options : Option Options) (Calm : Type 0) (s : Status) → (Calm 
 made_at None Calm s h = tt
 made_at (Some options) Calm s h = λ made calm. h calm
 
--- a stop where the script is told is a part of its output
+-- a stop is a part of the output of the script, if the script is known
 pub told_part : (limits : Limits) (first : ℕ) (how : Ending) (kept : Type 0) (left : Option (List ℕ)) (held held' : Option Contents) (old new : Option (List ℕ)) (completed : ℕ) (engine : EngineContent) →
     WhereTold limits (Some first) left held (λ start script. IsStopped limits start (lines limits.line script) completed engine.version how kept held' old new) →
     WhereTold limits (Some first) left held (λ start script. GetsPart old new (output_by limits start script))

@@ -15,7 +15,7 @@ use Rattle.made_corpus.specs.Summary.{summary}
 use Rattle.command_words.specs.declared.options.Made.{Made}
 use Rattle.command_words.specs.declared.options.Options.{Options}
 
--- At the state before the first line and the script: where the words give an address, it is known what the source has left and what the
+-- At the state before the first line and the script: if the words give an address, it is known what the source has left and what the
 -- files hold, and of each content that the lines open it is said rightly what it is an image of
 abbrev pub WhereTold : Limits → Option ℕ → Option (List ℕ) → Option Contents → (State → List ℕ → Type 0) → Type 0
 WhereTold limits first left held P = IfSome first (λ address. IfSome left (λ script. IfSome held (λ contents.
@@ -44,9 +44,9 @@ pub record IsLeftBy (limits : Limits) (start : State) (script : List ℕ) (engin
   pub keeps : Keeps engine false (state_after limits start (lines limits.line script))
   pub each : completed ≡ length (lines limits.line script)
 
--- This many lines are completed: the sink got the beginning of the answers to them and to the query that the next line asks, if it asks one, and where no
--- write failed and there was memory, it got all answers to them and no more. The files hold what the lines leave, but for the name that the next line
--- saves, and where each keep succeeded exactly that. Where the files failed, the next line names one
+-- This many lines are completed: the sink got the beginning of the answers to them and to the query that the next line asks, if it asks
+-- one, and if no write failed and there was memory, it got all answers to them and no more. The files hold what the lines leave, except for
+-- the name that the next line saves, and exactly that if each keep succeeded. If the files failed, the next line names one
 pub record StopsAfter (limits : Limits) (start : State) (script : List Line) (completed : ℕ) (how : Ending) (kept : Type 0) (held : Option Contents) (old new : Option (List ℕ)) : Type 0 where
   pub within : completed ≤ length script
   pub part : GetsPart old new (text_of_lines (answers limits start (take (completed + begun (drop completed script)) script)))
@@ -79,16 +79,16 @@ within most script = ended (take most script)
 abbrev pub made_opening : ℕ → Made → Images → State
 made_opening first made images = opening first (made_files made.start made.count) images
 
--- At the state before the first line of the made script, where of each content that its lines open it is said rightly what it is an image of: they
--- open none
+-- At the state before the first line of the made script, if of each content that its lines open it is said rightly what it is an image of:
+-- they open none
 abbrev pub WhereMade : ℕ → Made → (State → Type 0) → Type 0
 WhereMade first made P = (images : Images) → AreRead greatest_limits (made_opening first made images) (lines most_line (made_text made.start made.count)) → P (made_opening first made images)
 
--- where the words ask for a made corpus
+-- if the words ask for a made corpus
 abbrev pub WhereMadeBy : Option Options → (Made → State → Type 0) → Type 0
 WhereMadeBy options P = IfSome options (λ (o : Options). IfSome o.made (λ (made : Made). WhereMade o.first made (P made)))
 
--- what is told of a made run in place of its output
+-- what is reported of a made run in place of its output
 abbrev pub made_summary : Made → State → List ℕ
 made_summary made start = summary made.start made.count (output start (made_text made.start made.count))
 

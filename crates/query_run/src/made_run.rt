@@ -20,7 +20,7 @@ use std::random::RandomSource;
 use std::sync::Wait;
 use std::thread::Threads;
 
-/// Answers the script of a made corpus over its files, and writes the summary of the answers, which are kept nowhere.
+/// Answers the script of a made corpus over its files, and writes the summary of the answers, which are not kept.
 pub fn run_made<R: Threads + Wait + Sync + RandomSource, K: Sink, G: Gate + Sync>(
     context: &Context<'_, R, G>,
     first: u64,
@@ -51,7 +51,7 @@ pub fn run_made<R: Threads + Wait + Sync + RandomSource, K: Sink, G: Gate + Sync
     }
 }
 
-/// The answers to a made script, as far as a summary tells of them.
+/// The answers to a made script, as far as a summary reports them.
 #[derive(Drop)]
 struct MadeAnswers {
     told: SummarySink,
@@ -61,7 +61,7 @@ struct MadeAnswers {
     lines: u64,
 }
 
-/// Answers the script of a made corpus. None comes for want of memory alone, since the objects never fail.
+/// Answers the script of a made corpus. Returns None only if out of memory, since the objects never fail.
 fn answer_made<R: Threads + Wait + Sync + RandomSource, G: Gate + Sync>(
     context: &Context<'_, R, G>,
     first: u64,
@@ -101,7 +101,7 @@ fn answer_made<R: Threads + Wait + Sync + RandomSource, G: Gate + Sync>(
     })
 }
 
-/// Writes what was told of the answers.
+/// Writes the summary of the answers.
 fn write_summary<K: Sink>(
     alloc: Global,
     told: &SummarySink,

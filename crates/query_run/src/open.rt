@@ -11,7 +11,7 @@ use std::hash::{BuildHasher, Hasher, RandomState};
 use std::random::RandomSource;
 use std::sync::Wait;
 
-/// A number of the run's own, or 0 where the system has no random bytes.
+/// A number of the run's own, or 0 if the system has no random bytes.
 fn own_number<R: RandomSource>(rt: &R) -> u64 {
     match RandomState::new(rt) {
         Ok(state) => state.build_hasher().finish(),

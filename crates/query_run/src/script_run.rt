@@ -14,8 +14,8 @@ use std::random::RandomSource;
 use std::sync::Wait;
 use std::thread::Threads;
 
-/// Opens an engine that begins at this address, with at most so many readers, answers the script of the source on it, and ends it.
-/// `completed` gets the number of lines that are completed.
+/// Opens an engine that begins at this address, with at most `readers` readers, answers the script of the source on it, and ends
+/// it. `completed` gets the number of lines that are completed.
 pub fn run_script<
     R: Threads + Wait + Sync + RandomSource,
     F: Files,

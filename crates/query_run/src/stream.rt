@@ -96,7 +96,7 @@ fn serve_all<R: Threads + Wait + Sync, F: Files, S: Source, K: Sink, G: Gate + S
     ensures sink { Counts (K.faults sink.old) (K.faults sink.new) (IsErrOf result StreamFault.Write) }
     ensures faults { Counts (F.faults files.old) (F.faults files.new) (IsErrOf result StreamFault.Files) }
 {
-    // by it the collection of an empty engine is known to be one that can be saved
+    // shows that the collection of an empty engine can be saved
     let _version = opened.engine.version();
     serve_script(setting, files, source, sink, opened, progress)?;
     merge_pending(&setting.context, &mut opened.engine, &mut progress.pending)?;
@@ -104,12 +104,12 @@ fn serve_all<R: Threads + Wait + Sync, F: Files, S: Source, K: Sink, G: Gate + S
 }
 
 /// Answers the script that a source hands out, on an engine that was just opened. Before the source is asked for more, each whole line that
-/// it has handed out is answered, and the answer is handed to the sink: so whoever waits for an answer before the next line is sent is not
-/// left waiting.
+/// it has handed out is answered, and the answer is handed to the sink: so a caller that waits for an answer before it sends the next line
+/// is not left waiting.
 ///
-/// Queries in a row are a batch, which the engine's readers answer beside a merge that is pending. `opened.lines` counts the lines that are
-/// completed: one that changes the collection or a file once that is done, any other once its answer is made. It is not for this call to
-/// end the engine.
+/// Queries in a row are a batch, which the engine's readers answer concurrently with a merge that is pending. `opened.lines` counts the
+/// lines that are completed: one that changes the collection or a file once that is done, any other once its answer is made. This call does
+/// not end the engine.
 pub fn serve<R: Threads + Wait + Sync, F: Files, S: Source, K: Sink, G: Gate + Sync>(
     rt: &R,
     alloc: Global,
@@ -125,7 +125,7 @@ pub fn serve<R: Threads + Wait + Sync, F: Files, S: Source, K: Sink, G: Gate + S
     requires limits { AreLimits limits.now }
     ensures never_usage { ¬ (result ≡ Status.Usage) }
 
-    // Where the script and what the files hold are known, the bytes written are the output of the script, and the files
+    // If the script and what the files hold are known, the bytes written are the output of the script, and the files
     // hold what its lines leave.
     ensures done { result ≡ Status.Done →
         WhereTold limits.now (Some opened.old.engine.version.first) (S.left source.old) (F.held files.old) (λ start script.
@@ -138,8 +138,8 @@ pub fn serve<R: Threads + Wait + Sync, F: Files, S: Source, K: Sink, G: Gate + S
         IsLeftBy limits.now start script opened.new.engine opened.new.lines) }
 
     // Whatever the status, some lines are completed, the sink gets the beginning of the output, and the files hold exactly what these lines
-    // leave; but where a keep answered an error that is so of every name but the one that the next line saves. None did, unless the status
-    // names a fault of a file or is out of memory. Where the status names a fault of the source or the files, or too long a script, all
+    // leave; but if a keep returned an error, that holds for every name except the one that the next line saves. No keep did, unless the
+    // status names a fault of a file or is out of memory. If the status names a fault of the source or the files, or too long a script, all
     // answers to these lines are written and nothing else; and at a fault of the files the next line is the one that names the file.
     ensures stopped { WhereTold limits.now (Some opened.old.engine.version.first) (S.left source.old) (F.held files.old) (λ start script.
         IsStopped limits.now start (lines limits.now.line script) opened.new.lines opened.new.engine.version (status_ending result)
@@ -151,7 +151,7 @@ pub fn serve<R: Threads + Wait + Sync, F: Files, S: Source, K: Sink, G: Gate + S
         WhereTold limits.now (Some opened.old.engine.version.first) (S.left source.old) (F.held files.old) (λ start script.
         GetsPart (K.written sink.old) (K.written sink.new) (output_by limits.now start (within limits.now.script script))) }
 
-    // No more bytes are taken than a script may have, and one more where the status says that it is too long.
+    // No more bytes are taken than a script may have, and one more if the status says that it is too long.
     ensures took { TakesAtMost (most_taken limits.now.script result) (S.left source.old) (S.left source.new) }
 
     // Each other status has its cause.
@@ -160,8 +160,8 @@ pub fn serve<R: Threads + Wait + Sync, F: Files, S: Source, K: Sink, G: Gate + S
     ensures file_fault { result ≡ Status.FileFault → Rose (F.faults files.old) (F.faults files.new) }
     ensures too_long { result ≡ Status.ScriptTooLong → HandsOverMore limits.now.script (S.left source.old) (S.left source.new) }
 
-    // Where no object failed and the script is within its limit, all is answered, or memory is wanted. Where it is longer that is said, or
-    // memory is wanted.
+    // If no object failed and the script is within its limit, all is answered, or the run is out of memory. If it is longer, the status
+    // says so, or the run is out of memory.
     ensures complete { ¬ Rose (S.faults source.old) (S.faults source.new) → ¬ Rose (K.faults sink.old) (K.faults sink.new) →
         ¬ Rose (F.faults files.old) (F.faults files.new) → IsSomeAnd (S.left source.old) (λ script. length script ≤ limits.now.script) →
         IsFinished result }
@@ -169,12 +169,12 @@ pub fn serve<R: Threads + Wait + Sync, F: Files, S: Source, K: Sink, G: Gate + S
         ¬ Rose (F.faults files.old) (F.faults files.new) → IsSomeAnd (S.left source.old) (λ script. limits.now.script < length script) →
         IsCutOff result }
 
-    // Each object failed only where the status says so.
+    // Each object failed only if the status says so.
     ensures source_calm { ¬ (result ≡ Status.ReadFault) → S.faults source.new ≡ S.faults source.old }
     ensures sink_calm { ¬ (result ≡ Status.WriteFault) → K.faults sink.new ≡ K.faults sink.old }
     ensures files_calm { ¬ (result ≡ Status.FileFault) → F.faults files.new ≡ F.faults files.old }
 
-    // No file is asked for that no line names, and where no line saves none changes.
+    // If no line names a file, none is asked for, and if no line saves, none changes.
     ensures unasked { IfSome (S.left source.old) (λ script. names_of (lines limits.now.line script) ≡ [] → files.new ≡ files.old) }
     ensures unsaved { IfSome (S.left source.old) (λ script. names_kept_of (lines limits.now.line script) ≡ [] →
         F.held files.new ≡ F.held files.old) }
@@ -188,7 +188,7 @@ pub fn serve<R: Threads + Wait + Sync, F: Files, S: Source, K: Sink, G: Gate + S
     status_of(ended, progress.refused)
 }
 
-/// How a run over a source that ended so is told to its caller.
+/// The status of a run over a source that ended so.
 fn status_of(ended: Result<(), StreamFault>, refused: bool) -> Status
     ensures { result ≡ status_of ended refused }
 {

@@ -34,7 +34,7 @@ begins history (Some table) = refl
 pub alike : (P : Text → ℕ → Form → Type 0) (t u : Text) (m n : ℕ) (f g : Form) → t ≡ u → m ≡ n → f ≡ g → P t m f → P u n g
 alike P t u m n f g texts mosts forms holds = subst (λ (h : Form). P u n h) forms (subst (λ (k : ℕ). P u k f) mosts (subst (λ (s : Text). P s m f) texts holds))
 
--- the query of a history, by what is asked of its last version: the expression is at hand
+-- the query of a history, by what is asked of its last version: the expression is given
 module _ (query : QueryContent) (history : List VersionContent) (expr : Expr) (table : Option (List PrefixContent)) (is : IsQuery history (form_of expr) table)
     (view : record { text = query_text history table; most = query_most history table; expr = expr } ≡ query) (e : Expr) (same_expr : e ≡ expr) where
   pub asked_well_formed : IsWellFormed (form_of e)
@@ -54,7 +54,7 @@ module _ (query : QueryContent) (history : List VersionContent) (expr : Expr) (t
     pub words_list : concordance (version_text (last_of history)) (form_of e) ≡ list_of query
     words_list = ap (λ (t : Text). concordance t (form_of e)) words_text ∙ ap (concordance query.text) asked_form
 
-  -- over the places in a table, which is at hand, too
+  -- over the places in a table, which is given, too
   module _ (t : List PrefixContent) (some : table ≡ Some t) (v : VersionContent) (latest : IsLatest history v) (u : List PrefixContent) (same_table : u ≡ t) where
     pub places_over : AreOver (version_text v) u
     places_over =

@@ -1,4 +1,4 @@
--- The members of a rising list from an address on, and what is left of them after a page.
+-- The members of a rising list at or after an address, and what is left of them after a page.
 use Rattle.std.proofs.Common.{◌≡◌, ℕ, zero, suc, ◌+◌, ◌-◌, ◌<◌, ◌≤◌, min, leb, List, [], ◌∷◌, ◌++◌, length, take, drop, inl, inr, refl, sym, ap, ◌∙◌, subst, arith, append_assoc}
 use Rattle.std.proofs.lemmas.Bool.{cases_Bool, cases_lt, lt-leb, le-leb, leb-true}
 use Rattle.std.proofs.lemmas.List.{take_all, drop_all, take-append-drop, length-take-le}
@@ -23,7 +23,7 @@ kept P k (x ∷ list) all =
       | inr f ↦ rw f (kept P k list all.1)
     ]
 
--- those from an address on rise as the whole does
+-- those at or after an address rise as the whole does
 rises_from : (k : ℕ) (list : List Extent) → IsRising list → IsRising (members_from list k)
 rises_from k [] r = tt
 rises_from k (x ∷ list) r =
@@ -46,14 +46,14 @@ pub none_from : (n : ℕ) (list : List Extent) → AllByRecursion (λ (a : Exten
 none_from n [] all = refl
 none_from n (x ∷ list) all = rw (lt-leb n x.start all.0) (none_from n list all.1)
 
--- where one member starts no earlier than just before an address, all later ones start from there on
+-- if one member starts no earlier than just before an address, all later ones start at or after it
 all_later : (k : ℕ) (x : Extent) (list : List Extent) → AllByRecursion (IsAhead x) list → k ≤ x.start + 1 → members_from list k ≡ list
 all_later k x [] ahead le = refl
 all_later k x (a ∷ list) ahead le =
     let later : x.start < a.start = ahead.0.0 in
     rw (le-leb k a.start (omega arith)) (ap (λ rest. a ∷ rest) (all_later k x list ahead.1 le))
 
--- what stands between two lists is a member of both put together
+-- what is between two lists is a member of both put together
 has_between : (before rest : List Extent) (a : Extent) → Has (before ++ a ∷ rest) a
 has_between [] rest a = inl refl
 has_between (x ∷ before) rest a = inr (has_between before rest a)
@@ -79,7 +79,7 @@ pub start_before : (text : Text) (form : Form) → AllByRecursion (λ (a : Exten
 start_before text form =
     all_weaker (IsOf text) (λ (a : Extent). a.start < text.next) (λ a of. let proper = of.proper in let below = of.below in omega arith) (concordance text form) (each_of_text text (denotes text form))
 
--- and so those from an address on
+-- and so those at or after an address
 pub start_before_from : (text : Text) (form : Form) (k : ℕ) → AllByRecursion (λ (a : Extent). a.start < text.next) (members_from (concordance text form) k)
 start_before_from text form k = kept (λ (a : Extent). a.start < text.next) k (concordance text form) (start_before text form)
 
@@ -89,7 +89,7 @@ few_members text form =
     let few : length (concordance text form) ≤ text.next - 0 = few_rise 0 text.next (concordance text form) (concordance_rises text form) (all_weaker (IsOf text) (λ (a : Extent). 0 ≤ a.start) (λ a of. omega arith) (concordance text form) (each_of_text text (denotes text form))) (start_before text form) in
     omega arith
 
--- where the members after a page start: after the start of its last one, or at the end where it is not full
+-- where the members after a page start: after the start of its last one, or at the end if it is not full
 pub record IsStartAfter (page : List Extent) (most end next : ℕ) : Type 0 where
   pub full : (before : List Extent) (last : Extent) → page ≡ before ++ last ∷ [] → most ≤ length page → next ≡ last.start + 1
   pub short : length page < most → next ≡ end
@@ -127,12 +127,12 @@ page_before text form k most end page is_end is =
     subst (AllByRecursion (λ (a : Extent). a.start < text.next)) (sym is) (taken (λ (a : Extent). a.start < text.next) most (members_from (concordance text form) k) (start_before_from text form k)) in
     subst (λ (n : ℕ). AllByRecursion (λ (a : Extent). a.start < n) page) (sym is_end) all
 
--- where the address is at the end no member is left
+-- if the address is at the end no member is left
 pub none_at_end : (text : Text) (form : Form) (end : ℕ) → end ≡ text.next → members_from (concordance text form) end ≡ []
 none_at_end text form end is =
     none_from end (concordance text form) (subst (λ (n : ℕ). AllByRecursion (λ (a : Extent). a.start < n) (concordance text form)) (sym is) (start_before text form))
 
--- none starts past the end, so those from an address on are those from there or from the end on
+-- none starts past the end, so those at or after an address are those at or after it or the end
 pub from_end : (text : Text) (form : Form) (k end from : ℕ) → end ≡ text.next → from ≡ min k end → members_from (concordance text form) from ≡ members_from (concordance text form) k
 from_end text form k end from is_end is =
     elim (cases_lt k end) [
@@ -177,7 +177,7 @@ full_page all k most end next page rises some is after enough =
     ∙ ap (λ (l : List Extent). members_from l (last.start + 1)) whole
     ∙ from_behind before rest last rising
 
--- from there on the members are what a page of those from an address on leaves
+-- after that the members are what a page of those at or after an address leaves
 pub after_page : (text : Text) (form : Form) (k most end next : ℕ) (page : List Extent) → end ≡ text.next → 0 < most
     → page ≡ take most (members_from (concordance text form) k) → IsStartAfter page most end next
     → members_from (concordance text form) next ≡ drop most (members_from (concordance text form) k)

@@ -1,4 +1,4 @@
--- The pages of a listing, and members page by page from an address on.
+-- The pages of a listing, and members page by page, starting at an address.
 use Rattle.std.specs.Prelude.{◌≡◌, ℕ, ◌+◌, ◌*◌, Bool, true, false, List}
 use Rattle.gcl_model.specs.Cost.{cost}
 use Rattle.gcl_model.specs.Extents.{Extent}
@@ -12,8 +12,8 @@ use Rattle.reader_pass.specs.Members.{access_most}
 abbrev pub page_size : ℕ
 page_size = 4096
 
--- how the members of the next page are found: by accesses, of which each may make so many look-ups; by readers, which may make so many in
--- all; or not at all, since the end was reached
+-- how the members of the next page are found: by accesses, each of which may make the given number of look-ups; by readers, which may
+-- make the given number in all; or not at all, since the end was reached
 pub data Way : Type 0 where
   leaping : ℕ → Way
   reading : ℕ → Way
@@ -31,7 +31,7 @@ left_of (leaping each) = 0
 left_of (reading left) = left
 left_of ended = 0
 
--- how many a page of so many members may make besides: an access for each, and one more
+-- how many more a page of `members` members may make: an access for each, and one more
 abbrev pub leap_cost : Way → ℕ → ℕ
 leap_cost (leaping each) members = (members + 1) * each
 leap_cost (reading left) members = 0
@@ -43,7 +43,7 @@ IsAfter (leaping each) before = before ≡ leaping each
 IsAfter (reading left) before = reads before ≡ true
 IsAfter ended before = Unit {0}
 
--- an access makes at most the look-ups of one to the expression over the version, and readers begin with those of a merge of whole lists
+-- an access makes at most the look-ups of one access to the expression over the version; readers begin with those of a merge of whole lists
 abbrev pub IsWayOver : VersionContent → Form → Way → Type 0
 IsWayOver v form (leaping each) = each ≡ cost (version_text v) (access_most v) form
 IsWayOver v form (reading left) = left ≡ merge_cost (version_text v) (access_most v) form
@@ -55,6 +55,6 @@ pub record PagesContent : Type 0 where
   pub to_come : List Extent
   pub way : Way
 
--- where those that start at an address or later are to come
+-- the pages of which those members that start at or after an address are to come
 abbrev pub pages_from : List Extent → ℕ → Way → PagesContent
 pages_from list k way = record { all = list; to_come = members_from list k; way = way }

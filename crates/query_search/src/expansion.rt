@@ -14,7 +14,7 @@ use std::sync::ledger::Blank;
 use std::sync::{Arc, ledger};
 use wide_terms::{has_prefix_terms, others_stay};
 
-/// An expression of which the concordance list over the version is the wide one of this expression. One without prefix terms is not copied.
+/// An expression whose concordance list over the version is the wide list of this expression. One without prefix terms is not copied.
 pub fn expanded(alloc: Global, version: &Version, expr: Arc<Expr>) -> Result<Arc<Expr>, AllocError>
     requires { IsWellFormed (form_of expr.value) }
     ensures wide { IfOk result (λ expanded.
@@ -33,9 +33,9 @@ pub fn expanded(alloc: Global, version: &Version, expr: Arc<Expr>) -> Result<Arc
 }
 
 /// The expansion of an expression over a version, as a tree of its own: each prefix term is one of the live words that begin with its
-/// prefix. Its look-ups are not counted. `Err` is out of memory.
+/// prefix. Its look-ups are not counted. `Err` means out of memory.
 ///
-/// Over `to be or not to be`, that of `"t"*` is one of `"to"` alone.
+/// Over `to be or not to be`, that of `"t"*` is `"to"` alone.
 pub fn expansion_of(alloc: Global, version: &Version, expr: &Expr) -> Result<Expr, AllocError>
     requires { IsWellFormed (form_of expr.now) }
     ensures wide { IfOk result (λ expanded.

@@ -35,7 +35,7 @@ impl Model for Listing {
 }
 
 impl Listing {
-    /// The first `most` members of those that are to come of a search, of which the first page is found here.
+    /// The first `most` of the members of a search that are to come. The first page is found here.
     pub fn of(alloc: Global, search: Search, most: u64) -> Result<Listing, AllocError>
         requires { length search ≤ address_end }
         ensures { IfOk result (λ listing. listing ≡ take most search) }
@@ -47,17 +47,17 @@ impl Listing {
         Ok(Listing { found, rest, limit })
     }
 
-    /// By it a listing is known to have no more members than there are addresses.
+    /// Shows that a listing has no more members than there are addresses.
     pub fn is_bounded(&self)
         ensures { length self.now ≤ address_end }
     {
         let _found = self.found.len();
     }
 
-    /// The next page, which has no more than `PAGE` members. None comes where no member is left. `Err` is out of memory, and then the same
-    /// page can be asked for again.
+    /// The next page, which has no more than `PAGE` members. Returns None if no member is left. `Err` means out of memory, and then the
+    /// same page can be asked for again.
     ///
-    /// Of the two members of `"to"` over `to be or not to be` there is one page, and then none.
+    /// The two members of `"to"` over `to be or not to be` come in one page, and then None.
     pub fn next_page(&mut self, alloc: Global) -> Result<Option<IntervalList>, AllocError>
         ensures some { IfOk result (λ next. IfSome next (λ page. (self.old ≡ page ++ self.new) × (0 < length page))) }
         ensures few { IfOk result (λ next. IfSome next (λ page. length page ≤ page_size)) }

@@ -4,10 +4,10 @@ use index_shard::Shard;
 use live_version::Version;
 use wide_terms::is_prefix_term;
 
-/// About how many look-ups the first `most` members of an expression take over a version: so that a caller can tell whether threads pay.
-/// No clause speaks of it. It only reads lengths of lists, once for each term, so it is not told what is dead.
+/// About how many look-ups the first `most` members of an expression take over a version, so that a caller can decide whether threads
+/// pay. No clause speaks of it. It only reads lengths of lists, once for each term, so it does not know what is dead.
 ///
-/// At each place of the rarest term that every member has, each leaf is looked up about twice; and no way of finding goes over more than
+/// At each place of the rarest term that every member has, each leaf is looked up about twice; and no way of finding passes more than
 /// all places of all leaves. Over `to be or not to be`, `"to" .. "or"` takes about 3 of these: `or` has one place and `to` two.
 pub fn look_ups_of(version: &Version, expr: &Expr, most: u64) -> u64 {
     let reach = reach_of(version, expr);
@@ -19,10 +19,10 @@ pub fn look_ups_of(version: &Version, expr: &Expr, most: u64) -> u64 {
         .min(reach.places)
 }
 
-/// What an expression goes over.
+/// What an expression covers.
 #[derive(Clone, Copy)]
 struct Reach {
-    // How many members it has at the most, or about so.
+    // About how many members it has at most.
     members: u64,
     // How many places its leaves have together.
     places: u64,
@@ -38,7 +38,7 @@ fn leaf(places: u64) -> Reach {
     }
 }
 
-/// That of no operand, so far with this many members.
+/// The reach of no operand yet, with this many members.
 fn no_leaf(members: u64) -> Reach {
     Reach {
         members,
@@ -47,7 +47,7 @@ fn no_leaf(members: u64) -> Reach {
     }
 }
 
-/// That of two expressions together, of which so many members come.
+/// The reach of two expressions together, with the given number of members.
 fn together(a: Reach, b: Reach, members: u64) -> Reach {
     Reach {
         members,
@@ -98,7 +98,7 @@ fn reach_of_all(version: &Version, operands: &[Expr]) -> Reach {
     all
 }
 
-/// How many addresses there are at the most.
+/// How many addresses there are at most.
 fn addresses(version: &Version) -> u64 {
     version.next().saturating_sub(version.first())
 }

@@ -1,4 +1,4 @@
-//! What it takes to go over to the places of prefix terms.
+//! What is needed to switch to the places of prefix terms.
 ghost use Rattle.std.specs.Prelude.{◌≡◌, ◌≤◌, List, length, IfOk, IfSome};
 ghost use Rattle.gcl_model.specs.Extents.{Extent};
 ghost use Rattle.gcl_model.specs.FormOf.{form_of};
@@ -19,7 +19,7 @@ use std::marker::Model;
 use std::sync::Arc;
 use wide_terms::has_prefix_terms;
 
-/// An expression of which each prefix term can be asked as one word, over a version. Contracts see its wide list.
+/// An expression each of whose prefix terms can be looked up like a single word, over a version. Contracts see its wide list.
 #[derive(Drop)]
 pub(crate) struct Merging {
     alloc: Global,
@@ -46,7 +46,8 @@ impl Model for Merging {
 }
 
 impl Merging {
-    /// Of an expression over the version of a pass, if no word has two names in it. `Err` is out of memory.
+    /// Of an expression over the version of a pass, or None if some word has two names in it or it has too many prefix terms. `Err` means
+    /// out of memory.
     pub fn of(alloc: Global, pass: &Pass, expr: &Arc<Expr>) -> Result<Option<Merging>, AllocError>
         requires { IsWellFormed (form_of expr.now.value) }
         ensures { IfOk result (λ merging.
@@ -70,7 +71,7 @@ impl Merging {
         matches!(&*self.expr, Expr::Term(_))
     }
 
-    /// All its members over the places of its prefix terms, which are gathered here. `Err` is out of memory.
+    /// All its members over the places of its prefix terms, which are gathered here. `Err` means out of memory.
     pub fn pages(&self) -> Result<QueryPages, AllocError>
         ensures all { IfOk result (λ pages. pages.all ≡ self.now) }
         ensures to_come { IfOk result (λ pages. pages.to_come ≡ self.now) }
@@ -83,7 +84,7 @@ impl Merging {
     }
 }
 
-/// What it takes for an expression with prefix terms, if no word has two names in it and there is memory.
+/// The same for an expression with prefix terms, and None also if there is no memory for it.
 pub(crate) fn merging_of(alloc: Global, pass: &Pass, expr: &Arc<Expr>) -> Option<Merging>
     requires { IsWellFormed (form_of expr.now.value) }
     ensures { IfSome result (λ list. list ≡ wide (version_text (last_of pass.now.history)) (form_of expr.now.value)) }
@@ -97,7 +98,7 @@ pub(crate) fn merging_of(alloc: Global, pass: &Pass, expr: &Arc<Expr>) -> Option
     }
 }
 
-/// The same where an expansion has a wide "one of": of few words each has a finger, and then there is nothing to gain.
+/// The same if an expansion has a wide "one of", else None: few words have a finger each, and then there is nothing to gain.
 pub(crate) fn where_wide(merging: Option<Merging>, expansion: &Expr) -> Option<Merging>
     ensures { (members : List Extent) → IfSome merging (λ list. list ≡ members) → IfSome result (λ list. list ≡ members) }
 {

@@ -1,4 +1,4 @@
-ghost use Rattle.std.specs.Prelude.{◌≡◌, ◌+◌, ◌<◌, ◌≤◌, List, [], ◌∷◌, ◌++◌, length, take, drop, IfOk, IfSome, OnOk, OnErr};
+ghost use Rattle.std.specs.Prelude.{◌≡◌, ◌+◌, ◌<◌, ◌≤◌, List, [], ◌∷◌, ◌++◌, length, take, drop, IfOk, OnOk, OnErr};
 ghost use Rattle.std.specs.List.{AllByRecursion};
 ghost use Rattle.gcl_model.specs.Extents.{Extent};
 ghost use Rattle.gcl_model.specs.FormOf.{form_of};
@@ -6,7 +6,6 @@ ghost use Rattle.gcl_model.specs.Limits.{address_end};
 ghost use Rattle.gcl_model.specs.Meaning.{concordance};
 ghost use Rattle.gcl_model.specs.WellFormed.{IsWellFormed};
 ghost use Rattle.live_version.specs.Contents.{version_text};
-ghost use Rattle.manifest_publish.specs.Accounts.{EndsWith};
 ghost use Rattle.collection.specs.Engines.{last_of};
 ghost use Rattle.query_search.specs.Pages.{IsAfter, IsWayOver, ended, leap_cost, left_of, pages_from, reads};
 ghost use Rattle.query_search.specs.inner.Searches.{members_over};
@@ -25,7 +24,7 @@ use std::sync::Arc;
 pub struct Pages {
     pass: Pass,
     expr: Arc<Expr>,
-    // Where leaping may be slow, they find the members; they passed none that is to come.
+    // They find the members if leaping may be slow; they passed none that is to come.
     readers: Option<Readers>,
     // The members to come start here or later, and before `end`.
     from: u64,
@@ -47,7 +46,7 @@ impl Model for Pages {
         ReadFrom p.pass.history (form_of p.expr.value) p.from p.readers };
 }
 
-/// Where the members after a page start at the earliest: after the start of its last one, or at the end where it has fewer than were
+/// Where the members after a page start at the earliest: after the start of its last one, or at the end if it has fewer than were
 /// asked for.
 pub(crate) fn start_after(page: &IntervalList, most: u64, end: u64) -> u64
     requires below { AllByRecursion (λ (a : Extent). a.start < end) page.now }
@@ -69,7 +68,7 @@ pub(crate) fn start_after(page: &IntervalList, most: u64, end: u64) -> u64
 impl Pages {
     /// Those that start at `k` or later, of an expression without prefix terms, or of what `expansion_of` made of one over this version.
     ///
-    /// Over `to be or not to be` from address 0, those of `"to"` from 2 on are 5 to 5 alone.
+    /// Over `to be or not to be` at address 0, those of `"to"` at or after 2 are 5 to 5 alone.
     pub fn from(alloc: Global, pass: Pass, expr: Arc<Expr>, k: u64) -> Pages
         requires { IsWellFormed (form_of expr.value) }
         ensures members { result ≡ pages_from (concordance (version_text (last_of pass.history)) (form_of expr.value)) k result.way }
@@ -96,9 +95,9 @@ impl Pages {
         self.from != self.end && self.readers.is_some()
     }
 
-    /// The next `most` members, or all where fewer are to come. They are found from where the last page ended: by leaping, so that a page
-    /// takes the look-ups of its own members alone, or by readers, of which all pages together take those of one merge of whole lists.
-    /// `Err` is out of memory, and then the same page can be asked for again; readers are given up, and it is found by leaping.
+    /// The next `most` members, or all if fewer are to come. The search goes on where the last page ended: by leaping, so that a page
+    /// takes the look-ups of its own members alone, or by readers, with which all pages together take those of one merge of whole lists.
+    /// `Err` means out of memory, and then the same page can be asked for again; readers are dropped, and it is found by leaping.
     pub fn page<S: Ledger>(
         &mut self,
         alloc: Global,

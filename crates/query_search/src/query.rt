@@ -25,9 +25,9 @@ use std::alloc::{AllocError, Global};
 use std::marker::Model;
 use std::sync::{Arc, ledger};
 
-/// An expression over a version. Contracts see the text that it is asked over: that of the version, or, where the places of its prefix
-/// terms are there, the one in which these are the tokens of the words that they stand for. Over that one the expression has its wide list
-/// as its concordance list.
+/// An expression over a version. Contracts see the text that it is asked over: that of the version, or, if the places of its prefix terms
+/// are there, the one in which these are the tokens of the words that they stand for. Over that text the expression has its wide list as
+/// its concordance list.
 #[derive(Drop)]
 pub(crate) struct Query {
     pass: Pass,
@@ -60,7 +60,7 @@ impl Query {
         requires { IsWellFormed (form_of expr.value) }
         ensures { list_of result ≡ concordance (version_text (last_of pass.history)) (form_of expr.value) }
     {
-        // any call of a pass tells that it has a version
+        // any call of a pass shows that it has a version
         let _version = pass.version();
         Query {
             pass,
@@ -69,7 +69,7 @@ impl Query {
         }
     }
 
-    /// Over the places of the prefix terms, which are gathered here. `Err` is out of memory.
+    /// Over the places of the prefix terms, which are gathered here. `Err` means out of memory.
     pub fn over_places(
         alloc: Global,
         pass: Pass,
@@ -96,7 +96,7 @@ impl Query {
         self.pass.version().next()
     }
 
-    /// A cursor before all its members. It begins by readers where leaping may be slow.
+    /// A cursor before all its members. It begins with readers if leaping may be slow.
     pub fn cursor(&self, alloc: Global) -> Cursor
         ensures at { (k : ℕ) → IsAt self.now.text (form_of self.now.expr) k result }
         ensures left { left_of self.now.text self.now.most (form_of self.now.expr) result ≤ query_cost self.now }
@@ -143,7 +143,7 @@ impl Query {
         }
     }
 
-    /// How many members start at `from` or later, where this many came before.
+    /// How many members start at `from` or later, if `given` came before.
     pub fn number<S: ledger::Ledger>(
         &self,
         cursor: &mut Cursor,
@@ -169,7 +169,7 @@ impl Query {
         }
     }
 
-    /// The number of all members, where it is known by the lengths of lists.
+    /// The number of all members, if it is known from the lengths of lists.
     pub fn listed_count(&self) -> Option<u64>
         ensures { IfSome result (λ count. count ≡ length (list_of self.now)) }
     {

@@ -24,7 +24,6 @@ pub(crate) struct QueryPages {
 }
 
 impl Model for QueryPages {
-    ghost use Rattle.std.specs.Prelude.{ℕ};
     ghost use Rattle.query_search.specs.inner.Queries.{QueryLeft, GoesOnOver, left_from};
 
     ghost Value = { QueryLeft };
@@ -52,9 +51,9 @@ impl QueryPages {
         }
     }
 
-    /// The next `most` members, or all where fewer are to come. All pages, and a number after them, make no more look-ups than are left at
-    /// first: so many by leaping, and those of one merge of whole lists. `Err` is out of memory: then the same page can be asked for again,
-    /// and look-ups have no limit any more.
+    /// The next `most` members, or all if fewer are to come. All pages, and a number after them, make no more look-ups than are left at
+    /// first: a limited number by leaping, and those of one merge of whole lists. `Err` means out of memory: then the same page can be
+    /// asked for again, but look-ups no longer have a limit.
     pub fn page<S: ledger::Ledger>(
         &mut self,
         alloc: Global,
@@ -83,8 +82,8 @@ impl QueryPages {
         Ok(members)
     }
 
-    /// How many members are to come, where this many came. No list is made: it is read off the lengths of lists where it can be, and else
-    /// counted. Where readers count, they go to the end, and pages after that are found by leaping without a limit.
+    /// How many members are to come, if `given` came. No list is made: the number is read off the lengths of lists if possible, and else
+    /// counted. If readers count, they go to the end, and pages after that are found by leaping without a limit.
     pub fn count<S: ledger::Ledger>(&mut self, given: u64, steps: &mut Steps<Tally<S>>) -> u64
         requires { given + length self.old.to_come ≡ length self.old.all }
         ensures value { result ≡ length self.old.to_come }
@@ -101,7 +100,7 @@ impl QueryPages {
         self.query.number(&mut self.cursor, self.from, given, steps)
     }
 
-    /// A page for whoever has no counter of look-ups.
+    /// A page for a caller without a counter of look-ups.
     pub fn page_uncounted(&mut self, alloc: Global, most: u64) -> Result<IntervalList, AllocError>
         ensures ok { IfOk result (λ page. page ≡ take most self.old.to_come) }
         ensures rest { OnOk result (self.new.to_come ≡ drop most self.old.to_come) }
@@ -111,7 +110,7 @@ impl QueryPages {
         next_page::<Brand>(self, alloc, most, Blank::new(1))
     }
 
-    /// The number for whoever has no counter of look-ups.
+    /// The number for a caller without a counter of look-ups.
     pub fn count_uncounted(&mut self, given: u64) -> u64
         requires { given + length self.old.to_come ≡ length self.old.all }
         ensures value { result ≡ length self.old.to_come }

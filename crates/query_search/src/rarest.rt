@@ -1,8 +1,8 @@
-//! How often terms stand in a version.
+//! How often terms occur in a version.
 use gcl_model::Expr;
 use live_version::Version;
 
-/// Whether leaping asks terms less often than they have places in all, where there are this many of them. At each place of the rarest term
+/// Whether leaping asks terms less often than they have places in all, if there are this many of them. At each place of the rarest term
 /// that every member has, it asks each of them about twice. Reading asks each term at all of its own places.
 pub fn leaps_well(version: &Version, expr: &Expr, terms: u64) -> bool {
     let most = rarest(version, expr);
@@ -16,7 +16,7 @@ pub fn leaps_well(version: &Version, expr: &Expr, terms: u64) -> bool {
         < places(version, expr)
 }
 
-/// How many places the rarest of those terms has that are in every member, or `u64::MAX` where none surely is.
+/// How many places the rarest of the terms that are in every member has, or `u64::MAX` if no term is certain to be.
 #[cycle(rarest)]
 fn rarest(version: &Version, expr: &Expr) -> u64 {
     match expr {

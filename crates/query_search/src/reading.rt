@@ -19,7 +19,7 @@ use manifest_publish::Pass;
 use reader_pass::{pass_list_from, pass_read_from};
 use std::alloc::{AllocError, Global};
 
-/// Readers, where leaping may be slow and there is memory for them. They may begin at any address.
+/// Readers, if leaping may be slow and there is memory for them. They may begin at any address.
 pub fn readers_of(alloc: Global, version: &Version, expr: &Expr) -> Option<Readers>
     ensures stand { (history : List VersionContent) (from : ℕ) → ReadFrom history (form_of expr.now) from result }
     ensures way { (v : VersionContent) → IsWayOver v (form_of expr.now) (way_by v (form_of expr.now) result) }
@@ -33,8 +33,8 @@ pub fn readers_of(alloc: Global, version: &Version, expr: &Expr) -> Option<Reade
     }
 }
 
-/// The first members from an address on: by readers, where there are some, and else by leaping. Readers that may have passed members which
-/// are still to come are given up: after a page that was refused, and after the last one.
+/// The first members at or after an address: by readers if there are some, and else by leaping. Readers that may have passed members which
+/// are still to come are dropped: after a page for which an allocation failed, and after the last one.
 pub fn page_from<S: Ledger>(
     alloc: Global,
     pass: &Pass,

@@ -17,7 +17,7 @@ use std::alloc::{AllocError, Global};
 use std::marker::Model;
 use std::sync::Arc;
 
-// A page of so many members is found by the words of a lone prefix term: to gather all places takes longer.
+// A page of at most this many members of a lone prefix term is found by its words: gathering all places takes longer.
 const FEW: u64 = 256;
 
 /// One query on one version. What it needs before it can be answered is made once, and serves all its pages and its count.
@@ -25,7 +25,7 @@ const FEW: u64 = 256;
 #[derive(Drop)]
 pub struct Search {
     pages: QueryPages,
-    // What it takes to go over to the places of prefix terms for which many words stand; no member came yet where it is there.
+    // What is needed to switch to the places of prefix terms for which many words stand; while it is there, no member came yet.
     merging: Option<Merging>,
     // How many members came.
     given: u64,
@@ -44,10 +44,10 @@ impl Model for Search {
 }
 
 impl Search {
-    /// A query on the version of a pass. Its prefix terms are expanded here, once. Where many words stand for one, the first page or the
-    /// number may gather the places of all of them, once. `Err` is out of memory.
+    /// A query on the version of a pass. Its prefix terms are expanded here, once. If many words stand for one, the first page or the
+    /// number may gather the places of all of them, once. `Err` means out of memory.
     ///
-    /// Over `to be or not to be` from address 0, `"to"` and `"t"*` have the members 1 to 1 and 5 to 5.
+    /// Over `to be or not to be` at address 0, `"to"` and `"t"*` have the members 1 to 1 and 5 to 5.
     pub fn of(alloc: Global, pass: Pass, expr: Arc<Expr>) -> Result<Search, AllocError>
         requires { IsWellFormed (form_of expr.value) }
         ensures members { IfOk result (λ search. search ≡ wide (version_text (last_of pass.history)) (form_of expr.value)) }
@@ -59,8 +59,8 @@ impl Search {
         Ok(Search::with(alloc, pass, expr, merging))
     }
 
-    /// The same of an expression without prefix terms, or of what `expansion_of` made of one over this version. It takes no memory that it
-    /// cannot do without, so it has no `Err`.
+    /// The same for an expression without prefix terms, or for what `expansion_of` made of one over this version. It needs no memory to
+    /// succeed, so it has no `Err`.
     pub fn over(alloc: Global, pass: Pass, expr: Arc<Expr>) -> Search
         requires { IsWellFormed (form_of expr.value) }
         ensures members { result ≡ concordance (version_text (last_of pass.history)) (form_of expr.value) }
@@ -69,7 +69,7 @@ impl Search {
         Search::with(alloc, pass, expr, None)
     }
 
-    /// The same with what it takes to go over to the places of prefix terms.
+    /// The same with what is needed to switch to the places of prefix terms.
     fn with(alloc: Global, pass: Pass, expr: Arc<Expr>, merging: Option<Merging>) -> Search
         requires well_formed { IsWellFormed (form_of expr.value) }
         requires same { IfSome merging (λ list. list ≡ concordance (version_text (last_of pass.history)) (form_of expr.value)) }
@@ -83,8 +83,8 @@ impl Search {
         }
     }
 
-    /// The next `most` members, or all where fewer are to come. They are found from where the last page ended, and all pages together take
-    /// no more look-ups than `query_cost` says. `Err` is out of memory, and then the same page can be asked for again.
+    /// The next `most` members, or all if fewer are to come. The search goes on where the last page ended, and all pages together take no
+    /// more look-ups than `query_cost` says. `Err` means out of memory, and then the same page can be asked for again.
     pub fn page(&mut self, alloc: Global, most: u64) -> Result<IntervalList, AllocError>
         ensures ok { IfOk result (λ page. page ≡ take most self.old) }
         ensures rest { OnOk result (self.new ≡ drop most self.old) }
@@ -97,9 +97,9 @@ impl Search {
         Ok(page)
     }
 
-    /// How many members are to come. No list of them is made: it is read off the lengths of lists where it can be, and else counted. It
-    /// needs no memory, though the places of prefix terms may be gathered for it. Where readers count, they go to the end, and pages
-    /// after that are found by leaping without a limit.
+    /// How many members are to come. No list of them is made: the number is read off the lengths of lists if possible, and else
+    /// counted. It needs no memory, though the places of prefix terms may be gathered for it. If readers count, they go to the end, and
+    /// pages after that are found by leaping without a limit.
     pub fn count(&mut self) -> u64
         ensures value { result ≡ length self.old }
         ensures same { self.new ≡ self.old }
@@ -108,9 +108,9 @@ impl Search {
         self.pages.count_uncounted(self.given)
     }
 
-    /// Goes over to the places of the prefix terms, where that pays and there is memory for them. They are gathered once, and after that a
-    /// prefix term costs what one word costs. Of a prefix term alone the words give a few members and the number of all sooner: a page asks
-    /// each word once, and a number is a sum of lengths.
+    /// Switches to the places of the prefix terms, if that pays and there is memory for them. They are gathered once, and after that a
+    /// prefix term costs what one word costs. For a lone prefix term, its words give a few members and the number of all sooner: a page
+    /// asks each word once, and a number is a sum of lengths.
     fn go_over(&mut self, is_few: bool)
         ensures { self.new ≡ self.old }
     {

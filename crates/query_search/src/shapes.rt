@@ -5,19 +5,19 @@ use crate::rarest::leaps_well;
 use gcl_model::Expr;
 use live_version::Version;
 
-// Leaping through this many containments in each other is left to readers.
+// Leaping through this many nested containments is left to readers.
 const DEEP: u64 = 4;
 
-// So is "one of" more operands than these.
+// So is "one of" more operands than this.
 const FEW: u64 = 3;
 
-// Leaping has so many look-ups for each address: what people ask takes far fewer, and readers need about as many.
+// The look-ups that leaping gets for each address: what people ask takes far fewer, and readers need about as many.
 const LEAPS: u64 = 4;
 
-// The places of a prefix term are gathered where its expansion is "one of" more words than these.
+// The places of a prefix term are gathered if its expansion is "one of" more words than this.
 const WIDE: u64 = 16;
 
-/// How many look-ups leaping is given, before readers go on: none where it may ask again and again what it has asked before.
+/// How many look-ups leaping is given, before readers go on: none if it may ask again and again what it has asked before.
 pub fn leaps_of(version: &Version, expr: &Expr) -> u64
     ensures { result ≤ 4 * (version.now.next - version.now.first) }
 {
@@ -30,17 +30,16 @@ pub fn leaps_of(version: &Version, expr: &Expr) -> u64
 
 /// Whether leaping may ask again and again what it has asked before.
 ///
-/// A containment goes on from turn to turn, and each turn asks its operands. Where one of them is a chain that holds a containment, each
+/// A containment goes on from turn to turn, and each turn asks its operands. If one of them is a chain that holds a containment, each
 /// such question may be a whole search: over a text of `a` alone, that of `("a" + ("a" /< [1])) /< [1]` goes through all words for each
-/// word. Containments in each other alone do so only where they are many, and else leaping is quicker than reading.
+/// word. Nested containments alone do so only if there are many, and else leaping is quicker than reading.
 ///
 /// For each member "one of" asks all its operands anew, and "not containing" and "not contained in" the second one, unless it is the whole
-/// query, of which the last answers are kept. An operand that is far away is looked for each time: of `("to" + "be or be") ^ "not"` a
-/// phrase that never comes, through all words for each `to`. Readers keep the answers, and ask those operands alone that were passed.
+/// query, whose last answers are kept. An operand that is far away is looked for each time: in `("to" + "be or be") ^ "not"` a phrase that
+/// never comes, through all words for each `to`. Readers keep the answers, and ask only those operands that were passed.
 ///
-/// That pays too where "one of" has more than a few operands, as the expansion of a prefix has. It does not where each member has a rare
-/// term: leaping then asks the operands only close to the places of that term, and readers would go through all that they have between
-/// these.
+/// Readers also pay if "one of" has more than a few operands, as the expansion of a prefix has. They do not if each member has a rare
+/// term: leaping then asks the operands only close to the places of that term, and readers would go through all places between these.
 pub fn may_search_again(version: &Version, expr: &Expr) -> bool {
     if may_multiply(expr) || asks_anew(expr) {
         return true;
@@ -56,7 +55,7 @@ pub fn may_multiply(expr: &Expr) -> bool {
     shape.asks_a_chain || shape.nesting >= DEEP
 }
 
-/// Whether some operator below the topmost one asks an operand anew that may be far away.
+/// Whether some operator below the topmost one asks again for an operand that may be far away.
 fn asks_anew(expr: &Expr) -> bool {
     match expr {
         Expr::One(operands) => shape_of_all(operands).asks_anew,
@@ -74,24 +73,24 @@ pub fn is_wide(expr: &Expr) -> bool {
 
 #[derive(Clone, Copy)]
 struct Shape {
-    // How many containments stand in each other at the most.
+    // How deep containments are nested at most.
     nesting: u64,
     // Whether some chain holds a containment, and whether some containment has an operand in which one does.
     has_a_chain: bool,
     asks_a_chain: bool,
-    // Whether an access of it may pass many places before it finds a member, as that of a phrase or a containment, and whether some
-    // operator in it asks such an operand for each member of another one.
+    // Whether an access to it may pass many places before it finds a member, as that of a phrase or a containment, and whether some
+    // operator in it asks such an operand for each member of another operand.
     is_far: bool,
     asks_anew: bool,
-    // Of how many operands it is "one of": those of "one of" among them count in its place, and anything else is one.
+    // Of how many operands it is "one of": the operands of a "one of" among them count in its place, and anything else counts as one.
     choices: u64,
-    // How many operands a "one of" in it has at the most.
+    // How many operands a "one of" in it has at most.
     widest: u64,
     // How many terms, phrases and widths it has.
     leaves: u64,
 }
 
-/// That of several expressions together.
+/// The shape of several expressions together.
 fn together(a: Shape, b: Shape) -> Shape {
     Shape {
         nesting: a.nesting.max(b.nesting),
@@ -105,7 +104,7 @@ fn together(a: Shape, b: Shape) -> Shape {
     }
 }
 
-/// That of this many terms, phrases and widths.
+/// The shape of this many terms, phrases and widths.
 fn plain(leaves: u64) -> Shape {
     Shape {
         nesting: 0,
@@ -157,7 +156,7 @@ fn shape_of(expr: &Expr) -> Shape {
     }
 }
 
-/// That of a containment with these operands.
+/// The shape of a containment with these operands.
 fn containment(first: Shape, second: Shape) -> Shape {
     let all = together(first, second);
     Shape {

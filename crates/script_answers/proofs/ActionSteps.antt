@@ -12,7 +12,7 @@ use Rattle.script_answers.proofs.TellingLemmas.{told_is}
 use Rattle.script_answers.proofs.Service.{or_false}
 use Rattle.script_answers.proofs.Stops.{stopped_before, stopped_part}
 
--- what is told changes no state
+-- what is reported changes no state
 after_telling : (b : Bool) (state : State) (reply : Reply) → (telling_where b state reply).after ≡ reply.after
 after_telling true state reply = refl
 after_telling false state reply = refl
@@ -39,14 +39,14 @@ done_of limits state action now given d =
       lines = refl;
     }
 
--- with what an edit told after the lines of its answer
+-- with what an edit reported after the lines of its answer
 pub done_told : (limits : Limits) (state : State) (action : Action) (now : Stand) (old : EngineContent) (watches : WatchListContent) (before : Option Account) (given : Answer) → Keeps old false state → watching_of watches ≡ state.watches →
     IsBefore action old watches before → Does (action_reply limits state action) state now.engine now.pending now.held now.watches given →
     Done limits state action now (answer_lines now.engine.version given ++ told_since (since given before) now.watches now.engine.version)
 done_told limits state action now old watches before given keeps watching prior d =
     subst (Done limits state action now) (told_is limits state action old now.engine watches now.watches before now.pending now.held given keeps watching d prior) (done_of limits state action now given d)
 
--- the text of an answer, with that of what was told after it
+-- the text of an answer, with that of what was reported after it
 pub text_put : (out : List ℕ) (version : VersionContent) (given : Answer) (o prior : Option Account) (watches : WatchListContent) → out ≡ text_of_lines (answer_lines version given) → o ≡ prior →
     out ++ text_of_lines (told_since o watches version) ≡ text_of_lines (answer_lines version given ++ told_since prior watches version)
 text_put out version given o prior watches first same =
@@ -63,7 +63,7 @@ does_behind limits action before old engine pending held watches given keeps giv
     subst (λ (b : Bool). Does (action_reply limits state action) state engine b held watches given) (sym merging)
     (gives state (record { files = at.files; keeps = keeps state at.keeps }) at.watching read)
 
--- and what it changed is told
+-- and what it changed is reported
 pub done_behind : (limits : Limits) (action : Action) (before now : Stand) (old : EngineContent) (given : Answer) (prior : Option Account) → ((state : State) → Keeps before.engine before.pending state → Keeps old false state) →
     IsBefore action old before.watches prior → ((state : State) → IsAtStand before state → IsReadByAction state action → Does (action_reply limits state action) state now.engine now.pending now.held now.watches given) →
     (state : State) → IsAtStand before state → IsReadByAction state action → Done limits state action now (answer_lines now.engine.version given ++ told_since (since given prior) now.watches now.engine.version)
@@ -127,7 +127,7 @@ module _ (limits : Limits) where
             (rw told (subst (λ (l : List (List ℕ)). GetsPart old new (text_of_lines l)) (sym (append-nil d.reply.lines ∙ d.lines)) part)) (λ due. absurd (lost due)) (rw told d.at.files) ours;
       }
 
-  -- it ended while the answer was made: the line is completed where a change was
+  -- it ended while the answer was made: the line is completed if a change was made
   pub halts_unsaid : (action : Action) (line : Line) (given : Answer) (how : Ending) (kept : Type 0) (before now : Stand) (old : Option (List ℕ)) → IsActionOf action line → now.completed ≡ before.completed + completes given →
       ((state : State) → IsAtStand before state → IsReadByAction state action → Does (action_reply limits state action) state now.engine now.pending now.held now.watches given) → (IsAllWritten how → ⊥) → (IsOfFiles how → ⊥) →
       Halts limits (line ∷ []) how kept before now old old

@@ -36,7 +36,7 @@ pub no_fault : (fault : Option QueryFault) → ((wrong : QueryFault) → fault �
 no_fault None none = refl
 no_fault (Some wrong) none = absurd (none wrong refl)
 
--- beside a batch the engine keeps the state, with the merge made where it was pending
+-- while a batch is answered the engine keeps the state, with the merge made if it was pending
 pub merged_keeps : (pending : Bool) (old new : EngineContent) (state : State) → IsMergedWhere pending old new → Keeps old pending state → Keeps new false state
 merged_keeps true old new state merged keeps = record {
   stands = merged.1.change.stands state.collection keeps.stands;
@@ -97,7 +97,7 @@ asked_front (suc n) [] (line ∷ batch) are = absurd are
 asked_front (suc n) (ask ∷ asks) [] are = absurd are
 asked_front (suc n) (ask ∷ asks) (line ∷ batch) are = (are.0, asked_front n asks batch are.1)
 
--- of the lines of a batch that are left the first one may be answered in part
+-- of the lines of a batch that are left the first may be answered in part
 pub one_begun : (i : ℕ) (asks : List Ask) (batch : List Line) → AreAsked asks batch → i < length batch → begun (drop i batch) ≡ 1
 one_begun i [] [] are lt = absurd (omega (arith, lt))
 one_begun i [] (line ∷ batch) are lt = absurd are

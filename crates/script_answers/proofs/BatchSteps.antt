@@ -26,7 +26,7 @@ found_first limits state asks batch founds n are is =
     ∙ ap (flat_map found_lines) (sym (take-map (answer_in (text_of state.collection)) n asks) ∙ ap (take n) (sym is))
 
 module _ (limits : Limits) (asks : List Ask) (batch : List Line) (before after : Stand) (are : AreAsked asks batch) (held : after.held ≡ before.held) (watching : after.watches ≡ before.watches) where
-  -- it was answered where the engine keeps each state of before, and what was found is so over the collection
+  -- it was answered if the engine keeps each state of before, and what was found is so over the collection
   pub serves_batch : (founds : List Found) (old new : Option (List ℕ)) → length founds ≡ length asks → after.completed ≡ before.completed + length founds →
       ((state : State) → Keeps before.engine before.pending state → Keeps after.engine after.pending state) →
       ((state : State) → Keeps before.engine before.pending state → founds ≡ map (answer_in (text_of state.collection)) asks) →

@@ -1,4 +1,4 @@
--- What is counted and kept where a call of a line ends.
+-- What is counted and kept when a call of a line ends.
 use Rattle.std.proofs.Common.{◌≡◌, ℕ, ◌+◌, ◌≤◌, Bool, true, false, List, [], ◌∷◌, ◌++◌, length, take, drop, length-append, Result, Ok, Err, IsErrOf, OnOk, refl, sym, ap, ◌∙◌, subst, arith}
 use Rattle.std.proofs.lemmas.List.{append-nil, drop_all, take_all}
 use Rattle.std.specs.Result.{IsErrAnd}
@@ -24,7 +24,7 @@ of_err : {T : Type 0} (r : Result T RunFault) (fault : RunFault) → IsErrAnd r 
 of_err (Ok v) fault is = absurd is
 of_err (Err e) fault is = ap Err is
 
--- a count that stands still, where nothing failed
+-- a count that is unchanged, if nothing failed
 pub still : {P : Type 0} (before now : ℕ) → now ≡ before → (P → ⊥) → Counts before now P
 still before now same none = record { later = omega (arith, same); rose = λ p. absurd (none p); same = λ no. same }
 
@@ -42,14 +42,14 @@ pub not_files : (fault : WriteError) → of_write fault ≡ Files → ⊥
 not_files WriteFailed same = cc same
 not_files WriteNoMemory same = cc same
 
--- a fault of the sink, or want of memory there
+-- a fault of the sink, or out of memory there
 pub sink_ended : {T U : Type 0} (before mid now : ℕ) (r : Result T RunFault) (fault : WriteError) → mid ≡ before → IsErrAnd r (λ e. e ≡ of_write fault) → CountsWriteFault {T = U} mid now (Err fault) → HasWriteCause {T = U} mid now (Err fault) →
     Counts before now (IsErrOf r Write)
 sink_ended {T} before mid now r WriteFailed same is counts cause =
     subst (λ (n : ℕ). Counts n now (IsErrOf r Write)) same (record { later = cause.later; rose = λ of. counts; same = λ no. absurd (no (of_err r Write is)) })
 sink_ended before mid now r WriteNoMemory same is counts cause = calm before now r NoMemory Write (counts ∙ same) is (λ same. cc same)
 
--- a fault of the files, or want of memory there
+-- a fault of the files, or out of memory there
 pub files_ended : {T U : Type 0} (before now : ℕ) (r : Result T RunFault) (fault : FileError) → IsErrAnd r (λ e. e ≡ of_files fault) → CountsFileFault {T = U} before now (Err fault) → HasFileCause {T = U} before now (Err fault) →
     Counts before now (IsErrOf r Files)
 files_ended before now r FileFailed is counts cause = record { later = cause.later; rose = λ of. counts; same = λ no. absurd (no (of_err r Files is)) }
@@ -64,7 +64,7 @@ counts_as {T} {U} before mid now r fault wanted same is counts =
       same = λ no. counts.same (λ of. no (let at : fault ≡ wanted = cc of in subst (IsErrOf r) at (of_err r fault is)));
     })
 
--- the count of a call is that of the whole, where it was left before
+-- the count of a call is that of the whole, if it was left before
 pub counts_from : {P : Type 0} (before mid now : ℕ) → mid ≡ before → Counts mid now P → Counts before now P
 counts_from {P} before mid now same = subst (λ (n : ℕ). Counts n now P) same
 
@@ -77,14 +77,14 @@ on_ok_both P Q (Err e) p q = tt
 pub left : {T : Type 0} (before now : ℕ) (v : T) (wanted : RunFault) → Counts before now (IsErrOf (Ok v) wanted) → now ≡ before
 left before now v wanted counts = counts.same (λ of. cc of)
 
--- a fault of the files, or want of memory there, says of no file that it was kept
+-- a fault of the files, or being out of memory there, says of no file that it was kept
 pub unsure : {T : Type 0} (r : Result T RunFault) (fault : FileError) → IsErrAnd r (λ e. e ≡ of_files fault) → IsSureOfFiles r → ⊥
 unsure {T} r FileFailed is sure = sure_as r Files is sure
 unsure {T} r FileNoMemory is sure = sure_as r NoMemory is sure
 
--- ---- what a call leaves where it ends
+-- ---- what a call leaves when it ends
 
--- of want of memory, where it asks no file
+-- out of memory, if it asks no file
 pub short_sink : {T : Type 0} (before now : ℕ) (r : Result T RunFault) → IsErrAnd r (λ e. e ≡ NoMemory) → now ≡ before → LeavesSink before now r
 short_sink before now r is same = record { ours = λ of. cc (err_of r NoMemory Files is of); sink = calm before now r NoMemory Write same is (λ same. cc same) }
 
@@ -101,7 +101,7 @@ module _ {U C A : Type 0} (names kept : List (List ℕ)) (sink sink' faults faul
   pub done_left : A → sink' ≡ sink → faults' ≡ faults → Leaves {T = Unit} names kept U C A sink sink' faults faults' (Ok tt)
   done_left all same calm_files = record { files = record { quiet = quiet; unsaved = unsaved; sure = λ due. all }; sink = calm_done sink sink' Write same; faults = calm_done faults faults' Files calm_files }
 
-  -- of want of memory
+  -- if out of memory
   pub short_left : {T : Type 0} (r : Result T RunFault) → IsErrAnd r (λ e. e ≡ NoMemory) → sink' ≡ sink → faults' ≡ faults → Leaves names kept U C A sink sink' faults faults' r
   short_left r is same calm_files = record {
     files = record { quiet = quiet; unsaved = unsaved; sure = λ due. absurd (sure_as r NoMemory is due) };

@@ -23,11 +23,11 @@ take_first (suc k) (x ∷ xs) ys =
     let later = take_first k xs ys in
     (later.0, ap (λ l. x ∷ l) later.1)
 
--- files that hold all of this hold it but for some names
+-- files that hold all of this hold it except for some names
 pub all_held : (names : List (List ℕ)) (files : Contents) (held : Option Contents) → held ≡ Some files → HoldsBut names files held
 all_held names files held is = record { contents = files; is = is; same = λ name. inl refl }
 
--- what holds but for some names does so but for these and more
+-- what holds except for some names does so except for these and more
 pub held_more : (names more : List (List ℕ)) (files : Contents) (held : Option Contents) → HoldsBut names files held → HoldsBut (names ++ more) files held
 held_more names more files held but = record { contents = but.contents; is = but.is; same = λ name. either name (but.same name) }
   where
@@ -80,6 +80,6 @@ module _ (limits : Limits) where
   read_behind start [] ys read = read
   read_behind start (x ∷ xs) ys read = read_behind (after_reply start (answer limits start x)) xs ys read.1
 
--- where lines that are put together have no name, neither have the first of them, nor the others
+-- if lines that are put together have no name, neither have the first of them, nor the others
 pub none_apart : (f : Line → List (List ℕ)) (xs ys : List Line) → flat_map f (xs ++ ys) ≡ [] → (flat_map f xs ≡ []) × (flat_map f ys ≡ [])
 none_apart f xs ys none = both_empty (flat_map f xs) (flat_map f ys) (sym (flat_map-append f xs ys) ∙ none)

@@ -141,7 +141,7 @@ pub named_fault : {T : Type 0} {names : List (List ℕ)} (fault : FileError) →
 named_fault FileFailed named failed = named refl
 named_fault FileNoMemory named failed = absurd failed
 
--- where no line has a name, the next one has none
+-- if no line has a name, the next one has none
 none_next : (f : Line → List (List ℕ)) (all taken waiting rest : List Line) (line : Line) → all ≡ taken ++ (waiting ++ line ∷ rest) → flat_map f all ≡ [] → f line ≡ []
 none_next f all taken waiting rest line is none =
     let later = (none_apart f taken (waiting ++ line ∷ rest) (ap (flat_map f) (sym is) ∙ none)).1 in

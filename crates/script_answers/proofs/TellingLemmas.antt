@@ -1,4 +1,4 @@
--- What the watches are told after an edit, and that nothing is told where nothing is changed.
+-- What the watches report after an edit, and that nothing is reported if nothing is changed.
 use Rattle.std.proofs.Common.{◌≡◌, ℕ, ◌+◌, inl, inr, Bool, true, false, List, [], ◌++◌, map, refl, sym, ap, ◌∙◌, subst, append-nil, Option, None, Some, nat_lt}
 use Rattle.std.specs.Prelude.{flat_map, if◌then◌else◌, IfSome}
 use Rattle.std.specs.Option.{option_map}
@@ -71,7 +71,7 @@ edits_stay (ToWatch query) is = absurd (cc is)
 edits_stay (Unwatch number) is = absurd (cc is)
 edits_stay (Refuse refusal) is = absurd (cc is)
 
--- What is told after an answer is what its reply says.
+-- What is reported after an answer is what its reply says.
 
 module _ (limits : Limits) (state : State) (action : Action) (old new : EngineContent) (watches watches' : WatchListContent) (before : Option Account) (pending : Bool) (held : Option Contents) (given : Answer)
     (keeps : Keeps old false state) (watching : watching_of watches ≡ state.watches) (d : Does (action_reply limits state action) state new pending held watches' given) where
@@ -79,7 +79,7 @@ module _ (limits : Limits) (state : State) (action : Action) (old new : EngineCo
   same_watches : edits action ≡ true → watching_of watches' ≡ state.watches
   same_watches is = d.watching ∙ stays_watching limits state action d.gives.reply (edits_stay action is) d.gives.is
 
-  -- what an edit told
+  -- what an edit reported
   told_edit : edits action ≡ true → (b : Bool) → is_change given ≡ b → IsBefore action old watches before →
       changes_lines state.watches (text_of state.collection) (text_of d.gives.reply.after.collection) ≡ told_since (if b then before else None) watches' new.version
   told_edit is false still prior =
@@ -113,4 +113,4 @@ module _ (limits : Limits) (state : State) (action : Action) (old new : EngineCo
           no_edit (Some pass) prior true = absurd (clash prior.0 is)
           no_edit (Some pass) prior false = refl
 
--- A watch at a place, and the text of what it is told.
+-- A watch at a place, and the text of what it reports.

@@ -56,7 +56,7 @@ state_with_file state name tokens = record state {
 abbrev pub state_without_file : State → ℕ → State
 state_without_file state id = record state { collection = without_file state.collection id }
 
--- after a merge: one slot, or none where no file survives
+-- after a merge: one slot, or none if no file survives
 abbrev pub state_merged : State → State
 state_merged state = record state { slots = slots_after_merge state.slots state.collection.files }
 
@@ -64,15 +64,15 @@ state_merged state = record state { slots = slots_after_merge state.slots state.
 abbrev pub state_keeping : State → List ℕ → List ℕ → State
 state_keeping state name bytes = record state { files = changed_at name (Some bytes) state.files }
 
--- after an image was opened: its collection, in one slot, or in none where it has no file
+-- after an image was opened: its collection, in one slot, or in none if it has no file
 abbrev pub state_opened : State → Collection → State
 state_opened state c = record state { collection = c; slots = slots_after_open c.files }
 
--- a reply, and then what it changed for each live watch; one that is refused changes nothing, and so tells nothing
+-- a reply, and then what it changed for each live watch; one that is refused changes nothing, and so reports nothing
 abbrev pub telling : State → Reply → Reply
 telling state reply = record { lines = reply.lines ++ changes_lines state.watches (text_of state.collection) (text_of reply.after.collection); after = reply.after }
 
--- the reply to adding a file with this content: it is refused where its last address would not be below the end
+-- the reply to adding a file with this content: it is refused if its last address would not be below the end
 abbrev pub content_reply : State → List ℕ → List ℕ → Reply
 content_reply state name content = if nat_lt address_end (state.collection.next + width_of (tokens_of content)) then unchanged state (refusal_lines NoAddresses)
     else record {
@@ -80,15 +80,15 @@ content_reply state name content = if nat_lt address_end (state.collection.next 
       after = state_with_file state name (tokens_of content);
     }
 
--- the same, and it is refused where it has too many bytes
+-- the same, and it is refused if it has too many bytes
 abbrev pub add_reply : Limits → State → List ℕ → List ℕ → Reply
 add_reply limits state name content = if nat_lt limits.file (length content) then unchanged state (refusal_lines TooLong) else content_reply state name content
 
--- the reply to deleting the file with this id: it is refused where no surviving file has the id
+-- the reply to deleting the file with this id: it is refused if no surviving file has the id
 abbrev pub del_reply : State → ℕ → Reply
 del_reply state id = if has_file state.collection id then record { lines = gone_line id ∷ []; after = state_without_file state id } else unchanged state (refusal_lines (NoFile id))
 
--- the reply to keeping these bytes as an image: it is refused where they are too many
+-- the reply to keeping these bytes as an image: it is refused if they are too many
 abbrev pub bytes_reply : Limits → State → List ℕ → List ℕ → Reply
 bytes_reply limits state name bytes = if nat_lt limits.image (length bytes) then unchanged state (refusal_lines TooLong)
     else record { lines = saved_line (length bytes) ∷ []; after = state_keeping state name bytes }
@@ -102,15 +102,15 @@ abbrev pub reading_reply : State → Option Collection → Reply
 reading_reply state None = unchanged state (refusal_lines NotImage)
 reading_reply state (Some c) = record { lines = opened_line (length c.files) ∷ []; after = state_opened state c }
 
--- the reply to opening this content: it is refused where it has too many bytes
+-- the reply to opening this content: it is refused if it has too many bytes
 abbrev pub image_reply : Limits → State → List ℕ → Reply
 image_reply limits state content = if nat_lt limits.image (length content) then unchanged state (refusal_lines TooLong) else reading_reply state (state.images content)
 
--- the reply to opening a name, None where it loads one that isn't held: once a file was added it is refused, and nothing is loaded
+-- the reply to opening a name, None if it loads one that isn't held: once a file was added it is refused, and nothing is loaded
 abbrev pub open_reply : Limits → State → List ℕ → Option Reply
 open_reply limits state name = if nat_lt 0 state.collection.next_id then Some (unchanged state (refusal_lines NotEmpty)) else option_map (image_reply limits state) (state.files name)
 
--- the lines that answer what is asked of a list: its intervals and their number, those of its first so many, or how many it has
+-- the lines that answer what is asked of a list: its intervals and their number, the same for its first `most`, or how many it has
 abbrev pub asked_lines : Asked → List Extent → List (List ℕ)
 asked_lines All list = list_lines list
 asked_lines (First most) list = list_lines (take most list)
@@ -126,7 +126,7 @@ lines_by asked text None None = []
 abbrev pub query_lines : Asked → Text → List ℕ → List (List ℕ)
 query_lines asked text query = lines_by asked text (refused query) (query_form query)
 
--- the watches with one more, of this form: it gets the next number, and stands last
+-- the watches with one more, of this form: it gets the next number, and is last
 abbrev pub with_watch : Watches → Form → Watches
 with_watch watches form = record { live = watches.live ++ record { number = watches.next; form = form } ∷ []; next = watches.next + 1 }
 
@@ -146,7 +146,7 @@ state_watching state form = record state { watches = with_watch state.watches fo
 abbrev pub state_unwatching : State → ℕ → State
 state_unwatching state number = record state { watches = without_watch state.watches number }
 
--- the reply to watching a form: it is refused where as many are watched as may be
+-- the reply to watching a form: it is refused if as many are watched as may be
 abbrev pub form_reply : State → Form → Reply
 form_reply state form = if nat_lt (length state.watches.live) most_watches then record { lines = watch_line state.watches.next ∷ []; after = state_watching state form }
     else unchanged state (refusal_lines TooManyWatches)
@@ -161,7 +161,7 @@ watch_by state None None = unchanged state []
 abbrev pub watch_reply : State → List ℕ → Reply
 watch_reply state query = watch_by state (refused query) (query_form query)
 
--- the reply to ending a watch: it is refused where no live one has the number
+-- the reply to ending a watch: it is refused if no live watch has the number
 abbrev pub unwatch_reply : State → ℕ → Reply
 unwatch_reply state number = if has_watch state.watches number then record { lines = unwatched_line number ∷ []; after = state_unwatching state number }
     else unchanged state (refusal_lines (NoWatch number))
@@ -170,7 +170,7 @@ unwatch_reply state number = if has_watch state.watches number then record { lin
 abbrev pub files_lines : Collection → List (List ℕ)
 files_lines c = record_lines (map entry_of c.files) ++ total_line (length c.files) ∷ []
 
--- the reply to a command, None where it loads a name that isn't held. Each edit tells what it changed
+-- the reply to a command, None if it loads a name that isn't held. Each edit reports what it changed
 abbrev pub reply : Limits → State → Command → Option Reply
 reply limits state Blank = Some (unchanged state [])
 reply limits state (Add name) = option_map (telling state) (option_map (add_reply limits state name) (state.files name))
@@ -187,11 +187,11 @@ reply limits state (Watch query) = Some (watch_reply state query)
 reply limits state (Unwatch number) = Some (unwatch_reply state number)
 reply limits state Wrong = Some (unchanged state (refusal_lines NoCommand))
 
--- the reply to a line: that to its command, or a refusal where it is long
+-- the reply to a line: that to its command, or a refusal if it is long
 abbrev pub answer : Limits → State → Line → Option Reply
 answer limits state line = if line.long then Some (unchanged state (refusal_lines LongLine)) else reply limits state (command_of line.bytes)
 
--- the state that a reply leaves, and where there is none the state before
+-- the state that a reply leaves, or the state before if there is none
 abbrev pub after_reply : State → Option Reply → State
 after_reply state None = state
 after_reply state (Some reply) = reply.after
@@ -201,7 +201,7 @@ abbrev pub state_after : Limits → State → List Line → State
 state_after limits state [] = state
 state_after limits state (line ∷ rest) = state_after limits (after_reply state (answer limits state line)) rest
 
--- the lines of a reply, and then those that follow it; none where there is no reply
+-- the lines of a reply, and then those that follow it; none if there is no reply
 abbrev pub with_later : Option Reply → List (List ℕ) → List (List ℕ)
 with_later None later = []
 with_later (Some reply) later = reply.lines ++ later
@@ -246,7 +246,7 @@ abbrev pub AreRead : Limits → State → List Line → Type 0
 AreRead limits state [] = ⊤
 AreRead limits state (line ∷ rest) = IsRead state line × AreRead limits (after_reply state (answer limits state line)) rest
 
--- the output of a script from a state on, by these limits
+-- the output of a script starting at a state, by these limits
 abbrev pub output_by : Limits → State → List ℕ → List ℕ
 output_by limits start script = text_of_lines (answers limits start (lines limits.line script))
 

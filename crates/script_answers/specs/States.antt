@@ -11,7 +11,7 @@ use Rattle.collection.specs.Engines.{EngineContent}
 use Rattle.script_answers.specs.declared.limits.Limits.{Limits}
 pub use Rattle.answer_text.specs.Watching.{Watched, Watches}
 
--- for each content the collection that it is said to be an image of, and None where it is said to be an image of none
+-- for each content the collection that it is said to be an image of, or None if it is said to be an image of none
 abbrev pub Images : Type 0
 Images = List ℕ → Option Collection
 

@@ -1,4 +1,4 @@
--- What is so where the first of some lines are completed, and no more.
+-- What holds if the first of some lines are completed, and no more.
 use Rattle.std.specs.Prelude.{◌≡◌, ℕ, ◌+◌, ◌≤◌, List, [], ◌∷◌, length, take, drop, Contains, Option, Some, ◌⊎◌, ⊤, if◌then◌else◌}
 use Rattle.std.specs.Io.KnownBytes.{Appends}
 use Rattle.outside.specs.Contents.{Contents}
@@ -33,21 +33,21 @@ abbrev pub IsOfFiles : Ending → Type 0
 IsOfFiles files_failed = ⊤
 IsOfFiles _ = ⊥
 
--- the files hold this under every name but some
+-- the files hold this under every name except some
 pub record HoldsBut (names : List (List ℕ)) (files : Contents) (held : Option Contents) : Type 0 where
   pub contents : Contents
   pub is : held ≡ Some contents
   pub same : (name : List ℕ) → (contents name ≡ files name) ⊎ Contains names name
 
--- how many of the lines that are not completed may be answered in part: the first one, where it asks a query
+-- how many of the lines that are not completed may be answered in part: the first one, if it asks a query
 abbrev pub begun : List Line → ℕ
 begun [] = 0
 begun (line ∷ rest) = if asks_query line then 1 else 0
 
--- The first lines are completed, and their number is this: the version stands for the collection after them, and the sink got the beginning of the answers to
--- them and to the query that the next line asks, if it asks one. Where no write failed and there was memory, it got all answers to them and no more.
--- The files hold what the lines leave, but for the name that the next line saves, and where each keep succeeded exactly that. Where the files
--- failed, the next line names one
+-- The first lines are completed, and their number is this: the version stands for the collection after them, and the sink got the beginning
+-- of the answers to them and to the query that the next line asks, if it asks one. If no write failed and there was memory, it got all
+-- answers to them and no more. The files hold what the lines leave, except for the name that the next line saves, and exactly that if each
+-- keep succeeded. If the files failed, the next line names one
 pub record IsStopped (limits : Limits) (start : State) (script : List Line) (completed : ℕ) (version : VersionContent) (how : Ending) (kept : Type 0) (held : Option Contents)
     (old new : Option (List ℕ)) : Type 0 where
   pub within : completed ≤ length script

@@ -1,4 +1,4 @@
-ghost use Rattle.std.specs.Prelude.{◌≡◌, [], true, false, IfOk, IsErrOf, OnOk, OnErr};
+ghost use Rattle.std.specs.Prelude.{◌≡◌, [], false, IfOk, IsErrOf, OnOk, OnErr};
 ghost use Rattle.outside.specs.Causes.{CountsFileFault, HasFileCause};
 ghost use Rattle.script_answers.specs.States.{State};
 ghost use Rattle.script_answers.specs.inner.Service.{IsAt, Unmade};
@@ -18,7 +18,7 @@ use outside::{FileError, Files, Gate};
 use standing_query::WatchList;
 use std::sync::Wait;
 
-/// Does what a line asks for, once no merge is pending, and says what it is answered. At `Err` the change is not made.
+/// Does what a line asks for, once no merge is pending, and returns its answer. On `Err` the change is not made.
 pub(crate) fn act<R: Wait, F: Files, G: Gate>(
     setting: &Setting<'_, R, G>,
     files: &mut F,

@@ -10,7 +10,8 @@ pub const IMAGE_MOST: u64 = 1 << 30;
 /// The most queries that a batch may have.
 pub const BATCH_MOST: u64 = 64;
 
-/// How many bytes the parts of a run may have, and how many queries a batch: each limit is at least 1, and at most that of `Limits::greatest`.
+/// How many bytes the parts of a run may have, and how many queries a batch: each limit is at least 1, and at most that of
+/// `Limits::greatest`.
 #[derive(Clone, Copy, Debug, PartialEq, Eq)]
 pub struct Limits {
     /// The most bytes of a line, its newline not counted: a longer line is refused.

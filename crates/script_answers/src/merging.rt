@@ -10,7 +10,7 @@ use query_lanes::Context;
 use std::alloc::AllocError;
 use std::sync::Wait;
 
-/// Makes the merge that is pending, if one is. Where there is no memory it is pending still.
+/// Makes the merge that is pending, if one is. If there is no memory, it is still pending.
 pub fn merge_pending<R: Wait, G: Gate>(
     context: &Context<'_, R, G>,
     engine: &mut Engine,

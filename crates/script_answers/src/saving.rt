@@ -1,7 +1,6 @@
 ghost use Rattle.std.specs.Prelude.{◌≡◌, ◌<◌, [], ◌∷◌, false, IfOk, OnOk, OnErr};
 ghost use Rattle.gcl_model.specs.Collections.{Collection};
 ghost use Rattle.gcl_model.specs.Limits.{merge_end};
-ghost use Rattle.gcl_model.specs.Names.{is_name};
 ghost use Rattle.outside.specs.Causes.{CountsFileFault, HasFileCause};
 ghost use Rattle.live_version.specs.StandsFor.{StandsFor};
 ghost use Rattle.image_file.specs.Images.{CanBeSaved, image_of};
@@ -86,7 +85,7 @@ fn adopt<R: Wait>(
     }
 }
 
-/// Opens a content.
+/// Opens an image with this content.
 fn open_content<R: Wait, G>(
     context: &Context<'_, R, G>,
     engine: &mut Engine,
@@ -95,7 +94,8 @@ fn open_content<R: Wait, G>(
     requires savable { CanBeSaved engine.old.version }
     requires empty { engine.old.version.next_id ≡ 0 }
     requires number { engine.old.version.number < merge_end }
-    ensures follows { IfOk result (λ answer. (state : State) → Keeps engine.old false state → IsReading content.now (state.images content.now) →
+    ensures follows { IfOk result (λ answer. (state : State) → Keeps engine.old false state →
+        IsReading content.now (state.images content.now) →
         Follows (reading_reply state (state.images content.now)) state engine.new false answer) }
     ensures unmade { OnErr result (engine.new ≡ engine.old) }
     ensures steps { OnOk result (StepsOn engine.old engine.new false) }
@@ -111,7 +111,7 @@ fn open_content<R: Wait, G>(
     }
 }
 
-/// Loads an image and opens it in place of the empty collection. Once a file was added nothing is loaded.
+/// Loads an image and opens it in place of the empty collection. Once a file was added, nothing is loaded.
 pub(crate) fn open<R: Wait, F: Files, G>(
     setting: &Setting<'_, R, G>,
     files: &mut F,
@@ -120,7 +120,8 @@ pub(crate) fn open<R: Wait, F: Files, G>(
 ) -> Result<Answer, FileError>
     requires savable { CanBeSaved engine.old.version }
     requires number { engine.old.version.number < merge_end }
-    ensures gives { IfOk result (λ answer. (state : State) → IsAt (F.held files.old) engine.old false state → IsReadByAction state (Open name.now) →
+    ensures gives { IfOk result (λ answer. (state : State) → IsAt (F.held files.old) engine.old false state →
+        IsReadByAction state (Open name.now) →
         Gives (action_reply setting.now.limits state (Open name.now)) state engine.new false (F.held files.new) answer) }
     ensures unmade { OnErr result (engine.new ≡ engine.old) }
     ensures steps { OnOk result (StepsOn engine.old engine.new false) }

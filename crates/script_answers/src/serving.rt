@@ -1,10 +1,11 @@
-ghost use Rattle.std.specs.Prelude.{◌≡◌, ◌+◌, ◌≤◌, ◌<◌, ◌++◌, [], ◌∷◌, ℕ, List, Option, ⊤, OnOk, OnErr, length};
+ghost use Rattle.std.specs.Prelude.{◌≡◌, ◌+◌, ◌≤◌, ◌<◌, ◌++◌, [], ◌∷◌, List, Option, ⊤, OnOk, OnErr, length};
 ghost use Rattle.gcl_model.specs.Limits.{most_script};
 ghost use Rattle.outside.specs.Contents.{Contents};
 ghost use Rattle.script_lang.specs.Lines.{Line, lines};
 ghost use Rattle.script_answers.specs.Answers.{names_kept_of, names_of};
 ghost use Rattle.script_answers.specs.inner.Asks.{AreAsked, AsksLine};
-ghost use Rattle.script_answers.specs.inner.Service.{Halts, CountsFiles, CountsSink, IsServing, KeepsFiles, Leaves, LeavesSink, Serves, Takes, ending_of, run, stand};
+ghost use Rattle.script_answers.specs.inner.Service.{Halts, CountsFiles, CountsSink, IsServing, KeepsFiles};
+ghost use Rattle.script_answers.specs.inner.Service.{Leaves, LeavesSink, Serves, Takes, ending_of, run, stand};
 ghost use Rattle.script_answers.specs.inner.Tasks.{IsActionOf, IsNamedAction, IsNamedTask, IsNothing, IsTaskOf};
 ghost use Rattle.script_answers.specs.inner.Tasks.{action_kept, action_names, completes, task_kept, task_names};
 
@@ -25,7 +26,8 @@ use std::alloc::AllocError;
 use std::sync::Wait;
 use std::thread::Threads;
 
-/// Answers the queries that wait for their batch, beside the merge that is pending, if one is, and writes the answers. Then none waits.
+/// Answers the queries that wait for their batch, concurrently with the merge that is pending, if one is, and writes the answers. Then no
+/// query waits.
 fn serve_batch<R: Threads + Wait + Sync, K: Sink, G: Gate + Sync>(
     setting: &Setting<'_, R, G>,
     sink: &mut K,
@@ -36,9 +38,12 @@ fn serve_batch<R: Threads + Wait + Sync, K: Sink, G: Gate + Sync>(
     requires serving { IsServing opened.old progress.old (length asks.old.items) }
     requires room { opened.old.lines + length asks.old.items ≤ most_script }
     ensures serves { OnOk result ((held : Option Contents) (batch : List Line) → AreAsked asks.old.items batch →
-        Serves setting.now.limits batch (stand held opened.old progress.old) (stand held opened.new progress.new) (K.written sink.old) (K.written sink.new)) }
+        Serves setting.now.limits batch (stand held opened.old progress.old) (stand held opened.new progress.new)
+        (K.written sink.old) (K.written sink.new)) }
     ensures halts { OnErr result ((held : Option Contents) (batch : List Line) → AreAsked asks.old.items batch →
-        Halts setting.now.limits batch (ending_of result) ⊤ (stand held opened.old progress.old) (stand held opened.new progress.new) (K.written sink.old) (K.written sink.new)) }
+        Halts setting.now.limits batch (ending_of result) ⊤
+        (stand held opened.old progress.old) (stand held opened.new progress.new)
+        (K.written sink.old) (K.written sink.new)) }
     ensures serving { OnOk result (IsServing opened.new progress.new 0) }
     ensures each { OnOk result (opened.new.lines ≡ opened.old.lines + length asks.old.items) }
     ensures none { OnOk result (asks.new.items ≡ []) }
@@ -66,7 +71,7 @@ fn serve_batch<R: Threads + Wait + Sync, K: Sink, G: Gate + Sync>(
     Ok(())
 }
 
-/// How many lines are completed once one of them is done: it is among them where it made a change.
+/// How many lines are completed once one of them is done: it is among them if it made a change.
 fn after_change(lines: u64, answer: &Answer) -> u64
     requires { lines < most_script }
     ensures { result ≡ lines + completes answer.now }
@@ -74,8 +79,8 @@ fn after_change(lines: u64, answer: &Answer) -> u64
     if answer.is_change() { lines + 1 } else { lines }
 }
 
-/// Does what a line asks for that asks no query, and writes its answer, and then what an edit changed for the watches. A change is made once
-/// no merge is pending, and the line is completed with it; every other line once its answer is made.
+/// Does what a line that is not a query asks for, and writes its answer, and then what an edit changed for the watches. A change is made
+/// once no merge is pending, and the line is completed with it; every other line once its answer is made.
 fn serve_action<R: Wait, F: Files, K: Sink, G: Gate>(
     setting: &Setting<'_, R, G>,
     files: &mut F,
@@ -88,11 +93,13 @@ fn serve_action<R: Wait, F: Files, K: Sink, G: Gate>(
     requires serving { IsServing opened.old progress.old 0 }
     requires room { opened.old.lines < most_script }
     ensures serves { OnOk result ((line : Line) → IsActionOf action.now line →
-        Serves setting.now.limits (line ∷ []) (stand (F.held files.old) opened.old progress.old) (stand (F.held files.new) opened.new progress.new)
+        Serves setting.now.limits (line ∷ [])
+        (stand (F.held files.old) opened.old progress.old) (stand (F.held files.new) opened.new progress.new)
         (K.written sink.old) (K.written sink.new)) }
     ensures halts { OnErr result ((line : Line) → IsActionOf action.now line →
         Halts setting.now.limits (line ∷ []) (ending_of result) (F.unkept files.new ≡ F.unkept files.old)
-        (stand (F.held files.old) opened.old progress.old) (stand (F.held files.new) opened.new progress.new) (K.written sink.old) (K.written sink.new)) }
+        (stand (F.held files.old) opened.old progress.old) (stand (F.held files.new) opened.new progress.new)
+        (K.written sink.old) (K.written sink.new)) }
     ensures serving { OnOk result (IsServing opened.new progress.new 0) }
     ensures each { OnOk result (opened.new.lines ≡ opened.old.lines + 1) }
     ensures leaves { Leaves (action_names action.now) (action_kept action.now) (files.new ≡ files.old) (F.held files.new ≡ F.held files.old)
@@ -127,7 +134,7 @@ fn serve_action<R: Wait, F: Files, K: Sink, G: Gate>(
     Ok(())
 }
 
-/// One query more waits for its batch.
+/// One more query waits for its batch.
 fn push(asks: &mut Vec<Ask>, ask: Ask) -> Result<(), AllocError>
     ensures { OnOk result (asks.new.items ≡ asks.old.items ++ ask ∷ []) }
 {
@@ -135,7 +142,7 @@ fn push(asks: &mut Vec<Ask>, ask: Ask) -> Result<(), AllocError>
     Ok(())
 }
 
-/// A query more waits for its batch, which is answered when it is full.
+/// One more query waits for its batch, which is answered when it is full.
 fn serve_ask<R: Threads + Wait + Sync, K: Sink, G: Gate + Sync>(
     setting: &Setting<'_, R, G>,
     sink: &mut K,
@@ -147,7 +154,8 @@ fn serve_ask<R: Threads + Wait + Sync, K: Sink, G: Gate + Sync>(
     requires serving { IsServing opened.old progress.old (length asks.old.items) }
     requires room { opened.old.lines + length asks.old.items < most_script }
     ensures takes { (held : Option Contents) → Takes setting.now.limits (AsksLine ask) ⊤
-        (run opened.old progress.old asks.old.items held (K.written sink.old)) (run opened.new progress.new asks.new.items held (K.written sink.new)) result }
+        (run opened.old progress.old asks.old.items held (K.written sink.old))
+        (run opened.new progress.new asks.new.items held (K.written sink.new)) result }
     ensures leaves { LeavesSink (K.faults sink.old) (K.faults sink.new) result }
 {
     push(asks, ask)?;
@@ -169,7 +177,8 @@ fn serve_nothing<R: Threads + Wait + Sync, K: Sink, G: Gate + Sync>(
     requires serving { IsServing opened.old progress.old (length asks.old.items) }
     requires room { opened.old.lines + length asks.old.items < most_script }
     ensures takes { (held : Option Contents) → Takes setting.now.limits IsNothing ⊤
-        (run opened.old progress.old asks.old.items held (K.written sink.old)) (run opened.new progress.new asks.new.items held (K.written sink.new)) result }
+        (run opened.old progress.old asks.old.items held (K.written sink.old))
+        (run opened.new progress.new asks.new.items held (K.written sink.new)) result }
     ensures leaves { LeavesSink (K.faults sink.old) (K.faults sink.new) result }
 {
     serve_batch(setting, sink, opened, progress, asks)?;
@@ -177,7 +186,7 @@ fn serve_nothing<R: Threads + Wait + Sync, K: Sink, G: Gate + Sync>(
     Ok(())
 }
 
-/// Does what a line asks for that asks no query, once the queries before it are answered.
+/// Does what a line that is not a query asks for, once the queries before it are answered.
 fn serve_action_behind<R: Threads + Wait + Sync, F: Files, K: Sink, G: Gate + Sync>(
     setting: &Setting<'_, R, G>,
     files: &mut F,
@@ -228,11 +237,11 @@ fn serve_task<R: Threads + Wait + Sync, F: Files, K: Sink, G: Gate + Sync>(
     }
 }
 
-/// Answers the lines of some bytes, one after the other: the answer to each is handed to the sink before the line after it is done. Queries in
-/// a row are a batch, which the engine's readers answer beside a merge that is pending.
+/// Answers the lines of some bytes, one after the other: the answer to each is handed to the sink before the line after it is done. Queries
+/// in a row are a batch, which the engine's readers answer concurrently with a merge that is pending.
 ///
-/// A last line without a newline is answered as any other, so the bytes are to end where a line ends. `opened.lines` counts the lines that are
-/// completed, also where it ends early.
+/// A last line without a newline is answered like any other, so the bytes must end where a line ends. `opened.lines` counts the lines that
+/// are completed, even if it ends early.
 pub fn serve_held<R: Threads + Wait + Sync, F: Files, K: Sink, G: Gate + Sync>(
     setting: &Setting<'_, R, G>,
     files: &mut F,
@@ -244,12 +253,16 @@ pub fn serve_held<R: Threads + Wait + Sync, F: Files, K: Sink, G: Gate + Sync>(
     requires serving { IsServing opened.old progress.old 0 }
     requires room { opened.old.lines + length script.now ≤ most_script }
     ensures serves { OnOk result (Serves setting.now.limits (lines setting.now.limits.line script.now)
-        (stand (F.held files.old) opened.old progress.old) (stand (F.held files.new) opened.new progress.new) (K.written sink.old) (K.written sink.new)) }
-    ensures halts { OnErr result (Halts setting.now.limits (lines setting.now.limits.line script.now) (ending_of result) (F.unkept files.new ≡ F.unkept files.old)
-        (stand (F.held files.old) opened.old progress.old) (stand (F.held files.new) opened.new progress.new) (K.written sink.old) (K.written sink.new)) }
+        (stand (F.held files.old) opened.old progress.old) (stand (F.held files.new) opened.new progress.new)
+        (K.written sink.old) (K.written sink.new)) }
+    ensures halts { OnErr result (Halts setting.now.limits (lines setting.now.limits.line script.now) (ending_of result)
+        (F.unkept files.new ≡ F.unkept files.old)
+        (stand (F.held files.old) opened.old progress.old) (stand (F.held files.new) opened.new progress.new)
+        (K.written sink.old) (K.written sink.new)) }
     ensures serving { OnOk result (IsServing opened.new progress.new 0) }
     ensures counted { OnOk result (opened.new.lines ≤ opened.old.lines + length script.now) }
-    ensures files { KeepsFiles (names_of (lines setting.now.limits.line script.now)) (names_kept_of (lines setting.now.limits.line script.now))
+    ensures files { KeepsFiles (names_of (lines setting.now.limits.line script.now))
+        (names_kept_of (lines setting.now.limits.line script.now))
         (files.new ≡ files.old) (F.held files.new ≡ F.held files.old) (F.unkept files.new ≡ F.unkept files.old) result }
     ensures sink { CountsSink (K.faults sink.old) (K.faults sink.new) result }
     ensures faults { CountsFiles (F.faults files.old) (F.faults files.new) result }

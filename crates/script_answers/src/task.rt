@@ -1,4 +1,4 @@
-ghost use Rattle.std.specs.Prelude.{◌≡◌, false, true, IfOk};
+ghost use Rattle.std.specs.Prelude.{◌≡◌, IfOk};
 ghost use Rattle.script_lang.specs.Commands.{IsNamed};
 ghost use Rattle.gcl_model.specs.FormOf.{form_of};
 ghost use Rattle.gcl_model.specs.Texts.{Text};
@@ -41,7 +41,8 @@ fn shared(alloc: Global, expr: Expr) -> Result<Arc<Expr>, AllocError>
 /// The expression of a query, or why it has none.
 fn expr_of(alloc: Global, query: &[u8]) -> Result<Result<Arc<Expr>, QueryFault>, AllocError>
     ensures well_formed { IfOk result (λ read. IfOk read (λ expr. IsWellFormed (form_of expr.value))) }
-    ensures lines { IfOk result (λ read. (asked : Asked) (text : Text) → found_lines (answer_by asked text read) ≡ query_lines asked text query.now) }
+    ensures lines { IfOk result (λ read. (asked : Asked) (text : Text) →
+        found_lines (answer_by asked text read) ≡ query_lines asked text query.now) }
 {
     match parse(alloc, query) {
         Ok(expr) => {
@@ -98,7 +99,7 @@ fn task_of(alloc: Global, command: Command, number: u64) -> Result<Task, AllocEr
     }
 }
 
-/// What a line asks for. Of a long one only that is read. `number` says which query of the run it is, if it asks one.
+/// What a line asks for. A long line is refused unread. `number` says which query of the run it is, if it asks one.
 pub(crate) fn read_task(
     alloc: Global,
     long: bool,

@@ -6,7 +6,7 @@ use Rattle.script_lang.specs.Commands.{IsNamed, named}
 use Rattle.script_lang.specs.declared.commands.Command.{Command}
 use Rattle.script_lang.specs.declared.commands.Command.TheVariants.{Wrong}
 
--- where a name makes a command that carries it, and anything else none
+-- if a name makes a command that carries it, and anything else none
 pub named_carries : (make : List ℕ → Command) → ((name : List ℕ) → is_name name ≡ true → IsNamed (make name)) → (argument : List ℕ) → IsNamed (named make argument)
 named_carries make carries argument = by_test (is_name argument) refl
   where

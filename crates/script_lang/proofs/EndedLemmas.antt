@@ -34,7 +34,7 @@ ended-at [] rest none = ap (λ part. 10 ∷ part) (ended_whole rest none)
 ended-at (b ∷ front) rest none =
     ap (λ part. cond (b == 10) (10 ∷ part) (before_any b part)) (ended-at front rest none) ∙ step_ended (b == 10) b front (is_newline b)
 
--- what stands before the last newline, and what comes after it
+-- what comes before the last newline, and what comes after it
 record LastNewline (bytes : List ℕ) : Type 0 where
   front : List ℕ
   rest : List ℕ
@@ -115,7 +115,7 @@ ended-append_none_by false a b is none =
 pub ended-append_none : (a b : List ℕ) → has_newline b ≡ false → ended (a ++ b) ≡ ended a
 ended-append_none a b = ended-append_none_by (has_newline a) a b refl
 
--- with a newline after them all bytes stand in whole lines
+-- with a newline after them all bytes are in whole lines
 pub ended-append_some : (a b : List ℕ) → has_newline b ≡ true → ended (a ++ b) ≡ a ++ ended b
 ended-append_some a b some =
     let last : LastNewline b = last-newline b some in
@@ -208,7 +208,7 @@ ready-parts bytes held at n same front =
     let behind : drop (at + n) bytes ≡ drop n held = sym (drop-drop n at bytes) ∙ ap (drop n) same in
     ap (λ rest. ended held ++ rest) behind ∙ ap (λ part. part ++ drop n held) (sym front) ∙ take-append-drop n held
 
--- a search from the end on tells as much as one through bytes without a newline
+-- a search starting at the end finds as much as one through bytes without a newline
 pub same_end-taken : (bytes : List ℕ) (at seen : ℕ) → at ≤ length bytes → seen ≡ length bytes → has_newline (drop at bytes) ≡ false → line_end bytes seen ≡ line_end bytes at
 same_end-taken bytes at seen inside is none =
     let past : first_newline (drop seen bytes) ≤ length (drop seen bytes) = prefix_len-le-length (λ b. not (b == 10)) (drop seen bytes) in

@@ -109,7 +109,7 @@ lines-cut_by false most n bytes later is none inside over =
     let whole : n ≡ length bytes = grind (arith, nat_tests) in
     ap (λ text. lines most (text ++ later)) (ap (λ k. take k bytes) whole ∙ take-length bytes)
 
--- of bytes without a newline so many tell as much as all, that show that the line is long
+-- of bytes without a newline, as many as show that the line is long say as much as all
 lines-cut : (most n : ℕ) (bytes later : List ℕ) → has_newline bytes ≡ false → n ≤ length bytes → (n < length bytes → most < n) →
     lines most (take n bytes ++ later) ≡ lines most (bytes ++ later)
 lines-cut most n bytes later = lines-cut_by (nat_lt n (length bytes)) most n bytes later refl

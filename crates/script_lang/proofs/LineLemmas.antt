@@ -25,7 +25,7 @@ pub newline-nowhere : (bytes : List ℕ) → Nowhere (Passes (is_byte 10) bytes)
 newline-nowhere bytes none =
     prefix_len_is (λ b. not (b == 10)) bytes (length bytes) 0 (omega arith) (λ k before. not_true (get_or bytes k 0 == 10) (none k (omega arith) before)) (λ past. absurd (omega arith))
 
--- what a search of the rest of the text tells
+-- what a search of the rest of the text finds
 pub line_end-found : (text rest : List ℕ) (at place : ℕ) → rest ≡ drop at text → NoneBefore (Passes (is_byte 10) rest) 0 (length rest) place → Passes (is_byte 10) rest place →
     at + place ≡ line_end text at
 line_end-found text rest at place same first here =
@@ -65,7 +65,7 @@ line_of-long most line over = cond-true (nat_lt most (length line)) _ _ (grind (
 pub line_of-short : (most : ℕ) (line : List ℕ) → length line ≤ most → line_of most line ≡ short_line (without_front (without_back (without_return line)))
 line_of-short most line few = cond-false (nat_lt most (length line)) _ _ (grind (arith, nat_tests))
 
--- the first of the lines from a place on, and those after its newline
+-- the first of the lines starting at a place, and those after its newline
 lines-at : (text : List ℕ) (at most end after : ℕ) → at < length text → end ≡ line_end text at → after ≡ min (end + 1) (length text) →
     lines most (drop at text) ≡ line_of most (take (end - at) (drop at text)) ∷ lines most (drop after text)
 lines-at text at most end after inside is ends =
@@ -76,7 +76,7 @@ lines-at text at most end after inside is ends =
     let behind : drop (end - at + 1) (drop at text) ≡ drop after text = drop-drop (end - at + 1) at text ∙ sym (clipped ∙ ap (λ k. drop k text) regroup) in
     lines-first most (drop at text) (end - at) some place ∙ rw behind refl
 
--- what a cut of a long line tells
+-- what a cut of a long line gives
 pub lines-long : (text : List ℕ) (at most end after : ℕ) → at < length text → end ≡ line_end text at → end ≤ length text → most < end - at →
     after ≡ min (end + 1) (length text) → lines most (drop at text) ≡ record { long = true; bytes = take (at - at) (drop at text) } ∷ lines most (drop after text)
 lines-long text at most end after inside is bound over ends =
@@ -85,7 +85,7 @@ lines-long text at most end after inside is bound over ends =
     let none : at - at ≡ 0 = omega arith in
     lines-at text at most end after inside is ends ∙ rw (long, none) refl
 
--- what a cut of any other line tells
+-- what a cut of any other line gives
 pub lines-short : (text : List ℕ) (at most end left front after : ℕ) → at < length text → end ≡ line_end text at → end ≤ length text → end - at ≤ most →
     left ≤ end - at → take left (take (end - at) (drop at text)) ≡ without_back (without_return (take (end - at) (drop at text))) →
     front ≡ prefix_len is_blank (take left (take (end - at) (drop at text))) → after ≡ min (end + 1) (length text) →

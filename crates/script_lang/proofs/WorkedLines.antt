@@ -49,7 +49,7 @@ text-of_two = refl
 ended-with_a_rest : ended (codes "a" ++ 10 ∷ codes "b") ≡ codes "a" ++ 10 ∷ []
 ended-with_a_rest = refl
 
--- the newline at the end belongs to the last line, and one that nothing stands before is a line
+-- the newline at the end belongs to the last line, and one that nothing comes before is a line
 ended-at_the_end : ended (codes "ab" ++ 10 ∷ 10 ∷ []) ≡ codes "ab" ++ 10 ∷ 10 ∷ []
 ended-at_the_end = refl
 

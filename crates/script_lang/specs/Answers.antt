@@ -53,7 +53,7 @@ watch_line number = codes "watch " ++ decimal number
 abbrev pub unwatched_line : ℕ → List ℕ
 unwatched_line number = codes "unwatched " ++ decimal number
 
--- what stands before an interval that came, and before one that went
+-- what is put before an interval that came, and before one that went
 abbrev pub change_mark : Bool → List ℕ
 change_mark came = if came then codes "+ " else codes "- "
 

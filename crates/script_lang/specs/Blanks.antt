@@ -1,4 +1,4 @@
--- Blanks, and what stands between them.
+-- Blanks, and what is between them.
 use Rattle.std.specs.Prelude.{ℕ, ◌-◌, List, length, take, drop}
 use Rattle.std.specs.List.{prefix_len, suffix_len, position_or_len}
 use Rattle.gcl_model.specs.Tokens.{is_blank}

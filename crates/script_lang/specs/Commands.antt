@@ -9,14 +9,14 @@ use Rattle.script_lang.specs.Numbers.{number_of}
 use Rattle.script_lang.specs.declared.commands.Command.{Command}
 use Rattle.script_lang.specs.declared.commands.Command.TheVariants.{Blank, Add, Del, Find, Count, Top, Files, Merge, Shards, Save, Load, Watch, Unwatch, Wrong}
 
--- a name that a command carries is one
+-- what a command carries as a name is a name
 abbrev pub IsNamed : Command → Type 0
 IsNamed (Add name) = is_name name ≡ true
 IsNamed (Save name) = is_name name ≡ true
 IsNamed (Load name) = is_name name ≡ true
 IsNamed _ = ⊤
 
--- the argument where it is a name
+-- the argument if it is a name
 abbrev pub name_of : List ℕ → Option (List ℕ)
 name_of argument = if is_name argument then Some argument else None
 
@@ -52,11 +52,11 @@ table =
     (codes "watch", Watch) ∷
     (codes "unwatch", numbered Unwatch) ∷ []
 
--- by the entry of the word, and Wrong where it has none
+-- by the entry of the word, or Wrong if it has none
 abbrev pub by_table : List (List ℕ × (List ℕ → Command)) → List ℕ → List ℕ → Command
 by_table [] word argument = Wrong
 by_table (entry ∷ entries) word argument = if bytes_eq word entry.0 then entry.1 argument else by_table entries word argument
 
--- an empty line is blank; of any other the first word tells the command, and the rest is its argument
+-- an empty line is blank; of any other the first word gives the command, and the rest is its argument
 abbrev pub command_of : List ℕ → Command
 command_of line = if length line == 0 then Blank else by_table table (before_first is_blank line) (behind_word line)

@@ -19,11 +19,11 @@ pub record BeginsLong (feed : Feed) : Type 0 where
   pub ended : has_newline feed.held ≡ true
   pub over : feed.most < line_end feed.held 0
 
--- what is after the last newline has at most one byte more than a line may have: more would tell no more
+-- what is after the last newline has at most one byte more than a line may have: more would change nothing
 abbrev pub HasShortEnd : ℕ → List ℕ → Type 0
 HasShortEnd most bytes = (k : ℕ) → has_newline (drop k bytes) ≡ false → length bytes ≤ k + (most + 1)
 
--- the line that was taken: "More" is none
+-- the line that was taken: "More" means none
 abbrev pub line_taken : Taken → Option ScriptLine
 line_taken (Line bytes) = Some (record { long = false; bytes = bytes })
 line_taken Long = Some (record { long = true; bytes = [] })

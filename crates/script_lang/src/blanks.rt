@@ -1,4 +1,4 @@
-ghost use Rattle.std.specs.Prelude.{◌≡◌, ◌≤◌, length, drop};
+ghost use Rattle.std.specs.Prelude.{◌≡◌, ◌≤◌, length};
 ghost use Rattle.std.specs.List.{prefix_len, suffix_len, position_or_len, before_first};
 ghost use Rattle.gcl_model.specs.Tokens.{is_blank};
 ghost use Rattle.script_lang.specs.Blanks.{behind_word};

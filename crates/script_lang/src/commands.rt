@@ -25,7 +25,7 @@ pub enum Command {
     Save(Bytes),
     /// `open NAME` takes the image of this name.
     Load(Bytes),
-    /// `watch QUERY` tells from now on what each edit changes of the query's intervals. Its text is not read here, and may be empty.
+    /// `watch QUERY` reports from now on what each edit changes of the query's intervals. Its text is not read here, and may be empty.
     Watch(Bytes),
     /// `unwatch W` ends the watch with this number.
     Unwatch(u64),

@@ -1,4 +1,5 @@
-ghost use Rattle.std.specs.Prelude.{◌≡◌, ◌+◌, ◌<◌, ◌≤◌, ◌↔◌, ◌++◌, [], ◌∷◌, ℕ, true, false, List, Some, length, take, drop, IfOk, OnOk, OnErr, IfSome, MatchOption};
+ghost use Rattle.std.specs.Prelude.{◌≡◌, ◌+◌, ◌<◌, ◌≤◌, ◌↔◌, ◌++◌, [], ◌∷◌, ℕ, false, List, Some, length, take, drop};
+ghost use Rattle.std.specs.Prelude.{IfOk, OnOk, OnErr, IfSome, MatchOption};
 ghost use Rattle.script_lang.specs.Lines.{line_of, lines, line_end, ended};
 ghost use Rattle.script_lang.specs.Feeds.{Feed, has_newline, line_taken, BeginsLong, HasShortEnd, IsTakenFrom};
 
@@ -29,7 +30,8 @@ fn kept_len(held: &[u8], piece: &[u8], most: u64) -> usize
     requires begun { has_newline held.now ≡ false }
     requires short { length held.now ≤ most + 1 }
     ensures bound { result ≤ length piece.now }
-    ensures lines { (later : List ℕ) → lines most (held.now ++ take result piece.now ++ later) ≡ lines most (held.now ++ piece.now ++ later) }
+    ensures lines { (later : List ℕ) →
+        lines most (held.now ++ take result piece.now ++ later) ≡ lines most (held.now ++ piece.now ++ later) }
     ensures end { HasShortEnd most (held.now ++ take result piece.now) }
 {
     let longest = (most as usize).saturating_add(1);
@@ -41,10 +43,10 @@ fn kept_len(held: &[u8], piece: &[u8], most: u64) -> usize
 
 /// Cuts lines from a text that comes in pieces.
 ///
-/// Contracts see the bytes that it holds, and how many a line may have. Where no newline is held, a piece is pushed;
-/// then lines are taken, until there are no more, or all whole lines are read where they lie, by `ready`, and taken
-/// at once. The lines that are taken from pieces are the lines of the whole text, however it was cut. Of a line that
-/// is too long only as much is held as shows that it is.
+/// Contracts see the bytes that it holds, and how many a line may have. If no newline is held, a piece is pushed;
+/// then lines are taken, until there are no more, or all whole lines are read in place, by `ready`, and taken at
+/// once. The lines that are taken from pieces are the lines of the whole text, however it was cut. Of a line that is
+/// too long only as much is held as shows that it is.
 #[derive(Drop)]
 pub struct LineFeed {
     most: u64,
@@ -73,7 +75,7 @@ impl Model for LineFeed {
 }
 
 impl LineFeed {
-    /// Nothing is held. `most` is how many bytes a line may have without its newline. It takes no memory.
+    /// Nothing is held. `most` is how many bytes a line may have without its newline. It allocates nothing.
     pub fn new(alloc: Global, most: u64) -> Self
         ensures { result ≡ record { most = most; held = [] } }
     {
@@ -150,7 +152,7 @@ impl LineFeed {
         }
     }
 
-    /// The whole lines that are held: the bytes up to the last newline and with it.
+    /// The whole lines that are held: the bytes up to and including the last newline.
     pub fn ready(&self) -> &[u8]
         ensures { result.now ≡ ended self.now.held }
     {
@@ -160,7 +162,8 @@ impl LineFeed {
     /// Takes the whole lines that are held, all at once.
     pub fn take_ready(&mut self)
         ensures lines { (later : List ℕ) →
-            lines self.old.most (self.old.held ++ later) ≡ lines self.old.most (ended self.old.held) ++ lines self.old.most (self.new.held ++ later) }
+            lines self.old.most (self.old.held ++ later) ≡
+            lines self.old.most (ended self.old.held) ++ lines self.old.most (self.new.held ++ later) }
         ensures parts { self.old.held ≡ ended self.old.held ++ self.new.held }
         ensures none { has_newline self.new.held ≡ false }
         ensures whole { length (ended self.old.held) + length self.new.held ≡ length self.old.held }
@@ -171,7 +174,7 @@ impl LineFeed {
         self.seen = self.bytes.len();
     }
 
-    /// All bytes that are held: at the end of the text its last line, where that has no newline.
+    /// All bytes that are held: at the end of the text its last line, if that has no newline.
     pub fn rest(&self) -> &[u8]
         ensures { result.now ≡ self.now.held }
     {

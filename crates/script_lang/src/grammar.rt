@@ -9,7 +9,7 @@ use address_space::is_name;
 use gcl_model::Bytes;
 use std::alloc::{AllocError, Global};
 
-/// A copy of the argument, None where it is no name.
+/// A copy of the argument, or None if it is no name.
 fn name_of(alloc: Global, argument: &[u8]) -> Result<Option<Bytes>, AllocError>
     ensures { IfOk result (λ name. name ≡ name_of argument.now) }
 {
@@ -99,7 +99,7 @@ fn command_of_word(alloc: Global, word: &[u8], argument: &[u8]) -> Result<Comman
     }
 }
 
-/// The command that a word makes of its argument, where it is none of the first five of the table.
+/// The command that a word makes of its argument, if it is none of the first five of the table.
 fn command_of_later_word(alloc: Global, word: &[u8], argument: &[u8]) -> Result<Command, AllocError>
     ensures value { IfOk result (λ command. command ≡ by_table (drop 5 table) word.now argument.now) }
     ensures named { IfOk result IsNamed }

@@ -2,7 +2,8 @@ ghost use Rattle.std.specs.Prelude.{◌≡◌, ℕ, Bool, true, false};
 ghost use Rattle.gcl_model.specs.Extents.{Extent};
 ghost use Rattle.address_space.specs.Runs.{FileEntry};
 ghost use Rattle.script_lang.specs.declared.refusals.Refusal.{Refusal};
-ghost use Rattle.script_lang.specs.Answers.{file_line, gone_line, interval_line, total_line, record_line, merging_line, shards_line, saved_line, opened_line, watch_line, unwatched_line, change_line, refusal_line, is_refusal};
+ghost use Rattle.script_lang.specs.Answers.{file_line, gone_line, interval_line, total_line, record_line, merging_line, shards_line};
+ghost use Rattle.script_lang.specs.Answers.{saved_line, opened_line, watch_line, unwatched_line, change_line, refusal_line, is_refusal};
 
 /// Each refusal begins with an exclamation mark, and no other line of an answer does.
 pub fn refusals_are_marked()

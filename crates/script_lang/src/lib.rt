@@ -1,12 +1,12 @@
 //! The language of scripts: lines, commands, and the text of each answer.
 //!
-//! Contracts see a `Command` by its variants, with bytes as lists and numbers as numbers. What the lines of a text are,
-//! what command a line is, and what the line of each answer says, are the definitions in `specs/`.
+//! Contracts see a `Command` by its variants, with bytes as lists and numbers as numbers. The definitions in `specs/`
+//! say what the lines of a text are, what command a line is, and what the line of each answer says.
 //!
 //! The layers above cut a script by `line_at`, or by a `LineFeed` as it comes, which lends the whole lines that are there
-//! as one slice; they read each line by `command`, and append answers by the `put_` calls.
-//! No answer begins with an exclamation mark but a refusal, and each refusal does (`refusals_are_marked`). Of
-//! `"  del 007\r\nfiles"` the first line is `del 007`, the command is `Del(7)`, and its answer may be `gone 7`.
+//! as one slice; they read each line by `command`, and append answers by the `put_` calls. No answer except a refusal
+//! begins with an exclamation mark, and each refusal does (`refusals_are_marked`). Of `"  del 007\r\nfiles"` the first
+//! line is `del 007`, the command is `Del(7)`, and its answer may be `gone 7`.
 #![tactic(auto)]
 
 mod blanks;

@@ -31,13 +31,14 @@ pub fn text_len(line: &[u8]) -> usize
     end - back_blanks(&line[..end])
 }
 
-/// The line that begins at `at`, None where `at` is the end. `most` is how many bytes a line may have without its
-/// newline: at 3 the line `abcd` is long.
+/// The line that begins at `at`, or None if `at` is the end. `most` is how many bytes a line may have without its
+/// newline: if that is 3, the line `abcd` is long.
 pub fn line_at(bytes: &[u8], at: usize, most: usize) -> Option<LineCut>
     requires { at ≤ length bytes.now }
     ensures none { IsNone result ↔ (at ≡ length bytes.now) }
     ensures places { IfSome result (IsCut bytes.now at) }
-    ensures line { IfSome result (λ cut. lines most (drop at bytes.now) ≡ line_of_cut bytes.now cut ∷ lines most (drop cut.after bytes.now)) }
+    ensures line { IfSome result (λ cut.
+        lines most (drop at bytes.now) ≡ line_of_cut bytes.now cut ∷ lines most (drop cut.after bytes.now)) }
 {
     if at == bytes.len() {
         return None;

@@ -4,7 +4,7 @@ ghost use Rattle.script_lang.specs.Numbers.{number_of};
 // More digits than this are no number, so that each number fits.
 const MOST_DIGITS: usize = 18;
 
-/// The number that 1 to 18 decimal digits write, None for other bytes: `007` is 7, and `7a` is none.
+/// The number that 1 to 18 decimal digits write, or None for other bytes: `007` is 7, and `7a` is None.
 pub fn number_of(text: &[u8]) -> Option<u64>
     ensures { result ≡ number_of text.now }
 {

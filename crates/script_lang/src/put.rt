@@ -1,5 +1,7 @@
 ghost use Rattle.std.specs.Prelude.{◌≡◌, [], ◌∷◌, ◌++◌, OnOk, decimal, codes};
-ghost use Rattle.script_lang.specs.Answers.{file_line, gone_line, interval_line, total_line, record_line, merging_line, shards_line, saved_line, opened_line, watch_line, unwatched_line, change_mark, change_line, refusal_line, kind_text, query_line, Grows};
+ghost use Rattle.script_lang.specs.Answers.{file_line, gone_line, interval_line, total_line, record_line, merging_line, shards_line};
+ghost use Rattle.script_lang.specs.Answers.{saved_line, opened_line, watch_line, unwatched_line};
+ghost use Rattle.script_lang.specs.Answers.{change_mark, change_line, refusal_line, kind_text, query_line, Grows};
 
 use crate::refusals::Refusal;
 use address_space::FileRecord;
@@ -161,7 +163,7 @@ pub fn put_unwatched(out: &mut Vec<u8>, number: u64) -> Result<(), AllocError>
     put_numbered(out, b"unwatched ", number)
 }
 
-/// What an interval begins with that came or that went.
+/// What the line of an interval that came or went begins with.
 fn change_mark(came: bool) -> &'static [u8]
     ensures { result.now ≡ change_mark came }
 {

@@ -7,7 +7,7 @@ pub enum Refusal {
     Command,
     /// The line has more bytes than a line may have.
     LongLine,
-    /// The text of a query is none, from this place on.
+    /// The text given as a query is none: the fault says where and why.
     Query(QueryFault),
     /// No surviving file has this id.
     NoFile(u64),
@@ -15,7 +15,7 @@ pub enum Refusal {
     TooLong,
     /// A file needs addresses at or above 2^56.
     NoAddresses,
-    /// An image is opened where files were added before.
+    /// An image is to be opened although files were added before.
     NotEmpty,
     /// The bytes to open are no image.
     NotImage,

@@ -7,6 +7,6 @@ pub enum Taken {
     Line(Bytes),
     /// The next line has more bytes than a line may have.
     Long,
-    /// The next line is not there whole.
+    /// The next line is not complete yet.
     More,
 }

@@ -78,7 +78,7 @@ order_right (c ∷ cs) ds x m = elim (cases_Bool (after c x)) [
   | inr f ↦ includes_right (filter (after c) ds) _ x (inr (order_right cs (filter (λ d. not (after c d)) ds) x (kept_includes (λ d. not (after c d)) ds x m (not_from_false (after c x) f))))
 ]
 
--- ---- and rise where both rise, and no interval is in both
+-- ---- and rise if both rise, and no interval is in both
 
 abbrev Before : Change → Change → Type 0
 Before c d = comes_before (interval_of c) (interval_of d) ≡ true

@@ -1,4 +1,4 @@
--- Which members have to be gone over.
+-- Which members have to be compared.
 use Rattle.std.proofs.Common.{◌≡◌, ℕ, ◌+◌, ◌*◌, Bool, true, false, not, cond, ◌&&◌, ◌||◌, leb, List, [], ◌∷◌, length, map, filter, inl, inr, refl, sym, ap, ◌∙◌, subst, arith}
 use Rattle.std.proofs.lemmas.Bool.{cases_Bool, and_from, and_right, or_left, or_right, le-leb}
 use Rattle.gcl_locality.specs.Changed.{touches, is_lost}
@@ -59,7 +59,7 @@ lost_within old new test local =
     here true false at = refl
     here false t at = at refl
 
--- where two lists differ between two addresses alone, nothing else changes
+-- if two lists differ between two addresses alone, nothing else changes
 pub changes_within : (old new : List Extent) (low high : ℕ) → DifferBetween old new low high → changes (filter (touches low high) old) (filter (touches low high) new) ≡ changes old new
 changes_within old new low high local =
     let went = lost_within old new (touches low high) (λ c m f. local c (or_left (is_lost old new c) _ (and_from (contains_extent old c) (not (contains_extent new c)) (has_contains old c m) (ap not f)))) in

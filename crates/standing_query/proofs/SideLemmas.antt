@@ -43,7 +43,7 @@ module _ (from : Extent → Bool) (lasts : Lasts from) (high : ℕ) where
   abbrev passes : Extent → Bool
   passes a = from a && leb a.start high
 
-  -- the first member is no longer there from behind it on
+  -- the first member is no longer there after it is passed
   not_again : (x : Extent) (xs : List Extent) (k : ℕ) → x.start < k → filter (starts_within k high) (x ∷ xs) ≡ filter (starts_within k high) xs
   not_again x xs k lt = rw (and_left (leb k x.start) (leb x.start high) (lt-leb k x.start lt)) refl
 
@@ -54,7 +54,7 @@ module _ (from : Extent → Bool) (lasts : Lasts from) (high : ℕ) where
     | inr f ↦ rw f refl
   ]
 
-  -- it holds of the first one and of all that come after it, and none of them starts before it
+  -- it holds of the first member and of all that come after it, and none of them starts before it
   from_each : (x : Extent) (xs : List Extent) → IsRising (x ∷ xs) → from x ≡ true → (a : Extent) → Has (x ∷ xs) a → from a ≡ true
   from_each x xs r t a (inl is) = subst (λ y. from y ≡ true) is t
   from_each x xs r t a (inr m) = lasts x a (of_each (IsAhead x) xs a r.0 m) t
@@ -135,14 +135,14 @@ module _ (list : List Extent) (rising : IsRising list) (high : ℕ) where
   pass_leaves (Found a) m is = passed (λ b. leb a.start b.start) (lasts_by_start a.start) high list rising m (sym is)
   pass_leaves End m is = absurd cc
 
-  -- the first one that is left is one of the list
+  -- the first member that is left is one of the list
   pub first_left : (head : Head) (m : Extent) → Some m ≡ first_of (left_of list high head) → Has list m
   first_left (Ending k) m is = (has_filter (touches k high) list m (first_has _ m (sym is))).0
   first_left (Starting k) m is = (has_filter (starts_within k high) list m (first_has _ m (sym is))).0
   first_left (Found a) m is = (has_filter (starts_within a.start high) list m (first_has _ m (sym is))).0
   first_left End m is = absurd cc
 
-  -- what is known is the first one that is left
+  -- what is known is the first member that is left
   pub known_first : (head : Head) → IsHead list high head → IsAsked head → found_of head ≡ first_of (left_of list high head)
   known_first (Ending k) stands known = absurd known
   known_first (Starting k) stands known = absurd known

@@ -75,7 +75,7 @@ well_formed_drop zero exprs well = well
 well_formed_drop (suc i) [] well = tt
 well_formed_drop (suc i) (x ∷ xs) well = well_formed_drop i xs well.1
 
--- each operand is well formed where all are
+-- each operand is well formed if all are
 pub well_formed_at : (i : ℕ) (exprs : List Expr) (x : Expr) → AreWellFormed (forms_from (map form_of exprs)) → i < length exprs → x ≡ get_or exprs i x → IsWellFormed (form_of x)
 well_formed_at i exprs x well within at = (subst (λ (l : List Expr). AreWellFormed (forms_from (map form_of l))) (drop_here exprs i x within at) (well_formed_drop i exprs well)).0
 

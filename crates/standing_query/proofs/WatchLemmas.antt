@@ -11,7 +11,7 @@ RiseWithin-push low next [] expr below rising = (below, omega arith, tt)
 RiseWithin-push low next (w ∷ live) expr below rising =
     (rising.0, omega (arith, rising.1), RiseWithin-push (w.id + 1) next live expr (omega (arith, rising.1)) rising.2)
 
--- what rises from a number on rises from a lesser one on
+-- what rises starting at a number rises starting at a lesser one
 pub RiseWithin-lower : (low lower next : ℕ) (live : List Watch) → lower ≤ low → RiseWithin low next live → RiseWithin lower next live
 RiseWithin-lower low lower next [] below rising = tt
 RiseWithin-lower low lower next (w ∷ live) below rising = (omega (arith, rising.0, below), rising.1, rising.2)

@@ -56,7 +56,7 @@ with_x = record { first = 0; next = 11; words = hamlet ++ word 8 (codes "<file!>
 abbrev be_outside : Form
 be_outside = not_contained_in (term (codes "be")) (seq (more_forms (term (codes "to")) (more_forms (term (codes "x")) no_forms)))
 
--- the file brings an interval from the last `to` on, so the last `be` goes, far from the file's own addresses
+-- the file brings an interval that starts at the last `to`, so the last `be` goes, far from the file's own addresses
 a_member_goes : changes (wide alone be_outside) (wide with_x be_outside) ≡ Went (extent 6 6) ∷ []
 a_member_goes = refl
 

@@ -39,7 +39,7 @@ pub record ChangesContent : Type 0 where
   pub to_come : List Change
   pub look_ups : ℕ
 
--- these changes, and so many look-ups
+-- these changes, and this number of look-ups
 abbrev pub changes_content : List Change → ℕ → ChangesContent
 changes_content to_come look_ups = record { to_come = to_come; look_ups = look_ups }
 
@@ -47,6 +47,6 @@ changes_content to_come look_ups = record { to_come = to_come; look_ups = look_u
 abbrev pub members : VersionContent → Form → List Extent
 members v form = concordance (version_text v) form
 
--- finding so many of them, and that no more are there: each takes at most the cost of the expression
+-- finding `count` of them, and that there are no more: each takes at most the cost of the expression
 abbrev pub list_cost : VersionContent → Form → ℕ → ℕ
 list_cost v form count = (count + 1) * cost (version_text v) (most_slots + v.dels) form

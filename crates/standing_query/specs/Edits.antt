@@ -1,4 +1,5 @@
--- How many look-ups it takes to tell what an edit changes in a list: those that find between which addresses it may, and those of the members there.
+-- How many look-ups it takes to find what an edit changes in a list: those that find between which addresses it may, and those of the
+-- members there.
 use Rattle.std.specs.Prelude.{ℕ, ◌+◌, ◌*◌, filter, length}
 use Rattle.gcl_locality.specs.Changed.{changed_from, changed_upto, touches}
 use Rattle.gcl_model.specs.Cost.{cost}
@@ -9,7 +10,7 @@ use Rattle.gcl_model.specs.Wide.{wide}
 use Rattle.live_version.specs.Contents.{VersionContent, version_text}
 use Rattle.wide_terms.specs.Expansion.{expansion}
 
--- how many look-ups one access of an expression may make, whose prefix terms are expanded over the version
+-- how many look-ups one access to an expression may make, once its prefix terms are expanded over the version
 abbrev pub expanded_cost : VersionContent → Form → ℕ
 expanded_cost v form = cost (version_text v) (most_slots + v.dels) (expansion (version_text v) form)
 
@@ -27,7 +28,7 @@ abbrev mutual
   finding_cost old new (not_containing a b) = finding_cost old new a + finding_cost old new b
   finding_cost old new (not_contained_in a b) = finding_cost old new a + finding_cost old new b + (2 * expanded_cost old b + 2 * expanded_cost new b)
 
-  -- the same of all operands
+  -- the same for all operands
   pub finding_costs : (old new : VersionContent) → Forms → ℕ
   finding_costs old new no_forms = 0
   finding_costs old new (more_forms form forms) = finding_cost old new form + finding_costs old new forms
@@ -36,7 +37,7 @@ abbrev mutual
 abbrev pub touching_cost : VersionContent → (low high : ℕ) → Form → ℕ
 touching_cost v low high form = (length (filter (touches low high) (wide (version_text v) form)) + 1) * expanded_cost v form
 
--- all together, where the versions are the same at all addresses but those of the edit
+-- all together, if the versions are the same at all addresses except those of the edit
 abbrev pub edit_cost : (old new : VersionContent) → SlotRange → Form → ℕ
 edit_cost old new edited form =
     let low : ℕ = changed_from (version_text old) (version_text new) edited.first form in

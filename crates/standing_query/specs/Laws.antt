@@ -12,7 +12,7 @@ abbrev pub Includes : List Change → Change → Type 0
 Includes [] c = ⊥
 Includes (d ∷ list) c = (d ≡ c) ⊎ Includes list c
 
--- the interval of each change comes before those of all that stand after it
+-- the interval of each change comes before those of all that follow it
 abbrev pub RiseInOrder : List Change → Type 0
 RiseInOrder [] = Unit {0}
 RiseInOrder (c ∷ list) = AllByRecursion (λ d. comes_before (interval_of c) (interval_of d) ≡ true) list × RiseInOrder list

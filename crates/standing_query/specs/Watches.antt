@@ -28,15 +28,16 @@ watch id expr = record { id = id; expr = expr }
 abbrev pub has_watch : List Watch → ℕ → Bool
 has_watch live id = list_any (λ w. w.id == id) live
 
--- the list with one watch more, which gets the next number and stands last: of the numbers 0 and 2, and 3 as the next, 0, 2 and 3, and then 4
+-- the list with one more watch at its end, which gets the next number: the numbers 0 and 2, and 3 as the next, become 0, 2 and 3, and then
+-- 4
 abbrev pub with_watch : WatchListContent → Expr → WatchListContent
 with_watch list expr = watch_list (list.live ++ watch list.next expr ∷ []) (list.next + 1)
 
--- the list without the watch of this number: without 0 of the numbers 0 and 2 it is 2, and the next number is the same
+-- the list without the watch of this number: without 0 the numbers 0 and 2 become 2, and the next number is the same
 abbrev pub without_watch : WatchListContent → ℕ → WatchListContent
 without_watch list id = watch_list (filter (λ w. not (w.id == id)) list.live) list.next
 
--- the numbers rise, from `low` on, and are below `next`
+-- the numbers rise, are `low` or more, and are below `next`
 abbrev pub RiseWithin : (low next : ℕ) → List Watch → Type 0
 RiseWithin low next [] = Unit {0}
 RiseWithin low next (w ∷ live) = (low ≤ w.id) × (w.id < next) × RiseWithin (w.id + 1) next live

@@ -1,4 +1,4 @@
-//! Between which addresses the list of an expression may differ, where two versions are the same at all addresses but those of an edit.
+//! Between which addresses the list of an expression may differ, if two versions are the same at all addresses except those of an edit.
 
 ghost use Rattle.std.specs.Prelude.{◌≡◌, ◌+◌, ◌*◌, ◌<◌, ◌≤◌, max, map, min};
 ghost use Rattle.gcl_locality.specs.Changed.{back_to, changed_from, changed_upto, greatest_changed, least_changed, on_to};
@@ -19,7 +19,7 @@ use gcl_model::{Expr, Leaves, Ledger, Steps};
 use live_version::Version;
 use wide_terms::{expansions_are_well_formed, expansions_are_wide};
 
-/// What differs ends at `low` or later, and starts at `high` or before.
+/// What differs ends at or after `low`, and starts at or before `high`.
 #[derive(Clone, Copy)]
 pub struct Addresses {
     pub low: u64,
@@ -51,7 +51,7 @@ impl Addresses {
         }
     }
 
-    /// These, and those that members of an expression reach which have one of the others.
+    /// These, extended to what is reached by the members of an expression that touch the others.
     fn reached<S: Ledger>(
         self,
         expr: &Expr,
@@ -68,7 +68,7 @@ impl Addresses {
         ensures high_within { self.high < address_end → result.high < address_end }
         ensures cost { steps.new ≤ steps.old + 2 * access_cost version.now (form_of expr.now) }
     {
-        // the span tells that the words rise
+        // the span shows that the words rise
         let _span = version.span();
         let first = first_end(expr, version, others.low, steps);
         let last = last_start(expr, version, others.high, steps);
@@ -79,7 +79,7 @@ impl Addresses {
     }
 }
 
-/// Those of an expression, of which the other two are the expansions over the versions: with no `<` and no `/<` in it, those of the edit.
+/// The addresses of an expression, whose expansions over the versions are the other two: without `<` and `/<` in it, those of the edit.
 /// They are found by two accesses to the second operand of each `<` and `/<` over each version.
 #[cycle(changed)]
 pub fn changed_addresses<S: Ledger>(
@@ -127,7 +127,7 @@ pub fn changed_addresses<S: Ledger>(
     }
 }
 
-/// Those of several expressions together.
+/// The addresses of several expressions together.
 #[cycle(changed)]
 fn all_changed<S: Ledger>(
     exprs: &[Expr],

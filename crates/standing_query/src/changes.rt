@@ -22,8 +22,8 @@ use live_version::Version;
 use std::marker::Model;
 use wide_terms::{expansions_are_well_formed, expansions_are_wide};
 
-/// What changed from the list of an expression over one version to that of an expression over another, one change after the other.
-/// No list is kept, and no memory is taken. Contracts see the changes that are to come, and how many look-ups may be made for them in all.
+/// What changed from the list of an expression over one version to that of an expression over another, one change after the other. No list
+/// is kept, and nothing is allocated. Contracts see the changes that are to come, and how many look-ups may be made for them in all.
 #[derive(Drop)]
 pub struct Changes<'a> {
     before: Side<'a>,
@@ -45,7 +45,7 @@ impl<'a> Model for Changes<'a> {
 impl<'a> Changes<'a> {
     /// All changes. The expressions are those of one query, expanded over each version.
     ///
-    /// Between `to be or not to be` and no file, those of `"to"` are that 1 to 1 and 5 to 5 went.
+    /// Between `to be or not to be` and no file, the changes of `"to"` are that 1 to 1 and 5 to 5 went.
     pub fn new(
         old_expr: &'a Expr,
         old: &'a Version,
@@ -64,7 +64,7 @@ impl<'a> Changes<'a> {
         }
     }
 
-    /// All changes, where it is known that the lists differ between two addresses alone: no other members are gone over.
+    /// All changes, if it is known that the lists differ only between two addresses: no other members are looked at.
     pub fn between(
         old_expr: &'a Expr,
         old: &'a Version,
@@ -88,9 +88,9 @@ impl<'a> Changes<'a> {
         }
     }
 
-    /// All changes that an edit makes, where the two versions are the same at all addresses but those of the edit: the file that was
-    /// added, or the one that was deleted. The other two expressions are the expansions of the first one over the versions.
-    /// Only those members are gone over that an edit there can change.
+    /// All changes that an edit makes, if the two versions are the same at all addresses except those of the edit: the file that was
+    /// added, or the one that was deleted. The other two expressions are the expansions of `expr` over the versions. Only the
+    /// members that an edit there can change are looked at.
     pub fn after_edit<S: Ledger>(
         expr: &Expr,
         old_expr: &'a Expr,
@@ -115,7 +115,7 @@ impl<'a> Changes<'a> {
         Changes::between(old_expr, old, new_expr, new, addresses.low, addresses.high)
     }
 
-    /// The first change that is to come, which is taken off. None comes where no change is left.
+    /// Removes and returns the first change that is to come, or returns None if no change is left.
     pub fn next<S: Ledger>(&mut self, steps: &mut Steps<S>) -> Option<Change>
         ensures some { IfSome result (λ change. self.old.to_come ≡ change ∷ self.new.to_come) }
         ensures none { IsNone result → self.old.to_come ≡ [] }

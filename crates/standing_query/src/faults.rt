@@ -3,7 +3,7 @@ use thiserror::Error;
 /// Why a query is not watched.
 #[derive(Clone, Copy, Debug, PartialEq, Eq, Error)]
 pub enum WatchFault {
-    /// So many watches are live, and no more can be.
+    /// This many watches are live, and no more can be.
     #[error("{0} watches are live")]
     Full(usize),
     /// There was not enough memory.

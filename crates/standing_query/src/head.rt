@@ -33,7 +33,7 @@ impl Head {
         }
     }
 
-    /// The first member that is left, where it is known.
+    /// The first member that is left, if it is known.
     pub fn found(self) -> Option<Interval>
         ensures { result ≡ found_of self }
     {

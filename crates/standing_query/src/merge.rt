@@ -9,7 +9,7 @@ use crate::order::{comes_before, is_same};
 use crate::side::Side;
 use gcl_model::{Ledger, Steps};
 
-/// Passes the first member of both sides, where it is the same.
+/// Passes the first member of both sides, if it is the same.
 fn pass_same<S: Ledger>(old: &mut Side<'_>, new: &mut Side<'_>, steps: &mut Steps<S>) -> bool
     ensures passed { result ≡ true → PassesBoth old.old.left new.old.left old.new.left new.new.left }
     ensures old_stays { result ≡ false → old.new.left ≡ old.old.left }
@@ -31,7 +31,7 @@ fn pass_same<S: Ledger>(old: &mut Side<'_>, new: &mut Side<'_>, steps: &mut Step
     true
 }
 
-/// The first change between two sides, which is taken off. What is on both sides is passed.
+/// Removes and returns the first change between two sides. What is on both sides is passed.
 pub fn next_change<S: Ledger>(
     old: &mut Side<'_>,
     new: &mut Side<'_>,
@@ -50,7 +50,7 @@ pub fn next_change<S: Ledger>(
     first_change(old, new, steps)
 }
 
-/// The same where the first members of both sides differ.
+/// The same if the first members of both sides differ.
 fn first_change<S: Ledger>(
     old: &mut Side<'_>,
     new: &mut Side<'_>,

@@ -4,7 +4,7 @@ ghost use Rattle.standing_query.specs.inner.Walks.{chain_operands, first_operand
 
 use gcl_model::Expr;
 
-/// The first operand of a containment, and any other expression as it is.
+/// The first operand of a containment; any other expression as it is.
 pub fn first_operand(expr: &Expr) -> &Expr
     ensures { form_of result.now ≡ first_operand (form_of expr.now) }
 {
@@ -17,7 +17,7 @@ pub fn first_operand(expr: &Expr) -> &Expr
     }
 }
 
-/// The second operand of a containment, and any other expression as it is.
+/// The second operand of a containment; any other expression as it is.
 pub fn second_operand(expr: &Expr) -> &Expr
     ensures { form_of result.now ≡ second_operand (form_of expr.now) }
 {

@@ -1,6 +1,5 @@
 ghost use Rattle.std.specs.Prelude.{◌≡◌, ◌+◌, ◌*◌, ◌<◌, ◌≤◌, ◌∷◌, filter, length, Some};
 ghost use Rattle.gcl_locality.specs.Changed.{touches};
-ghost use Rattle.gcl_model.specs.Extents.{IsRising};
 ghost use Rattle.gcl_model.specs.FormOf.{form_of};
 ghost use Rattle.gcl_model.specs.Limits.{far};
 ghost use Rattle.gcl_model.specs.Texts.{IsText};
@@ -37,7 +36,7 @@ impl<'a> Model for Side<'a> {
     ghost invariant = { λ s. IsSide s.version.now (form_of s.expr.now) s.high s.head };
 }
 
-/// Asks for the first member that is left, where it is not known.
+/// Asks for the first member that is left, if it is not known.
 fn asked<S: Ledger>(
     expr: &Expr,
     version: &Version,
@@ -63,7 +62,7 @@ fn asked<S: Ledger>(
 }
 
 impl<'a> Side<'a> {
-    /// All members that end at `low` or later and start at `high` or before.
+    /// All members that end at or after `low` and start at or before `high`.
     pub fn new(expr: &'a Expr, version: &'a Version, low: u64, high: u64) -> Side<'a>
         requires well_formed { IsWellFormed (form_of expr.now) }
         requires below { low < far }
@@ -71,7 +70,7 @@ impl<'a> Side<'a> {
         ensures look_ups { result.look_ups ≡ list_cost version.now (form_of expr.now) (length result.left) }
         ensures sound { IsText (version_text version.now) }
     {
-        // the span tells that the words rise
+        // the span shows that the words rise
         let _span = version.span();
         Side {
             expr,
@@ -91,13 +90,13 @@ impl<'a> Side<'a> {
         self.head.found()
     }
 
-    /// Takes the first member off.
+    /// Removes the first member.
     pub fn pass(&mut self, member: Interval)
         requires { Some member ≡ first_of self.old.left }
         ensures left { self.old.left ≡ member ∷ self.new.left }
         ensures look_ups { self.new.look_ups ≤ self.old.look_ups }
     {
-        // the head tells that the member is one of the list, so it ends before the addresses do
+        // the head shows that the member is one of the list, so it ends before the addresses do
         let _head = self.head;
         self.head = Head::Starting(member.start + 1);
     }

@@ -37,7 +37,7 @@ impl Model for WatchList {
 }
 
 impl WatchList {
-    /// No watch. It takes no memory.
+    /// No watch. It allocates nothing.
     pub fn new(alloc: Global) -> Self
         ensures { result ≡ watch_list [] 0 }
     {
@@ -55,7 +55,7 @@ impl WatchList {
         self.watches.len()
     }
 
-    /// The number that the next watch gets: so many were made.
+    /// The number that the next watch gets: that many were made.
     pub fn next_id(&self) -> u64
         ensures value { result ≡ self.now.next }
         ensures list { IsWatchList self.now }
@@ -72,9 +72,9 @@ impl WatchList {
         &self.watches[i]
     }
 
-    /// Watches an expression, and answers its number. `Full` comes where `MOST_WATCHES` are live; at any `Err` the expression is dropped.
+    /// Watches an expression, and returns its number. Returns `Full` if `MOST_WATCHES` are live; on any `Err` the expression is dropped.
     ///
-    /// The first watch gets the number 0, the next one 1, also where 0 was removed.
+    /// The first watch gets the number 0, the next one 1, even if 0 was removed.
     pub fn add(&mut self, expr: Expr) -> Result<u64, WatchFault>
         requires { self.old.next < version_end }
         ensures number { IfOk result (λ id. id ≡ self.old.next) }
@@ -97,7 +97,7 @@ impl WatchList {
         }
     }
 
-    /// No longer watches the expression of this number. `Err` comes where no live watch has it.
+    /// Stops watching the expression of this number. Returns `Err` if no live watch has it.
     pub fn remove(&mut self, id: u64) -> Result<(), NoWatch>
         ensures ok { OnOk result (self.new ≡ without_watch self.old id) }
         ensures found { OnOk result (has_watch self.old.live id ≡ true) }

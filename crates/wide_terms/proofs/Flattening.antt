@@ -1,6 +1,5 @@
 -- One of trees is one of all that they have.
-use Rattle.std.proofs.Common.{◌≡◌, ℕ, zero, suc, ◌-◌, ◌/◌, ◌<◌, Bool, true, false, cond, ◌&&◌, ◌||◌, leb, map, List, [], ◌∷◌, ◌++◌, length, take, drop, refl, sym, ap, ◌∙◌, arith}
-use Rattle.std.specs.List.{list_any}
+use Rattle.std.proofs.Common.{◌≡◌, ℕ, zero, suc, ◌-◌, ◌/◌, ◌<◌, Bool, true, false, cond, ◌||◌, leb, map, List, [], ◌∷◌, ◌++◌, length, take, drop, refl, sym, ap, ◌∙◌, arith}
 use Rattle.std.proofs.lemmas.Bool.{true≢false, and_parts, and_from, lt-leb}
 use Rattle.std.proofs.lemmas.List.{map-append, take-append-drop}
 use Rattle.gcl_model.specs.Extents.{Extent, covers, all_extents}
@@ -50,7 +49,7 @@ one_flattens text before inner behind =
     ∙ sym (some-append text (before ++ inner) behind c)
     ∙ sym (one_covers text (forms_from (before ++ inner ++ behind)) c))
 
--- where the words of two parts follow each other, the terms of all are those of the parts
+-- if the words of two parts follow each other, the terms of all are those of the parts
 two_parts : (text : Text) (xs ys : List (List ℕ)) (c : Extent) → some_covers text (map term (xs ++ ys)) c ≡ (some_covers text (map term xs) c || some_covers text (map term ys) c)
 two_parts text xs ys c = ap (λ forms. some_covers text forms c) (map-append term xs ys) ∙ some-append text (map term xs) (map term ys) c
 

@@ -1,6 +1,6 @@
 -- What an expansion keeps: it is well formed, and without prefix terms it is the expression.
-use Rattle.std.proofs.Common.{◌≡◌, ℕ, zero, suc, ◌+◌, ◌/◌, ◌≤◌, ◌<◌, leb, Bool, true, false, cond, ◌||◌, map, take, drop, get_or, List, [], ◌∷◌, ◌++◌, length, refl, sym, ap, ◌∙◌, subst, arith}
-use Rattle.std.proofs.lemmas.Bool.{true≢false, or_parts, leb-false}
+use Rattle.std.proofs.Common.{◌≡◌, ℕ, zero, suc, ◌+◌, ◌/◌, ◌≤◌, ◌<◌, leb, Bool, true, false, cond, map, take, drop, get_or, List, [], ◌∷◌, ◌++◌, length, refl, sym, ap, ◌∙◌, subst, arith}
+use Rattle.std.proofs.lemmas.Bool.{or_parts, leb-false}
 use Rattle.gcl_model.specs.Texts.{Text}
 use Rattle.gcl_model.specs.Forms.{Form, Forms, term, phrase, width, both, one, seq, containing, contained_in, not_containing, not_contained_in, no_forms, more_forms, forms_count}
 use Rattle.std.proofs.lemmas.List.{length-take, length-drop, map-append, take_more}

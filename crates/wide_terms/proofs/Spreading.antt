@@ -1,7 +1,7 @@
 -- The concordance list of an expansion is the wide list.
-use Rattle.std.proofs.Common.{◌≡◌, ◌⊎◌, ℕ, ◌+◌, ◌-◌, ◌/◌, ◌≤◌, Bool, true, false, not, cond, ◌&&◌, ◌||◌, eqb, filter, map, List, [], ◌∷◌, length, take, bytes_eq, inl, inr, refl, sym, ap, ◌∙◌, subst, arith}
-use Rattle.std.specs.List.{AllByRecursion, list_any}
-use Rattle.std.proofs.lemmas.Bool.{true≢false, cases_Bool, and_parts, and_from, eqb-true, eq-eqb, or_cases, or_left, or_right}
+use Rattle.std.proofs.Common.{◌≡◌, ℕ, ◌-◌, ◌/◌, ◌≤◌, Bool, true, false, not, cond, ◌&&◌, ◌||◌, eqb, filter, map, List, [], ◌∷◌, length, take, bytes_eq, inl, inr, refl, sym, ap, ◌∙◌, subst, arith}
+use Rattle.std.specs.List.{list_any}
+use Rattle.std.proofs.lemmas.Bool.{true≢false, and_parts, and_from, eqb-true, eq-eqb, or_cases}
 use Rattle.std.proofs.lemmas.List.{length-take}
 use Rattle.std.proofs.lemmas.Slice.Eq.{bytes_eq-Decides}
 use Rattle.gcl_model.specs.Extents.{Extent, is_nested, same_extent, contains_extent, covers, is_inside, is_least, all_extents}
@@ -36,11 +36,11 @@ plain_term text token plain c =
     (any_same (λ (w : Word). eqb w.address c.start && bytes_eq w.token token) (λ (w : Word). eqb w.address c.start && stands_for_word token w.token) text.words
     (λ w. ap (λ b. eqb w.address c.start && cond b (begins_with (prefix_of token) w.token) (bytes_eq w.token token)) (sym plain)))
 
--- one of the tokens stands at the address
+-- one of the tokens is at the address
 abbrev any_holds : List Word → List (List ℕ) → ℕ → Bool
 any_holds words tokens p = list_any (λ token. holds words token p) tokens
 
--- the words of a prefix stand where it holds
+-- the words of a prefix are where it holds
 prefix_holds : (words : List Word) (token : List ℕ) → is_prefix_term token ≡ true → (p : ℕ) → any_holds words (matching_words words (prefix_of token)) p ≡ holds_wide words token p
 prefix_holds words token is p =
     let tokens = matching_words words (prefix_of token) in
@@ -70,7 +70,7 @@ begins_itself token =
     shorter : (n : ℕ) (xs : List ℕ) → n ≤ length xs → take (length (take n xs)) xs ≡ take n xs
     shorter n xs le = let e : length (take n xs) ≡ n = simp length-take (omega arith) in ap (λ m. take m xs) e
 
--- where no word begins with the prefix, none is the prefix term
+-- if no word begins with the prefix, none is the prefix term
 none_holds : (words : List Word) (token : List ℕ) → is_prefix_term token ≡ true → matching_words words (prefix_of token) ≡ [] → (p : ℕ) → holds words token p ≡ holds_wide words token p
 none_holds words token is none p =
     let nowhere : holds_wide words token p ≡ false = sym (prefix_holds words token is p) ∙ ap (λ ts. any_holds words ts p) none in
@@ -101,7 +101,7 @@ least_point (d ∷ list) c point all = and_from _ _ (here (is_nested d c) refl) 
         let at = point in
         and_from _ _ (eq-eqb d.start c.start (omega arith)) (eq-eqb d.end c.end (omega arith))
 
--- where single addresses alone pass a test, all that pass are least
+-- if only single addresses pass a test, all that pass are least
 minimal_point : (text : Text) (test : Extent → Bool) → ((c : Extent) → test c ≡ true → IsPoint c) → (c : Extent) → is_minimal text test c ≡ test c
 minimal_point text test points c = here (test c) refl
   where
@@ -112,7 +112,7 @@ minimal_point text test points c = here (test c) refl
     here false is = refl
     here true is = least_point (extents_where text test) c (points c is) passing
 
--- a pair of the text is in a list where it passes the test
+-- a pair of the text is in a list if it passes the test
 contains_passing : (text : Text) (test : Extent → Bool) (c : Extent) → T.Has (all_extents text.first text.next) c → contains_extent (extents_where text test) c ≡ test c
 contains_passing text test c m =
     let same : Extent → Bool = λ a. same_extent a c in

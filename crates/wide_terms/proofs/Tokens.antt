@@ -1,9 +1,8 @@
 -- Members of lists of tokens, and lists that rise in byte order.
-use Rattle.std.proofs.Common.{nat_cmp, Ordering, ◌≡◌, ◌⊎◌, ℕ, ◌≤◌, Bool, true, false, cond, ◌||◌, filter, map, length, arith, List, [], ◌∷◌, ◌++◌, bytes_eq, inl, inr, refl, sym, ap, ◌∙◌, subst}
+use Rattle.std.proofs.Common.{nat_cmp, Ordering, ◌≡◌, ◌⊎◌, ℕ, ◌≤◌, Bool, true, false, filter, map, length, arith, List, [], ◌∷◌, ◌++◌, bytes_eq, inl, inr, refl, sym, ap, ◌∙◌, subst}
 use Rattle.std.proofs.lemmas.Bool.{true≢false, cases_Bool, or_cases, or_left, or_right}
 use Rattle.std.proofs.lemmas.Slice.Eq.{bytes_eq-Decides}
 use Rattle.std.proofs.lemmas.Cmp.{nat_list_cmp_total}
-use Rattle.std.proofs.lemmas.Map.Lookups.{exact_bytes}
 use Rattle.std.specs.declared.cmp.Ordering.TheVariants.{Less, Equal, Greater}
 use Rattle.std.specs.Ordering.{ordering_reverse}
 use Rattle.std.specs.Cmp.Lexicographic.{slice_cmp}
@@ -48,7 +47,7 @@ has_filter test (y ∷ ys) x m =
       | inr h ↦ let r = has_filter test ys x (rw h at m) in (inr r.0, r.1)
     ]
 
--- a token is one of these where it is a member
+-- a token is one of these if it is a member
 pub has_tells : (xs : List (List ℕ)) (t : List ℕ) → Has xs t → list_any (λ x. bytes_eq x t) xs ≡ true
 has_tells xs t m = any_from (λ x. bytes_eq x t) xs t m ((bytes_eq-Decides t t).1 refl)
 

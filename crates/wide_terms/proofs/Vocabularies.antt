@@ -1,12 +1,11 @@
 -- The vocabulary of words rises, and has the token of each word.
-use Rattle.std.proofs.Common.{nat_cmp, Ordering, ◌≡◌, ◌⊎◌, ◌↔◌, ℕ, Bool, true, false, ◌&&◌, filter, map, List, [], ◌∷◌, ◌++◌, bytes_eq, inl, inr, refl, sym, ap, ◌∙◌, subst}
+use Rattle.std.proofs.Common.{nat_cmp, Ordering, ◌≡◌, ◌⊎◌, ℕ, true, ◌&&◌, filter, map, List, [], ◌∷◌, ◌++◌, bytes_eq, inl, inr, refl, sym, ap, ◌∙◌, subst}
 use Rattle.std.proofs.lemmas.Bool.{and_parts, and_from}
 use Rattle.std.proofs.lemmas.Slice.Eq.{bytes_eq-Decides}
 use Rattle.std.proofs.lemmas.Map.Lookups.{exact_bytes}
 use Rattle.std.specs.declared.cmp.Ordering.TheVariants.{Less, Equal, Greater}
 use Rattle.std.specs.Ordering.{match_ordering}
 use Rattle.std.specs.Cmp.Lexicographic.{slice_cmp}
-use Rattle.std.specs.List.{AllByRecursion, list_any}
 use Rattle.gcl_model.proofs.Lists.{all_weaker}
 use Rattle.gcl_model.specs.Texts.{Word}
 use Rattle.gcl_model.specs.Wide.{begins_with}

@@ -2,9 +2,7 @@
 use Rattle.std.specs.Prelude.{◌≡◌, ℕ, zero, suc, ◌+◌, List, true, false, [], ◌∷◌, length, map, refl, codes}
 use Rattle.gcl_model.specs.Forms.{Form, Forms, term, phrase, both, one, not_containing, no_forms, more_forms}
 use Rattle.gcl_model.specs.FormOf.{forms_from}
-use Rattle.gcl_model.specs.Meaning.{concordance}
 use Rattle.gcl_model.specs.Texts.{Text, Word}
-use Rattle.gcl_model.specs.Wide.{wide}
 use Rattle.wide_terms.specs.Vocabulary.{vocabulary, with_token, matching_words}
 use Rattle.wide_terms.specs.Expansion.{one_of_words, expansion, has_prefix_term, sum_of_prefixes}
 use Rattle.wide_terms.specs.Trees.{is_term_tree, leaf_tokens}
@@ -12,7 +10,7 @@ use Rattle.wide_terms.specs.Trees.{is_term_tree, leaf_tokens}
 abbrev word : ℕ → List ℕ → Word
 word p token = record { address = p; token = token }
 
--- `to be or not to be` from address 1 on
+-- `to be or not to be`, starting at address 1
 abbrev hamlet : Text
 hamlet = record {
   first = 1;
@@ -65,7 +63,7 @@ no_prefix_is_seen = refl
 pub prefixes_are_summed : sum_of_prefixes length (both (two (term (codes "be*")) (term (codes "o*")))) ≡ 3
 prefixes_are_summed = refl
 
--- so many words of one letter: for 3 they are a, b and c
+-- the given number of words of one letter: for 3 they are a, b and c
 abbrev letters : ℕ → ℕ → List (List ℕ)
 letters zero first = []
 letters (suc n) first = (first ∷ []) ∷ letters n (first + 1)

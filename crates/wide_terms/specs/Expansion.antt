@@ -6,11 +6,11 @@ use Rattle.gcl_model.specs.FormOf.{forms_from}
 use Rattle.gcl_model.specs.Wide.{is_prefix_term, prefix_of}
 use Rattle.wide_terms.specs.Vocabulary.{matching_words}
 
--- so many words stand in one node
+-- the most words in one node
 abbrev pub node_words : ℕ
 node_words = 8
 
--- one of the words: 8 of them in one node, and of more words one of the two halves, each of which is made alike with one level less
+-- one of the words: up to 8 of them in one node; more words are one of two halves, each built the same way with one level less
 abbrev pub tree_of_words : ℕ → List (List ℕ) → Form
 tree_of_words zero words = one (forms_from (map term words))
 tree_of_words (suc levels) words =
@@ -18,7 +18,7 @@ tree_of_words (suc levels) words =
     then one (forms_from (map term words))
     else one (more_forms (tree_of_words levels (take (length words / 2) words)) (more_forms (tree_of_words levels (drop (length words / 2) words)) no_forms))
 
--- one of the words as a tree, whose levels are always enough, the word alone where there is one, and the prefix term as it is where there is none
+-- one of the words as a tree, whose levels are always enough; the word alone if there is one; the prefix term as it is if there is none
 abbrev pub one_of_words : List ℕ → List (List ℕ) → Form
 one_of_words token [] = term token
 one_of_words token (word ∷ []) = term word

@@ -13,11 +13,11 @@ use Rattle.wide_terms.specs.Expansion.{expansion, has_prefix_term}
 abbrev pub ExpansionsAreWide : Type 0
 ExpansionsAreWide = (text : Text) (form : Form) → concordance text (expansion text form) ≡ wide text form
 
--- an expansion is as well formed as what it is made of
+-- the expansion of a well-formed expression is well formed
 abbrev pub ExpansionsAreWellFormed : Type 0
 ExpansionsAreWellFormed = (text : Text) (form : Form) → IsWellFormed form → IsWellFormed (expansion text form)
 
--- without a prefix term there is nothing to expand: the expression has its concordance list
+-- without a prefix term there is nothing to expand: the wide list is the concordance list
 abbrev pub OthersStay : Type 0
 OthersStay = (text : Text) (form : Form) → has_prefix_term form ≡ false → (expansion text form ≡ form) × (wide text form ≡ concordance text form)
 

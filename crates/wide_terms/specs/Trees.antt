@@ -46,6 +46,6 @@ abbrev pub OneFlattens : Type 0
 OneFlattens = (text : Text) (before inner behind : List Form) →
     concordance text (one (forms_from (before ++ one (forms_from inner) ∷ behind))) ≡ concordance text (one (forms_from (before ++ inner ++ behind)))
 
--- a tree of terms is one of its terms
+-- a tree of terms has the same list as "one of" all its terms
 abbrev pub TreesFlatten : Type 0
 TreesFlatten = (text : Text) (form : Form) → is_term_tree form ≡ true → concordance text form ≡ concordance text (one (forms_from (map term (leaf_tokens form))))

@@ -11,12 +11,12 @@ use Rattle.gcl_model.specs.Wide.{begins_with}
 abbrev pub ComesBefore : List ℕ → List ℕ → Type 0
 ComesBefore a b = slice_cmp nat_cmp a b ≡ Less
 
--- each token comes before all that stand after it
+-- each token comes before all that follow it
 abbrev pub RiseInBytes : List (List ℕ) → Type 0
 RiseInBytes [] = Unit {0}
 RiseInBytes (token ∷ tokens) = AllByRecursion (ComesBefore token) tokens × RiseInBytes tokens
 
--- rising tokens with one more, where they do not have it: be and or with not are be, not and or
+-- rising tokens with one more, if they do not have it: be and or with not are be, not and or
 abbrev pub with_token : List ℕ → List (List ℕ) → List (List ℕ)
 with_token token [] = token ∷ []
 with_token token (other ∷ others) = match_ordering (slice_cmp nat_cmp token other) (token ∷ other ∷ others) (other ∷ others) (other ∷ with_token token others)

@@ -1,7 +1,6 @@
 ghost use Rattle.std.specs.Prelude.{◌≡◌, map};
-ghost use Rattle.std.specs.Io.BufRead.{ends_with_byte};
 ghost use Rattle.gcl_model.specs.FormOf.{form_of, forms_from};
-ghost use Rattle.gcl_model.specs.Wide.{is_prefix_term, prefix_of};
+ghost use Rattle.gcl_model.specs.Wide.{is_prefix_term};
 ghost use Rattle.wide_terms.specs.Expansion.{has_prefix_term, any_has_prefix_term};
 
 use gcl_model::Expr;

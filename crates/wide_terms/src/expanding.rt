@@ -1,9 +1,9 @@
-ghost use Rattle.std.specs.Prelude.{◌≡◌, ◌+◌, ◌≤◌, IsTrue, List, map, IfOk};
+ghost use Rattle.std.specs.Prelude.{◌≡◌, ◌+◌, ◌≤◌, map, IfOk};
 ghost use Rattle.gcl_model.specs.FormOf.{form_of, forms_from, containment_form};
 ghost use Rattle.gcl_model.specs.Forms.{more_forms, no_forms, one, term};
 ghost use Rattle.gcl_model.specs.Meaning.{concordance};
 ghost use Rattle.gcl_model.specs.WellFormed.{IsWellFormed};
-ghost use Rattle.gcl_model.specs.Wide.{is_prefix_term, prefix_of, wide};
+ghost use Rattle.gcl_model.specs.Wide.{is_prefix_term, wide};
 ghost use Rattle.wide_terms.specs.Expansion.{expansion, expansions, one_of_words, sum_of_prefixes, sums_of_prefixes, tree_of_words};
 
 use crate::asking::is_prefix_term;
@@ -11,13 +11,14 @@ use crate::table::WordTable;
 use gcl_model::{Bytes, Containment, Expr, TokenList};
 use std::alloc::{AllocError, Global};
 
-/// So many words stand in one node of a tree.
+/// The most words that one node of a tree holds.
 const NODE_WORDS: usize = 8;
 
-/// The expression with each prefix term replaced: by one of the words that begin with its prefix, by the word where there is one, and by
-/// itself where there is none. All else is copied. What it makes is the same whatever the table is: it depends on the text and the expression.
+/// The expression with each prefix term replaced by "one of" the words that begin with its prefix, or by the word itself if there is
+/// just one; a term without such a word stays. All else is copied. The result depends on the text and the expression, not on the table.
 ///
-/// Over `to be or not to be` it makes `to .. be` of `t* .. b*`, and one of `not` and `or` of a table of these two and the prefix term `*`.
+/// Over `to be or not to be` it turns `t* .. b*` into `to .. be`. With a table of `not` and `or` it turns the prefix term `*` into one of
+/// these two.
 pub fn expand<T: WordTable>(
     alloc: Global,
     table: &T,
@@ -26,7 +27,8 @@ pub fn expand<T: WordTable>(
 ) -> Result<Expr, AllocError>
     requires { IsWellFormed (form_of expr.now) }
     ensures value { IfOk result (λ expanded. form_of expanded ≡ expansion (T.text table.now) (form_of expr.now)) }
-    ensures wide { IfOk result (λ expanded. concordance (T.text table.now) (form_of expanded) ≡ wide (T.text table.now) (form_of expr.now)) }
+    ensures wide { IfOk result (λ expanded.
+        concordance (T.text table.now) (form_of expanded) ≡ wide (T.text table.now) (form_of expr.now)) }
     ensures well_formed { IfOk result (λ expanded. IsWellFormed (form_of expanded)) }
     ensures counted { T.count counter.old ≤ T.count counter.new }
     ensures cost { T.count counter.new ≤ T.count counter.old + sum_of_prefixes (T.most table.now) (form_of expr.now) }
@@ -35,7 +37,7 @@ pub fn expand<T: WordTable>(
     Ok(expanded)
 }
 
-/// The same of any expression.
+/// The same for any expression.
 #[cycle(expand)]
 fn expanded<T: WordTable>(
     alloc: Global,
@@ -97,7 +99,8 @@ fn expanded_each<T: WordTable>(
     operands: &[Expr],
     counter: &mut T::Counter,
 ) -> Result<Vec<Expr>, AllocError>
-    ensures value { IfOk result (λ exprs. forms_from (map form_of exprs.items) ≡ expansions (T.text table.now) (forms_from (map form_of operands.now))) }
+    ensures value { IfOk result (λ exprs.
+        forms_from (map form_of exprs.items) ≡ expansions (T.text table.now) (forms_from (map form_of operands.now))) }
     ensures counted { T.count counter.old ≤ T.count counter.new }
     ensures cost { T.count counter.new ≤ T.count counter.old + sums_of_prefixes (T.most table.now) (forms_from (map form_of operands.now)) }
 {
@@ -146,7 +149,7 @@ fn expanded_term<T: WordTable>(
     one_of_words(alloc, token, words.as_slice())
 }
 
-/// One of these words, or the word alone, or the term where there is none.
+/// One of these words, or the word alone if there is one, or the term if there is none.
 fn one_of_words(alloc: Global, token: &[u8], words: &[Bytes]) -> Result<Expr, AllocError>
     ensures { IfOk result (λ expr. form_of expr ≡ one_of_words token.now words.now) }
 {
@@ -157,9 +160,9 @@ fn one_of_words(alloc: Global, token: &[u8], words: &[Bytes]) -> Result<Expr, Al
     }
 }
 
-/// One of these words. Of more than `NODE_WORDS` it is one of the two halves: a reader that asks for the next place of any of
-/// them then asks few nodes again. With each level the words are half as many, so as many levels as there are full nodes are
-/// always enough.
+/// One of these words. More than `NODE_WORDS` become one of two halves: a reader that asks for the next place of any of them
+/// then asks few nodes again. Each level halves the number of words, so as many levels as there are full nodes are always
+/// enough.
 fn tree_of_words(alloc: Global, words: &[Bytes], levels: usize) -> Result<Expr, AllocError>
     ensures { IfOk result (λ expr. form_of expr ≡ tree_of_words levels words.now) }
 {

@@ -6,7 +6,7 @@ pub fn expansions_are_wide()
     ensures { ExpansionsAreWide }
 {}
 
-/// What is made of a well-formed expression is well formed.
+/// The expansion of a well-formed expression is well formed.
 pub fn expansions_are_well_formed()
     ensures { ExpansionsAreWellFormed }
 {}
@@ -26,7 +26,7 @@ pub fn one_of_flattens()
     ensures { OneFlattens }
 {}
 
-/// A tree of terms has the list of one of its terms.
+/// A tree of terms has the same list as "one of" all its terms.
 pub fn trees_flatten()
     ensures { TreesFlatten }
 {}

@@ -5,9 +5,9 @@
 //!
 //! The layer above has a `WordTable`, which finds the words that begin with a prefix, and calls `expand`;
 //! `has_prefix_terms` says whether there is anything to expand. Over `to be or not to be` the prefix term `t*` becomes
-//! `to`, and `o* ^ n*` becomes `or ^ not`. More than 8 words become a tree: one of the two halves, each of which is made
-//! alike. So a reader that goes forward, and asks again where its own answer was passed, takes steps by the height of the
-//! tree, and not by the number of words.
+//! `to`, and `o* ^ n*` becomes `or ^ not`. More than 8 words become a tree: one of two halves, each built the same way.
+//! So for a reader that goes forward, and asks again where its own answer was passed, the number of steps depends on the
+//! height of the tree, not on the number of words.
 #![tactic(auto)]
 
 mod asking;

@@ -26,13 +26,13 @@ use Rattle.text_window.specs.Within.{within}
 abbrev pub text_of_part : Part → Text
 text_of_part part = within (version_text (last_of part.pass.history)) part.window.low part.window.high
 
--- readers that stand in the lists over a text passed no member that starts at an address or later
+-- readers that stand in the lists over a text passed no member that starts at or after an address
 abbrev pub IsStage : Text → Form → (from : ℕ) → Stage → Type 0
 IsStage text form from Fresh = Unit {0}
 IsStage text form from (On readers) = Stands text form readers × (start_at readers ≤ from)
 IsStage text form from Over = Unit {0}
 
--- the members that are to come: those that start there, but for the end
+-- the members that are to come: those that start at `from` or later, and none at the end
 abbrev pub to_come_at : Text → Form → (from : ℕ) → Stage → List Extent
 to_come_at text form from Fresh = members_from (concordance text form) from
 to_come_at text form from (On readers) = members_from (concordance text form) from
@@ -63,7 +63,7 @@ to_come_of part from stage = to_come_at (text_of_part part) (form_of part.expr.v
 abbrev pub way_of : Part → Stage → Way
 way_of part stage = way_at (text_of_part part) (access_most (last_of part.pass.history)) (form_of part.expr.value) stage
 
--- what is true of a page of at most so many members of those that were to come, and of the stage after it
+-- what is true of a page of at most `most` of the members that were to come, and of the stage after it
 pub record IsPage (part : Part) (from most : ℕ) (to_come page : List Extent) (stage : Stage) : Type 0 where
   pub ok : page ≡ take most to_come
   pub rest : to_come_of part (behind_page from page) stage ≡ drop most to_come

@@ -21,7 +21,7 @@ pub record IsMadeOn (ask : Ask) (before after : ReaderContent) (made : Made) : T
   pub number : made.number ≡ version.number
   pub found : made.found ≡ answer_in (version_text version) ask
 
--- the k-th answer of a lane, where there is one, is to the k-th of its queries: each `lanes`-th one from the one at `at` on
+-- the k-th answer of a lane, if there is one, is to the k-th of its queries: every `lanes`-th query, starting with the one at `at`
 abbrev pub AreMadeOn : List Ask → ℕ → ℕ → ReaderContent → ReaderContent → List (Option Made) → Type 0
 AreMadeOn asks lanes at before after answers = (k : ℕ) (made : Made) (ask : Ask) → slice_get answers k ≡ Some (Some made)
     → slice_get asks (at + k * lanes) ≡ Some ask → IsMadeOn ask before after made
@@ -31,7 +31,7 @@ pub record IsRun (asks : List Ask) (lanes at : ℕ) (before after : ReaderConten
   pub later : IsLater before after
   pub made : AreMadeOn asks lanes at before after work.made.items
 
--- the lanes from this one on have answered their queries
+-- this lane and those after it have answered their queries
 pub record AreRun (asks : List Ask) (lanes from : ℕ) (before after : List ReaderContent) (works : List Work) : Type 0 where
   pub readers : length after ≡ length before
   pub works_are : length works ≡ length before
@@ -39,7 +39,7 @@ pub record AreRun (asks : List Ask) (lanes from : ℕ) (before after : List Read
   pub made : (i : ℕ) (d : ReaderContent) (e : Work) → i < length before
       → AreMadeOn asks lanes (from + i) (slice_index_or before i d) (slice_index_or after i d) (slice_index_or works i e).made.items
 
--- the reader was told of one history more
+-- the reader was notified of one more history
 pub record IsTold (history : List VersionContent) (before after : ReaderContent) : Type 0 where
   pub publisher : after.publisher ≡ before.publisher
   pub seen : after.seen ≡ before.seen
@@ -50,7 +50,7 @@ pub record AreTold (history : List VersionContent) (before after : List ReaderCo
   pub count : length after ≡ length before
   pub each : (i : ℕ) (d : ReaderContent) → i < length before → IsTold history (slice_index_or before i d) (slice_index_or after i d)
 
--- the reader was told of the history, and where it has entered since, what it has seen goes on from that and from what it had seen
+-- the reader was notified of the history, and if it has entered since, what it has seen goes on from that and from what it had seen
 pub record IsSettled (history : List VersionContent) (before after : ReaderContent) (work work' : Work) : Type 0 where
   pub publisher : after.publisher ≡ before.publisher
   pub same : work'.made ≡ work.made
@@ -64,15 +64,15 @@ pub record AreSettled (history : List VersionContent) (before after : List Reade
   pub each : (i : ℕ) (d : ReaderContent) (e : Work) → i < length before
       → IsSettled history (slice_index_or before i d) (slice_index_or after i d) (slice_index_or works i e) (slice_index_or works' i e)
 
--- an answer counts where the lane's reader entered after the batch and the version is no later than the engine's last one
+-- an answer counts if the lane's reader entered after the batch and the version is no later than the engine's last one
 abbrev pub Counts : Bool → ℕ → ℕ → Type 0
 Counts settled last number = (settled ≡ true) × (number ≤ last)
 
--- each answer of a lane that counts beside a last version of this number is the one over a text
+-- each answer of a lane that counts, if the last version has this number, is the answer over a text
 abbrev pub IsTrusted : List Ask → ℕ → ℕ → Text → ℕ → Work → Type 0
 IsTrusted asks lanes last text at work = (k : ℕ) (made : Made) (ask : Ask) → slice_get work.made.items k ≡ Some (Some made)
     → slice_get asks (at + k * lanes) ≡ Some ask → Counts work.is_settled last made.number → made.found ≡ answer_in text ask
 
--- the same of each lane
+-- the same for each lane
 abbrev pub AreTrusted : List Ask → ℕ → Text → List Work → Type 0
 AreTrusted asks last text works = (i : ℕ) (e : Work) → i < length works → IsTrusted asks (length works) last text i (slice_index_or works i e)

@@ -1,4 +1,4 @@
--- How much of a source was read, what ends a run over it, and how that is told.
+-- How much of a source was read, what ends a run over it, and how that is reported.
 use Rattle.std.specs.Prelude.{◌≡◌, ℕ, ◌+◌, ◌≤◌, Bool, true, false, List, [], ◌++◌, length, take, Option, Result, Ok, Err, OnOk, IfSome, IsErrOf, ⊤}
 use Rattle.std.specs.Io.KnownBytes.{Consumes}
 use Rattle.std.specs.Io.KnownBytes.{IsAtEnd}
@@ -14,7 +14,7 @@ use Rattle.query_run.specs.declared.status.Status.TheVariants.{Done, DoneWithRef
 use Rattle.query_run.specs.declared.stream_fault.StreamFault.{StreamFault}
 use Rattle.query_run.specs.declared.stream_fault.StreamFault.TheVariants.{Read as StreamRead, TooLong as StreamTooLong, Write as StreamWrite, Files as StreamFiles, NoMemory as StreamNoMemory}
 
--- a piece of so many bytes went from a source into a feed
+-- a piece of `count` bytes went from a source into a feed
 pub record FeedsPiece (count : ℕ) (old new : Feed) (left left' : Option (List ℕ)) : Type 0 where
   pub piece : List ℕ
   pub from : Consumes left left' piece
@@ -23,7 +23,7 @@ pub record FeedsPiece (count : ℕ) (old new : Feed) (left left' : Option (List 
   pub lines_are : (later : List ℕ) → lines old.most (new.held ++ later) ≡ lines old.most (old.held ++ piece ++ later)
   pub held_few : length new.held ≤ length old.held + length piece
 
--- so many bytes of a script were read and so many of its lines completed, and what is held stands before the rest
+-- `read` bytes of a script were read and `completed` of its lines completed, and what is held comes before the rest
 pub record IsFed (most read completed : ℕ) (held script : List ℕ) : Type 0 where
   pub within : read ≤ length script
   pub few : completed ≤ length (lines most script)
@@ -60,7 +60,7 @@ IsSure (Err StreamWrite) = ⊤
 IsSure (Err StreamFiles) = ⊥
 IsSure (Err StreamNoMemory) = ⊥
 
--- what was read of a script that may have this many bytes: no more, and of a longer one a byte more; and its count of faults
+-- what was read of a script that may have this many bytes: no more, and of a longer one, one byte more; and its count of faults
 pub record HasRead {T : Type 0} (most : ℕ) (left left' : Option (List ℕ)) (before now : ℕ) (result : Result T StreamFault) : Type 0 where
   pub took : ¬ IsErrOf result StreamTooLong → TakesAtMost most left left'
   pub ended : OnOk result (IsAtEnd left')
@@ -84,7 +84,7 @@ pub record LeavesFiles {T : Type 0} (most : ℕ) (left : Option (List ℕ)) (unt
   pub unsaved : IfSome left (λ script. names_kept_of (lines most script) ≡ [] → unchanged)
   pub sure : IsSure result → all_kept
 
--- this many bytes of a script were read, its lines that are completed were served, and what is held stands before the rest
+-- this many bytes of a script were read, its lines that are completed were served, and what is held comes before the rest
 pub record ReadsOn (limits : Limits) (script : List ℕ) (read : ℕ) (held : List ℕ) (before now : Stand) (old new : Option (List ℕ)) : Type 0 where
   pub fed : IsFed limits.line read now.completed held script
   pub come : Serves limits (take now.completed (lines limits.line script)) before now old new

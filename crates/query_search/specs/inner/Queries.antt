@@ -27,7 +27,7 @@ pub record QueryContent : Type 0 where
   pub most : ℕ
   pub expr : Expr
 
--- the last version's text, and where there are prefix terms with their places, with these as tokens of the words that they stand for
+-- the last version's text; if there are prefix terms with their places, these are the tokens of the words that they stand for
 abbrev pub query_text : List VersionContent → Option (List PrefixContent) → Text
 query_text history None = version_text (last_of history)
 query_text history (Some table) = renamed (tokens_of table) (version_text (last_of history))
@@ -40,12 +40,12 @@ query_most history (Some table) = wide_most (last_of history)
 abbrev pub list_of : QueryContent → List Extent
 list_of query = concordance query.text (form_of query.expr)
 
--- how many look-ups all its pages and its number may make together: four by leaping for each address, and those of one merge of the whole
--- lists of all its parts
+-- how many look-ups all its pages and its number may make together: four by leaping for each address, those of three calls of its leaves,
+-- and those of one merge of the whole lists of all its parts
 abbrev pub query_cost : QueryContent → ℕ
 query_cost query = 4 * (query.text.next - query.text.first) + 3 * query.most + merge_cost query.text query.most (form_of query.expr)
 
--- the table, where there is one, has the places over the last version, and no word has two names in the form
+-- the table, if there is one, has the places over the last version, and no word has two names in the form
 pub record IsQuery (history : List VersionContent) (form : Form) (table : Option (List PrefixContent)) : Type 0 where
   pub last : EndsWith history (last_of history)
   pub well_formed : IsWellFormed form
@@ -71,7 +71,7 @@ pub record QueryLeft : Type 0 where
   pub left : ℕ
   pub free : Bool
 
--- where those that start at an address or later are to come: at the end there are none, and no look-up is made any more
+-- what is left if those that start at or after an address are to come: at the end there are none, and no more look-ups are made
 abbrev pub left_from : QueryContent → (from end : ℕ) → Cursor → QueryLeft
 left_from query from end cursor = record {
   all = list_of query;
@@ -80,7 +80,8 @@ left_from query from end cursor = record {
   free = if from == end then false else is_free cursor;
 }
 
--- a search with these members, of which some were given: what it takes to go over has the same ones, and is there only before the first
+-- a search with these members, of which some were given: the merging, if there is one, has the same members, and is there only before the
+-- first is given
 pub record IsSearch (all to_come : List Extent) (merging : Option (List Extent)) (given : ℕ) : Type 0 where
   pub counted : given + length to_come ≡ length all
   pub few : length all ≤ address_end

@@ -27,25 +27,25 @@ pub record GoesOnAt (history : List VersionContent) (form : Form) (from end : �
   pub in_range : end ≤ address_end
   pub within : from ≤ end
 
--- the readers of a form stand in their lists over the last version of a history, and passed no member that starts at an address or later
+-- the readers of a form stand in their lists over the last version of a history, and passed no member that starts at or after an address
 pub record StandFrom (history : List VersionContent) (form : Form) (from : ℕ) (readers : List Place) : Type 0 where
   pub stand : Stands (version_text (last_of history)) form readers
   pub behind : start_at readers ≤ from
 
--- the same of readers where there are some
+-- the same for the readers, if there are some
 abbrev pub ReadFrom : List VersionContent → Form → ℕ → Option (List Place) → Type 0
 ReadFrom history form from readers = IfSome readers (StandFrom history form from)
 
--- how members are found: by leaping where there are no readers
+-- how members are found: by leaping if there are no readers
 abbrev pub way_by : VersionContent → Form → Option (List Place) → Way
 way_by v form None = leaping (cost (version_text v) (access_most v) form)
 way_by v form (Some readers) = reading (cost_left (version_text v) (access_most v) form readers)
 
--- the same from an address on, before the end
+-- the same at an address; at the end there is nothing to find
 abbrev pub way_from : VersionContent → Form → (from end : ℕ) → Option (List Place) → Way
 way_from v form from end readers = if from == end then ended else way_by v form readers
 
--- a page of so many members makes no more look-ups than readers had left, and than leaping to them may make
+-- a page of `members` members makes no more look-ups than readers had left, plus what leaping to them may make
 abbrev pub IsPaid : VersionContent → Form → (old new : Option (List Place)) → (members steps steps' : ℕ) → Type 0
 IsPaid v form old new members steps steps' =
     steps' + left_of (way_by v form new) ≤ steps + left_of (way_by v form old) + leap_cost (way_by v form old) members

@@ -1,4 +1,4 @@
--- A setting may carry that its limits are allowed, since they are so in one way at most.
+-- A setting may carry a proof that its limits are allowed, since there is one at most.
 use Rattle.std.specs.Prelude.{ℕ}
 use Rattle.std.specs.Coded.{×_prop, le_prop}
 use Rattle.gcl_model.specs.Limits.{most_line, most_file, most_script, most_image, most_batch}

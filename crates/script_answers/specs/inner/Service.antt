@@ -49,25 +49,25 @@ pub record IsAtStand (here : Stand) (state : State) : Type 0 where
   pub keeps : Keeps here.engine here.pending state
   pub watching : watching_of here.watches ≡ state.watches
 
--- from a state on some lines were answered, all answers were written, and the engine and the files keep the state after them
+-- starting at a state, some lines were answered, all answers were written, and the engine and the files keep the state after them
 pub record Served (limits : Limits) (state : State) (lines : List Line) (before after : Stand) (old new : Option (List ℕ)) : Type 0 where
   pub answered : AllAnswered limits state lines
   pub at : IsAtStand after (state_after limits state lines)
   pub refused_is : after.refused ≡ (before.refused || list_any is_refusal (answers limits state lines))
   pub written : Appends old new (text_of_lines (answers limits state lines))
 
--- the same from whatever state the run was at, where what the lines open is read rightly; and each line is completed
+-- the same from whatever state the run was at, if what the lines open is read rightly; and each line is completed
 pub record Serves (limits : Limits) (lines : List Line) (before after : Stand) (old new : Option (List ℕ)) : Type 0 where
   pub completed : after.completed ≡ before.completed + length lines
   pub served : (state : State) → IsAtStand before state → AreRead limits state lines → Served limits state lines before after old new
 
--- from a state on the first of some lines are completed, and the run ended there
+-- starting at a state, the first of some lines are completed, and the run ended there
 pub record Halted (limits : Limits) (state : State) (lines : List Line) (how : Ending) (kept : Type 0) (before after : Stand) (old new : Option (List ℕ)) : Type 0 where
   pub taken : ℕ
   pub completed : after.completed ≡ before.completed + taken
   pub stopped : IsStopped limits state lines taken after.engine.version how kept after.held old new
 
--- the same from whatever state the run was at, where what the lines open is read rightly
+-- the same from whatever state the run was at, if what the lines open is read rightly
 abbrev pub Halts : Limits → List Line → Ending → Type 0 → Stand → Stand → Option (List ℕ) → Option (List ℕ) → Type 0
 Halts limits lines how kept before after old new = (state : State) → IsAtStand before state → AreRead limits state lines → Halted limits state lines how kept before after old new
 
@@ -83,13 +83,13 @@ pub record Goes (limits : Limits) (all rest : List Line) (asks : List Ask) (befo
 abbrev pub merges_pending : Bool → ℕ
 merges_pending pending = if pending then 1 else 0
 
--- an action publishes once at most, the merge that it makes pending counted, and leaves a collection that can be saved
+-- an action publishes at most once, counting the merge that it makes pending, and leaves a collection that can be saved
 pub record StepsOn (old new : EngineContent) (pending : Bool) : Type 0 where
   pub number : new.version.number + merges_pending pending ≤ old.version.number + 1
   pub savable : CanBeSaved new.version
   pub publisher : new.publisher ≡ old.publisher
 
--- the change that was to be made is not: the engine and the files are as the state says, but for names that were to be kept
+-- the change that was to be made is not: the engine and the files are as the state says, except for names that were to be kept
 pub record Unmade (names : List (List ℕ)) (kept : Type 0) (state : State) (engine : EngineContent) (held : Option Contents) : Type 0 where
   pub stands : StandsFor engine.version state.collection
   pub files : HoldsBut names state.files held
@@ -115,7 +115,7 @@ abbrev pub ending_of : {T : Type 0} → Result T RunFault → Ending
 ending_of (Ok _) = finished
 ending_of (Err fault) = fault_ending fault
 
--- a count of faults has not fallen: it rose where its object is said to have failed, and else it is as it was
+-- a count of faults has not fallen: it rose if its object is said to have failed, and else it is as it was
 pub record Counts (before now : ℕ) (failed : Type 0) : Type 0 where
   pub later : before ≤ now
   pub rose : failed → Rose before now
@@ -169,7 +169,7 @@ run opened progress asks held written = record { opened = opened; progress = pro
 abbrev pub stand_of : Run → Stand
 stand_of r = stand r.held r.opened r.progress
 
--- A line came that asks for something: it was served behind those that waited, or its query waits with them, and the run goes on. Or the run
+-- A line came that asks for something: it was served after those that waited, or its query waits with them, and the run goes on. Or the run
 -- ended among these lines
 pub record Takes {T : Type 0} (limits : Limits) (asks_for : Line → Type 0) (kept : Type 0) (before after : Run) (result : Result T RunFault) : Type 0 where
   pub goes : OnOk result ((waiting rest : List Line) (line : Line) → AreAsked before.asks waiting → asks_for line →

@@ -40,7 +40,7 @@ action_reply limits state (Watch query) = Some (watch_reply state query)
 action_reply limits state (Unwatch number) = Some (unwatch_reply state number)
 action_reply limits state (Refuse refusal) = Some (unchanged state (refusal_lines refusal))
 
--- a reply, and what it changed for the watches where an edit was asked for
+-- a reply, and what it changed for the watches if an edit was asked for
 abbrev pub telling_where : Bool → State → Reply → Reply
 telling_where asked state reply = if asked then telling state reply else reply
 
@@ -60,7 +60,7 @@ abbrev pub action_kept : Action → List (List ℕ)
 action_kept (Save name) = name ∷ []
 action_kept _ = []
 
--- its name is one
+-- what it has as a name is a name
 abbrev pub IsNamedAction : Action → Type 0
 IsNamedAction (Add name) = is_name name ≡ true
 IsNamedAction (Save name) = is_name name ≡ true
@@ -72,7 +72,7 @@ abbrev pub IsReadByAction : State → Action → Type 0
 IsReadByAction state (Open name) = IfSome (state.files name) (λ content. IsReading content (state.images content))
 IsReadByAction state _ = ⊤
 
--- what a command asks for that asks no query and is not empty
+-- what a command that is no query and not empty asks for
 abbrev pub action_of : Command → Option Action
 action_of (ToAdd name) = Some (Add name)
 action_of (Del id) = Some (Delete id)
@@ -112,7 +112,7 @@ IsTaskOf Nothing line = IsNothing line
 IsTaskOf (Ask ask) line = AsksLine ask line
 IsTaskOf (Act action) line = IsActionOf action line
 
--- the name of an action is one
+-- what an action has as a name is a name
 abbrev pub IsNamedTask : Task → Type 0
 IsNamedTask (Act action) = IsNamedAction action
 IsNamedTask _ = ⊤
@@ -131,13 +131,13 @@ task_kept _ = []
 abbrev pub completes : Answer → ℕ
 completes given = if is_change given then 1 else 0
 
--- the engine keeps the state that a reply leaves, and the answer has its lines; where it says of no change, there is none
+-- the engine keeps the state that a reply leaves, and the answer has its lines; if it reports no change, there is none
 pub record Follows (reply : Reply) (state : State) (engine : EngineContent) (pending : Bool) (answer : Answer) : Type 0 where
   pub keeps : Keeps engine pending reply.after
   pub lines : reply.lines ≡ answer_lines engine.version answer
   pub still : is_change answer ≡ false → (reply.after.collection ≡ state.collection) × (reply.after.files ≡ state.files)
 
--- the same of a reply that there may be, and the files hold what it leaves
+-- the same, where there is a reply, and the files hold what it leaves
 pub record Gives (told : Option Reply) (state : State) (engine : EngineContent) (pending : Bool) (held : Option Contents) (answer : Answer) : Type 0 where
   pub reply : Reply
   pub is : told ≡ Some reply

@@ -1,4 +1,4 @@
--- What the watches are told after an edit.
+-- What the watches report after an edit.
 use Rattle.std.specs.Prelude.{Bool}
 use Rattle.collection.specs.Engines.{EngineContent}
 use Rattle.standing_query.specs.Watches.{WatchListContent}

@@ -17,7 +17,7 @@ pub record SideContent : Type 0 where
   pub left : List Extent
   pub look_ups : ℕ
 
--- the first one, where there is one
+-- the first member, if there is one
 abbrev pub first_of : List Extent → Option Extent
 first_of [] = None
 first_of (a ∷ list) = Some a
@@ -54,7 +54,7 @@ IsAsked (Starting k) = ⊥
 IsAsked (Found a) = Unit {0}
 IsAsked End = Unit {0}
 
--- the first member that is left, where it is known
+-- the first member that is left, if it is known
 abbrev pub found_of : Head → Option Extent
 found_of (Ending k) = None
 found_of (Starting k) = None

@@ -1,7 +1,7 @@
 -- The operands of an expression.
 use Rattle.gcl_model.specs.Forms.{Form, Forms, both, one, seq, containing, contained_in, not_containing, not_contained_in, no_forms}
 
--- the first operand of a containment, and any other expression as it is
+-- the first operand of a containment; any other expression as it is
 abbrev pub first_operand : Form → Form
 first_operand (containing a b) = a
 first_operand (contained_in a b) = a
@@ -9,7 +9,7 @@ first_operand (not_containing a b) = a
 first_operand (not_contained_in a b) = a
 first_operand form = form
 
--- the second operand of a containment, and any other expression as it is
+-- the second operand of a containment; any other expression as it is
 abbrev pub second_operand : Form → Form
 second_operand (containing a b) = b
 second_operand (contained_in a b) = b

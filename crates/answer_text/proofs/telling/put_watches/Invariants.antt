@@ -5,7 +5,7 @@ use Rattle.answer_text.specs.Puts.{PutsFirst}
 use Rattle.answer_text.specs.Watching.{watches_text, watching_of}
 use Rattle.answer_text.proofs.telling.put_watches.Given as goal
 
--- what the first watches are told was put
+-- what the first watches report was put
 abbrev pub invariant-loop-i : goal.invariant-loop-i
 invariant-loop-i g l = record {
   puts : PutsFirst (watches_text (version_text (last_of l.before.history)) (version_text l.engine.version)) (g.K.Sink.written l.initial.sink) (g.K.Sink.written l.sink)

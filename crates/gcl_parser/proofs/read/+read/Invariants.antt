@@ -3,7 +3,7 @@ use Rattle.gcl_parser.specs.Reading.{rank}
 use Rattle.gcl_parser.proofs.Growing.{Chained, QuerySoFar}
 use Rattle.gcl_parser.proofs.read.+read.Given as goal
 
--- the bytes that are left, and then how deep the part stands in the grammar
+-- the bytes that are left, and then how deep the part is in the grammar
 abbrev pub decreases-bracketed : goal.decreases-bracketed
 decreases-bracketed l = (length l.text.now - l.at) * 9 + 8
 

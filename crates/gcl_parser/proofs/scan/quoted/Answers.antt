@@ -1,4 +1,4 @@
-use Rattle.std.proofs.Common.{◌≡◌, ◌+◌, ◌-◌, ◌<◌, length, drop, take, ap, sym, subst, ◌∙◌, arith}
+use Rattle.std.proofs.Common.{◌≡◌, ◌+◌, ◌-◌, drop, take, ap, sym, subst, ◌∙◌, arith}
 use Rattle.gcl_model.specs.Tokens.{starts_with_byte}
 use Rattle.gcl_parser.specs.declared.fault.QueryKind.TheVariants.{OpenQuote}
 use Rattle.gcl_parser.specs.declared.token.Token.TheVariants as T

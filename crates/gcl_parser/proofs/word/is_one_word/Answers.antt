@@ -1,4 +1,4 @@
-use Rattle.std.proofs.Common.{◌≡◌, ◌<◌, ◌∷◌, ◌++◌, [], length, drop, map, nat_eq, ap, sym, ◌∙◌, arith, rules}
+use Rattle.std.proofs.Common.{◌≡◌, ◌<◌, ◌∷◌, ◌++◌, length, drop, map, nat_eq, ap, sym, ◌∙◌, arith, rules}
 use Rattle.std.specs.Char.{to_ascii_lowercase}
 use Rattle.gcl_model.specs.Tokens.{open_token, close_token, tokens_of}
 use Rattle.word_tokens.specs.declared.lexeme.Lexeme.TheVariants.{EmptyTag}

@@ -7,7 +7,7 @@ use Rattle.live_version.specs.Contents.{version_text}
 use Rattle.near_search.specs.Costs.{surround_costs}
 use Rattle.near_search.proofs.around.+told.Given as goal
 
--- the addresses so far are those of the operands from the last one on
+-- the addresses so far are those of the last operands
 abbrev pub invariant-all_told-loop-left : goal.invariant-all_told-loop-left
 invariant-all_told-loop-left g l =
     record {

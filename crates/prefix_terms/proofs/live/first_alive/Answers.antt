@@ -1,9 +1,6 @@
-use Rattle.std.proofs.Common.{refl, sym, ap, subst, ◌≡◌, ◌+◌, ◌∙◌, filter, Some, arith}
+use Rattle.std.proofs.Common.{refl, ap, ◌≡◌, ◌+◌, ◌∙◌, Some, arith}
 use Rattle.gcl_model.specs.Slots.{SlotRange, slot_range}
-use Rattle.gcl_model.specs.declared.direction.Direction.TheVariants.{Forward}
-use Rattle.index_shard.specs.Searched.{nearest}
-use Rattle.index_shard.specs.Tables.{ShardContent, postings_of}
-use Rattle.live_version.specs.LookUps.{is_alive}
+use Rattle.index_shard.specs.Tables.{postings_of}
 use Rattle.live_version.proofs.LeapLemmas.{ahead-le-length, next_by_none, next_by_alive, next_by_dead, next_by_end, next_falls}
 use Rattle.live_version.proofs.WordLemmas.{postings_rise, range_of_shard}
 use Rattle.prefix_terms.proofs.Matches.{in_slot}

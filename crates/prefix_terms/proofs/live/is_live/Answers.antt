@@ -1,4 +1,4 @@
-use Rattle.std.proofs.Common.{◌≡◌, [], List, length, slice_get, sym, ap, ◌∙◌, is_some, arith}
+use Rattle.std.proofs.Common.{◌≡◌, [], List, length, slice_get, sym, ap, ◌∙◌, is_some}
 use Rattle.std.specs.List.{list_any}
 use Rattle.gcl_model.specs.Slots.{SlotRange}
 use Rattle.index_shard.specs.Tables.{ShardContent, postings_of}

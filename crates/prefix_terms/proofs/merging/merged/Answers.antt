@@ -1,4 +1,4 @@
-use Rattle.std.proofs.Common.{◌≡◌, ◌++◌, ◌+◌, ◌<◌, ◌≤◌, ◌-◌, ◌⊎◌, inl, inr, List, length, take, drop, sym, ap, ◌∙◌, arith}
+use Rattle.std.proofs.Common.{◌≡◌, ◌++◌, ◌+◌, ◌≤◌, ◌-◌, ◌⊎◌, inl, inr, length, take, drop, sym, ap, ◌∙◌, arith}
 use Rattle.prefix_terms.specs.Runs.{tokens_in}
 use Rattle.prefix_terms.proofs.Merges.{left_of, merge_less, merge_equal, merge_greater, merge_ends}
 use Rattle.prefix_terms.proofs.merging.merged.Goals as goal

@@ -2,7 +2,7 @@ use Rattle.std.proofs.Common.{◌≤◌, length, sym, ◌∙◌, arith}
 use Rattle.std.proofs.lemmas.List.{length-map}
 use Rattle.index_shard.specs.Tables.{TermEntry}
 use Rattle.prefix_terms.specs.Runs.{names}
-use Rattle.prefix_terms.proofs.InRows.{inside_more, run_ends, run_stops, table_rises}
+use Rattle.prefix_terms.proofs.InRows.{run_ends, run_stops, table_rises}
 use Rattle.prefix_terms.proofs.rows.run_of.Goals as goal
 
 pub returns-then-not-begins_with-clause-run : goal.returns-then-not-begins_with-clause-run

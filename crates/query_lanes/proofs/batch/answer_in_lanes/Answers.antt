@@ -37,7 +37,7 @@ returns-then-any-clause-err g c = inr c.in_ok-run_all.ensures.merged
 pub returns-then-any-clause-of : goal.returns-then-any-clause-of
 returns-then-any-clause-of g c = are_of c.run_all.new.engine.publisher c.settle_all.new.readers c.settle_all.ensures.of
 
--- the argument of the whole: what the lanes made counts by what their readers were told before and after
+-- the argument of the whole: what the lanes made counts by what their readers were notified of before and after
 pub gather-requires : goal.gather-requires
 gather-requires g c =
     all_trusted c.args.asks.now (length c.args.readers.now) c.args.engine.now c.run_all.new.engine

@@ -5,7 +5,7 @@ use Rattle.live_version.specs.Contents.{version_text}
 use Rattle.query_lanes.specs.Answers.{answer_in}
 use Rattle.query_lanes.proofs.find.answer_all.Goals as goal
 
--- one image more, where those so far and those to come are all
+-- one more image, if those so far and those to come are all
 mapped_more : {A B : Type 0} (f : A → B) (xs : List A) (i : ℕ) (x : A) (y : B) (done more all : List B) → i < length xs → x ≡ get_or xs i x → y ≡ f x → more ≡ done ++ y ∷ []
     → done ++ map f (drop i xs) ≡ all → more ++ map f (drop (i + 1) xs) ≡ all
 mapped_more f xs i x y done more all lt here is pushed so =

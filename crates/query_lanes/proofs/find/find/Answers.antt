@@ -20,7 +20,7 @@ over_latest : (history : List VersionContent) (v : VersionContent) (expr copy : 
 over_latest history v expr copy members latest same is =
     is ∙ ap (λ (e : Expr). wide (version_text (last_of history)) (form_of e)) same ∙ ap (λ (w : VersionContent). wide (version_text w) (form_of expr)) (last_is history v latest)
 
--- no list has more members than are asked for where all are
+-- no list has more members than are asked for if all are
 take_most : (members : List Extent) → length members ≤ address_end → take 18446744073709551615 members ≡ members
 take_most members few = take_all 18446744073709551615 members (omega arith)
 

@@ -2,7 +2,7 @@ use Rattle.std.proofs.Common.{◌++◌, [], ◌∷◌, length, arith, refl, sym,
 use Rattle.std.proofs.lemmas.Result.{on_ok_weaker, on_err_weaker}
 use Rattle.script_answers.specs.declared.run_fault.RunFault.TheVariants.{NoMemory}
 use Rattle.script_answers.proofs.BatchLemmas.{asked_more}
-use Rattle.script_answers.proofs.Exits.{done_sink, on_ok_both, one_longer, serving_more, short_sink}
+use Rattle.script_answers.proofs.Exits.{on_ok_both, one_longer, serving_more, short_sink}
 use Rattle.script_answers.proofs.Service.{ends_at, goes_served, goes_waits, halts_here, halts_more}
 use Rattle.script_answers.proofs.serving.serve_ask.Goals as goal
 

@@ -6,7 +6,7 @@ use Rattle.query_lanes.specs.Readers.{AreOf}
 use Rattle.script_answers.specs.declared.run_fault.RunFault.TheVariants.{Files, NoMemory}
 use Rattle.script_answers.proofs.BatchLemmas.{merged_keeps}
 use Rattle.script_answers.proofs.BatchSteps.{halts_batch, serves_batch, waits_batch}
-use Rattle.script_answers.proofs.Exits.{done_sink, err_of, merged_number, not_files, savable_still, short_sink, sink_ended, whole_row, within_done, asked_done, numbered_done}
+use Rattle.script_answers.proofs.Exits.{err_of, merged_number, not_files, savable_still, short_sink, sink_ended, whole_row, within_done, asked_done, numbered_done}
 use Rattle.script_answers.proofs.Service.{ending_is, lost_write, no_files}
 use Rattle.script_answers.proofs.serving.serve_batch.Goals as goal
 

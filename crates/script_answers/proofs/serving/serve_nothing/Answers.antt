@@ -1,7 +1,6 @@
 use Rattle.std.proofs.Common.{[], ◌∷◌, length, arith, refl, ap}
-use Rattle.script_answers.specs.declared.run_fault.RunFault.TheVariants.{Write}
 use Rattle.script_answers.proofs.ActionSteps.{serves_nothing}
-use Rattle.script_answers.proofs.Exits.{done_sink, left, serving_empty, sink_as}
+use Rattle.script_answers.proofs.Exits.{serving_empty, sink_as}
 use Rattle.script_answers.proofs.Service.{ends_at, goes_served, halts_more, serves_on}
 use Rattle.script_answers.proofs.serving.serve_nothing.Goals as goal
 

@@ -8,7 +8,7 @@ use Rattle.live_version.specs.Contents.{version_text}
 use Rattle.standing_query.specs.Edits.{finding_costs}
 use Rattle.standing_query.proofs.addresses.+changed.Given as goal
 
--- the addresses so far are those of the operands from the last one on
+-- the addresses so far are those of the last operands
 abbrev pub invariant-all_changed-loop-left : goal.invariant-all_changed-loop-left
 invariant-all_changed-loop-left g l =
     record {

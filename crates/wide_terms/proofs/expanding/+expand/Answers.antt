@@ -1,4 +1,4 @@
-use Rattle.std.proofs.Common.{List, map, sym, ap, ◌∙◌, arith}
+use Rattle.std.proofs.Common.{List, map, ap, ◌∙◌, arith}
 use Rattle.std.proofs.lemmas.List.{take_all}
 use Rattle.gcl_model.specs.FormOf.{form_of, forms_from}
 use Rattle.gcl_model.specs.declared.expr.Expr.{Expr}

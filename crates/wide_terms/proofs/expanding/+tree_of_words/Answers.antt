@@ -1,4 +1,4 @@
-use Rattle.std.proofs.Common.{◌≡◌, ◌-◌, ◌/◌, ◌<◌, IfOk, List, ℕ, length, take, drop, sym, ap, subst, ◌∙◌, arith}
+use Rattle.std.proofs.Common.{◌≡◌, ◌-◌, ◌/◌, IfOk, length, take, sym, ap, subst, ◌∙◌, arith}
 use Rattle.gcl_model.specs.FormOf.{form_of}
 use Rattle.gcl_model.specs.Forms.{Form, more_forms, no_forms, one}
 use Rattle.wide_terms.specs.Expansion.{tree_of_words}

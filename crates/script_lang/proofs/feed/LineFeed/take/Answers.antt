@@ -6,7 +6,7 @@ use Rattle.script_lang.specs.declared.taken.Taken.TheVariants.{Long, More}
 use Rattle.script_lang.proofs.FeedLemmas.{told, take-none, take-some, take-first, take-long, end-later}
 use Rattle.script_lang.proofs.feed.LineFeed.take.Goals as goal
 
--- nothing was taken where there is a newline
+-- nothing was taken if there is a newline
 not_more : (taken : Taken) (line : Line) → line_taken taken ≡ Some line → taken ≡ More → ⊥
 not_more taken line is more = no_line (ap line_taken (sym more) ∙ is)
   where
