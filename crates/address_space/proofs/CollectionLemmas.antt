@@ -12,7 +12,7 @@ start_is_sound first le = record {
   files = (omega arith, omega arith, (λ e. omega arith, omega arith));
 }
 
--- a new file stands right after the last hole, with no id left out
+-- a new file comes right after the last hole, with no id left out
 added_files : (c : Collection) (name : List ℕ) (tokens : List (List ℕ)) (at id : ℕ) (files : List File) → is_name name ≡ true → AllByRecursion IsToken tokens
     → AreFilesFrom c at id files → AreFilesFrom (with_file c name tokens) at id (files ++ record { id = c.next_id; name = name; base = c.next; tokens = tokens } ∷ [])
 added_files c name tokens at id [] named are_tokens h =
@@ -27,7 +27,7 @@ adding_keeps_soundness c name tokens sound can = record {
   files = added_files c name tokens c.first 0 c.files can.named can.are_tokens sound.files;
 }
 
--- where the files from an address and an id on fill a collection
+-- the address and the id are within a collection, if the files starting at them fill it
 pub record IsUpTo (c : Collection) (at id : ℕ) : Type 0 where
   pub address : at ≤ c.next
   pub number : id ≤ c.next_id

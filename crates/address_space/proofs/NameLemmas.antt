@@ -3,7 +3,7 @@ use Rattle.std.proofs.Common.{◌≡◌, ℕ, suc, List, [], ◌∷◌, length, 
 use Rattle.std.specs.Prelude.{◌==◌}
 use Rattle.gcl_model.specs.Tokens.{ends_with_byte}
 
--- whether a list ends with a space is told by its last byte
+-- whether a list ends with a space is known from its last byte
 pub ends_with_space-last : (bytes : List ℕ) → 0 < length bytes → (get_or bytes (length bytes - 1) 0 == 32) ≡ ends_with_byte 32 bytes
 ends_with_space-last [] some = absurd (omega arith)
 ends_with_space-last (b ∷ []) some = refl

@@ -10,7 +10,7 @@ joined-spanned : (before range : SlotRange) (ranges : List SlotRange) → joined
 joined-spanned before range [] = refl
 joined-spanned before range (next ∷ ranges) = joined-spanned before (joined range next) ranges
 
--- where no more are made one
+-- if no more are merged
 unjoined : (range : SlotRange) (ranges earlier whole : List SlotRange) (m : ℕ) → whole ≡ reverse earlier ++ range ∷ ranges → m ≡ length earlier →
     reverse (spanned range ranges ∷ earlier) ≡ take m whole ++ ranges_spanned (drop m whole)
 unjoined range ranges earlier whole m e count =
@@ -19,7 +19,7 @@ unjoined range ranges earlier whole m e count =
     let back : drop m whole ≡ range ∷ ranges = ap (drop m) e ∙ drop_at (reverse earlier) (range ∷ ranges) m at in
     reverse-cons (spanned range ranges) earlier ∙ sym (ap (λ l. l ++ ranges_spanned (drop m whole)) front ∙ ap (λ l. reverse earlier ++ ranges_spanned l) back)
 
--- those from range on are one already
+-- those starting at range are merged already
 settled_tail : (range : SlotRange) (ranges earlier whole : List SlotRange) (m : ℕ) → whole ≡ reverse earlier ++ range ∷ ranges → m ≡ length earlier + 1 - joined_count (spanned range ranges) earlier →
     reverse (settled (spanned range ranges) earlier) ≡ take m whole ++ ranges_spanned (drop m whole)
 settled_tail range ranges [] whole m e count = unjoined range ranges [] whole m e (omega arith)

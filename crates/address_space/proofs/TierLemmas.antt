@@ -10,29 +10,29 @@ use Rattle.gcl_model.specs.Slots.{SlotRange, slot_width, joined, settled, spanne
 use Rattle.gcl_model.specs.Laws.{AreTiers, AddingKeepsTiers, MergingKeepsTiers, OpeningMakesTiers, TiersAreFew}
 use Rattle.address_space.proofs.CollectionLemmas.{up_to}
 
--- ranges that rise from a later address on rise from an earlier one
+-- ranges that rise starting at a later address rise starting at an earlier one
 pub ranges_earlier : (low later end : ℕ) (ranges : List SlotRange) → low ≤ later → AreRangesWithin later end ranges → AreRangesWithin low end ranges
 ranges_earlier low later end [] le h = tt
 ranges_earlier low later end (range ∷ ranges) le h = (let first : later ≤ range.first = h.0 in omega arith, h.1, h.2, h.3)
 
--- a list told from the back has its first member last
+-- a list read from the back has its first member last
 pub reverse-cons : (range : SlotRange) (earlier : List SlotRange) → reverse (range ∷ earlier) ≡ reverse earlier ++ range ∷ []
 reverse-cons range earlier = reverse_onto earlier range []
 
 pub reverse-cons-append : (range : SlotRange) (earlier ranges : List SlotRange) → reverse (range ∷ earlier) ++ ranges ≡ reverse earlier ++ range ∷ ranges
 reverse-cons-append range earlier ranges = ap (λ l. l ++ ranges) (reverse-cons range earlier) ∙ append_assoc (reverse earlier) (range ∷ []) ranges
 
--- the range before a list, where it has one, is more than four times as wide
+-- the range before a list, if it has one, is more than four times as wide
 abbrev IsBefore : SlotRange → List SlotRange → Type 0
 IsBefore range [] = Unit {0}
 IsBefore range (next ∷ ranges) = 4 * slot_width next < slot_width range
 
--- the range after a list that is told from the back
+-- the range after a list that is read from the back
 abbrev IsBehind : SlotRange → List SlotRange → Type 0
 IsBehind range [] = Unit {0}
 IsBehind range (before ∷ earlier) = 4 * slot_width range < slot_width before
 
--- tiers, told from the last to the first
+-- tiers, from the last to the first
 abbrev AreTiersBack : ℕ → ℕ → List SlotRange → Type 0
 AreTiersBack low end [] = Unit {0}
 AreTiersBack low end (range ∷ earlier) = (low ≤ range.first) × (range.first ≤ range.last) × (range.last < end) × (2 ≤ slot_width range) × IsBehind range earlier × AreTiersBack low range.first earlier
@@ -41,7 +41,7 @@ back_later : (low end later : ℕ) (earlier : List SlotRange) → end ≤ later 
 back_later low end later [] le h = tt
 back_later low end later (range ∷ earlier) le h = (h.0, h.1, let last : range.last < end = h.2 in omega arith, h.3, h.4, h.5)
 
--- the last of the ranges told from the back, and the first of the others
+-- the last of the ranges read from the back, and the first of the others
 abbrev AreMet : List SlotRange → List SlotRange → Type 0
 AreMet [] ranges = Unit {0}
 AreMet (range ∷ earlier) ranges = IsBefore range ranges
@@ -54,7 +54,7 @@ tiers_more end range (next ∷ ranges) ordered within wide met h =
 tiers_earlier : (low later end : ℕ) (ranges : List SlotRange) → low ≤ later → AreTiers later end ranges → AreTiers low end ranges
 tiers_earlier low later end ranges le h = record { apart = ranges_earlier low later end ranges le h.apart; wide = h.wide; tiered = h.tiered }
 
--- told from the back, and then from the front
+-- read from the back, and then from the front
 from_back : (low mid end : ℕ) (earlier ranges : List SlotRange) → low ≤ mid → mid ≤ end → AreTiersBack low mid earlier → AreTiers mid end ranges → AreMet earlier ranges → AreTiers low end (reverse earlier ++ ranges)
 from_back low mid end [] ranges le le' back h met = tiers_earlier low mid end ranges le h
 from_back low mid end (range ∷ earlier) ranges le le' back h met =
@@ -72,7 +72,7 @@ abbrev AreMetBack : List SlotRange → List SlotRange → Type 0
 AreMetBack [] earlier = Unit {0}
 AreMetBack (range ∷ ranges) earlier = IsBehind range earlier
 
--- told from the front, and then from the back
+-- read from the front, and then from the back
 to_back : (low mid end : ℕ) (ranges earlier : List SlotRange) → low ≤ mid → mid ≤ end → AreTiers mid end ranges → AreTiersBack low mid earlier → AreMetBack ranges earlier → AreTiersBack low end (reverse ranges ++ earlier)
 to_back low mid end [] earlier le le' h back met = back_later low mid end earlier le' back
 to_back low mid end (range ∷ ranges) earlier le le' h back met =
@@ -98,7 +98,7 @@ tiers_back low end (range ∷ ranges) h =
     let within : range.last < end = h.apart.2 in
     subst (AreTiersBack low end) (append-nil (reverse (range ∷ ranges))) (to_back low low end (range ∷ ranges) [] (le_refl low) (omega arith) h tt tt)
 
--- the last range, which may be made one with those before it
+-- the last range, which may be merged with those before it
 settled_back : (low mid end : ℕ) (last : SlotRange) (earlier : List SlotRange) → low ≤ last.first → mid ≤ last.first → last.first ≤ last.last → last.last < end → 2 ≤ slot_width last → AreTiersBack low mid earlier
     → AreTiersBack low end (settled last earlier)
 settled_back low mid end last [] from le ordered within wide back = (from, ordered, within, wide, tt, tt)
@@ -155,7 +155,7 @@ opening_makes_tiers c sound = by_files c.files sound.files
     by_files [] h = no_tiers c.first c.next
     by_files (file ∷ files) h = spanned_tier c.first c.next (file_range file) (map file_range files) (files_apart c c.first 0 (file ∷ files) h) (omega arith)
 
--- so many tiers after the first make it so wide
+-- this many tiers after the first make it this wide
 first_width : (range : SlotRange) (ranges : List SlotRange) → AllByRecursion (λ r. 2 ≤ slot_width r) (range ∷ ranges) → AreTiered (range ∷ ranges) → 2 * 4 ^ length ranges ≤ slot_width range
 first_width range [] wide tiered = wide.0
 first_width range (next ∷ ranges) wide tiered =

@@ -1,4 +1,4 @@
--- The words of a sound collection: where they stand, and which token each address has.
+-- The words of a sound collection: where they are, and which token each address has.
 use Rattle.std.proofs.Common.{◌≡◌, ℕ, suc, ◌+◌, ◌-◌, ◌<◌, ◌≤◌, Bool, true, false, ◌&&◌, ◌||◌, cond, eqb, leb, bytes_eq, List, [], ◌∷◌, ◌++◌, length, Option, Some, None, refl, sym, ap, ◌∙◌, arith, inl, inr, ◌⊎◌, ◌↔◌, length-append}
 use Rattle.std.specs.List.{flat_map, list_any, slice_get}
 use Rattle.std.specs.Option.{option_or}
@@ -34,7 +34,7 @@ files_rise c at id (file ∷ files) h =
 pub words_are_text : WordsAreText
 words_are_text c sound = record { ordered = sound.ordered; in_range = sound.in_range; rising = files_rise c c.first 0 c.files sound.files }
 
--- the token at address p of tokens that stand from base on
+-- the token at address p of tokens starting at base
 abbrev place : ℕ → List (List ℕ) → ℕ → Option (List ℕ)
 place base tokens p = cond (leb base p) (slice_get tokens (p - base)) None
 
@@ -69,7 +69,7 @@ or_with_false : (x y : Bool) → y ≡ false → (x || y) ≡ x
 or_with_false true y e = refl
 or_with_false false y e = e
 
--- the word test, at tokens that stand from base on
+-- the word test, at tokens starting at base
 any_at : (token : List ℕ) (p base : ℕ) (tokens : List (List ℕ)) → (list_any (is_word token p) (words_from base tokens) ≡ true) ↔ (place base tokens p ≡ Some token)
 any_at token p base [] = (λ e. absurd (false≢true e), λ e. absurd (nowhere (leb base p) token e))
 any_at token p base (first ∷ tokens) = by_order (cases_order base p) (any_at token p (base + 1) tokens)
@@ -98,7 +98,7 @@ none_before c p at id (file ∷ files) h below =
     ap (λ word. option_or word (word_of_files files p)) (place-before file.base (with_boundaries file.tokens) p (omega arith))
     ∙ none_before c p (file.base + width_of file.tokens) (file.id + 1) files h.5 (omega arith)
 
--- of two lists of words, the second of which has none where the first has one
+-- of two lists of words, the second of which has none if the first has one
 one_of_two : (x y : Bool) (here later : Option (List ℕ)) (token : List ℕ) → (x ≡ true) ↔ (here ≡ Some token) → (y ≡ true) ↔ (later ≡ Some token) → ((t : List ℕ) → here ≡ Some t → later ≡ None)
     → (x || y ≡ true) ↔ (option_or here later ≡ Some token)
 one_of_two x y None later token h k apart =

@@ -11,7 +11,7 @@ pub record FileEntry : Type 0 where
   pub len : ℕ
   pub name : List ℕ
 
--- the addresses of a file: of three from 7 on they are 7 to 9
+-- the addresses of a file: of three starting at 7 they are 7 to 9
 abbrev pub range_of : FileEntry → SlotRange
 range_of file = slot_range file.base (file.base + file.len - 1)
 
@@ -30,7 +30,7 @@ abbrev pub IsFileRun : List FileEntry → Type 0
 IsFileRun [] = Unit {0}
 IsFileRun (file ∷ files) = IsPlaced file × AllByRecursion (Precedes file) files × IsFileRun files
 
--- the last file of a list, where it has one
+-- the last file of a list, if it has one
 abbrev pub last_file : List FileEntry → Option FileEntry
 last_file [] = None
 last_file (file ∷ []) = Some file

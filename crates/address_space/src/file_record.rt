@@ -27,7 +27,7 @@ impl Model for FileRecord {
 impl FileRecord {
     ghost use Rattle.address_space.specs.Runs.{IsPlaced, range_of};
 
-    /// Its addresses, from the first to the last: of `len` 3 from 7 on they are 7 to 9.
+    /// Its addresses, from the first to the last: of `len` 3 starting at 7 they are 7 to 9.
     pub fn range(&self) -> Range
         ensures value { result ≡ range_of self.now }
         ensures placed { IsPlaced self.now }

@@ -58,7 +58,7 @@ impl FileRun {
         self.files.as_slice()
     }
 
-    /// Puts a file after the others.
+    /// Appends a file.
     pub fn push(&mut self, file: FileRecord) -> Result<(), AllocError>
         requires { IfSome (last_file self.old) (λ last. Precedes last file) }
         ensures ok { OnOk result (self.new ≡ self.old ++ file ∷ []) }
@@ -68,13 +68,13 @@ impl FileRun {
         self.push_shared(file)
     }
 
-    /// Puts a file after the others. Whoever has the record shares it.
+    /// Appends a file. Its record is shared with the other holders.
     pub fn push_shared(&mut self, file: SharedRecord) -> Result<(), AllocError>
         requires { IfSome (last_file self.old) (λ last. Precedes last file) }
         ensures ok { OnOk result (self.new ≡ self.old ++ file ∷ []) }
         ensures err { OnErr result (self.new ≡ self.old) }
     {
-        // any call of a record tells where it lies
+        // any call on a record shows where it lies
         let _ = file.record();
         self.files.push(file)?;
         Ok(())

@@ -1,4 +1,5 @@
-ghost use Rattle.gcl_model.specs.Laws.{StartIsSound, AddingKeepsSoundness, DeletingKeepsSoundness, StepsKeepSoundness, WordsAreText, WordsAreAtAddresses};
+ghost use Rattle.gcl_model.specs.Laws.{StartIsSound, AddingKeepsSoundness, DeletingKeepsSoundness};
+ghost use Rattle.gcl_model.specs.Laws.{StepsKeepSoundness, WordsAreText, WordsAreAtAddresses};
 
 /// The collection that begins at an address up to `ADDRESS_END` is sound.
 pub fn start_is_sound()
@@ -20,7 +21,7 @@ pub fn steps_keep_soundness()
     ensures { StepsKeepSoundness }
 {}
 
-/// The words of a sound collection stand at rising addresses, between its first and its next.
+/// The words of a sound collection are at rising addresses, between its first and its next.
 pub fn words_are_text()
     ensures { WordsAreText }
 {}

@@ -6,7 +6,7 @@
 //! The layers above use `place`, which gives a file the next addresses or says that they are spent, `is_name`, which
 //! says what a file may be called, the kept order of a `FileRun`, and the laws: each step keeps a collection sound, its
 //! words are where its addresses say, and the slots of its index stay few as files are added and slots merged. Of the
-//! addresses from 7 on, a file that needs three has 7 to 9.
+//! addresses starting at 7, a file that needs three has 7 to 9.
 #![tactic(auto)]
 
 mod file_id;

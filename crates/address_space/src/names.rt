@@ -6,7 +6,7 @@ ghost use Rattle.gcl_model.specs.Tokens.{starts_with_byte, ends_with_byte};
 
 use bstr::ByteSlice;
 
-/// A name has at most so many bytes.
+/// A name has at most this many bytes.
 pub const NAME_MOST: usize = 65_536;
 
 fn is_utf8(bytes: &[u8]) -> bool
@@ -40,7 +40,7 @@ fn ends_with_space(bytes: &[u8]) -> bool
     }
 }
 
-/// Whether a file may have this name: `a b` is one, and ` a` is none.
+/// Whether a file may have this name: `a b` is a name, and ` a` is not.
 pub fn is_name(bytes: &[u8]) -> bool
     ensures { result ≡ is_name bytes.now }
 {

@@ -5,14 +5,14 @@ ghost use Rattle.gcl_model.specs.Slots.{slot_range};
 use crate::range::Range;
 use gcl_model::ADDRESS_END;
 
-/// So many addresses are needed from `next` on, and there are not so many.
+/// `need` addresses starting at `next` are needed, and there are not that many.
 #[derive(Clone, Copy, Debug, PartialEq, Eq)]
 pub struct AddressesSpent {
     pub next: u64,
     pub need: u64,
 }
 
-/// The next addresses, as many as are needed: three from 7 on are 7 to 9. Err where they would not all be below `ADDRESS_END`.
+/// The next `need` addresses: three starting at 7 are 7 to 9. Returns Err if they would not all be below `ADDRESS_END`.
 pub fn place(next: u64, need: u64) -> Result<Range, AddressesSpent>
     requires start { next ≤ address_end }
     requires some { 1 ≤ need }

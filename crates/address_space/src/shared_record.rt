@@ -27,7 +27,7 @@ impl SharedRecord {
     pub fn new(alloc: Global, file: FileRecord) -> Result<Self, AllocError>
         ensures { IfOk result (λ shared. shared ≡ file) }
     {
-        // any call of a record tells where it lies
+        // any call on a record shows where it lies
         let _ = file.range();
         let record = Arc::new(alloc, file)?;
         Ok(SharedRecord { record })
@@ -41,7 +41,7 @@ impl SharedRecord {
         &self.record
     }
 
-    /// The same record, with one owner more and not copied. Err comes where no more owners can be counted.
+    /// The same record, with one more owner and not copied. Err means that no more owners can be counted.
     pub fn share(&self) -> Result<Self, AllocError>
         ensures { IfOk result (λ shared. shared ≡ self.now) }
     {

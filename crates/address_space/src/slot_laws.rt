@@ -20,7 +20,7 @@ pub fn tiers_are_few()
     ensures { TiersAreFew }
 {}
 
-/// An add makes so many of the last slots one as `tail_count` says.
+/// An add merges as many of the last slots into one as `tail_count` says.
 pub fn tails_are_joined()
     ensures { TailsAreJoined }
 {}

@@ -10,14 +10,14 @@ use Rattle.live_version.specs.StandsFor.{DeletesFile, Keeps, entry_of}
 use Rattle.live_version.proofs.PartLaws.{has_files, words_are_of_files}
 use Rattle.collection.specs.Changes.{Adopts, DeletesFileFrom, MergesSlotsOf}
 
--- all slots are those from the first on
+-- all slots are those starting at the first
 pub all_slots : (count : ℕ) (slots : List SlotContent) → count ≡ length slots → slots_at 0 count slots ≡ slots
 all_slots count slots is = take_all count slots (omega arith)
 
 no_slots : (count : ℕ) (slots : List SlotContent) → count ≡ length slots → drop (0 + count) slots ≡ []
 no_slots count slots is = drop_all (0 + count) slots (omega arith)
 
--- where no file survives, nothing is lost with the slots
+-- if no file survives, nothing is lost with the slots
 pub same-none : (v : VersionContent) (count : ℕ) → IsVersion v → length (files_of v.slots) ≡ 0 → count ≡ length v.slots → IsSameLive (slots_at 0 count v.slots) []
 same-none v count is none all =
     let files : files_of v.slots ≡ [] = nil_from_length (files_of v.slots) none in

@@ -28,7 +28,7 @@ is-counted last (before ∷ earlier) = by_test (leb (slot_width before) (4 * slo
     by_test true more = let some = more.some in let few = more.few in record { some = omega arith; few = omega arith }
     by_test false more = record { some = omega arith; few = omega arith }
 
--- the slots that the rule makes one are some of those that are there
+-- the slots that the rule merges are some of the existing ones
 pub record IsTail (v grown : VersionContent) : Type 0 where
   pub some : 1 ≤ tail_count (ranges_of grown.slots)
   pub few : tail_count (ranges_of grown.slots) ≤ length grown.slots
@@ -45,7 +45,7 @@ is-tail v grown h =
     let back : length (reverse (ranges_of v.slots)) ≡ length v.slots = length-reverse (ranges_of v.slots) ∙ length-map v.slots (λ (s : SlotContent). s.range) in
     record { some = omega arith; few = omega arith; length = size }
 
--- where no slots are made one
+-- if no slots are merged
 pub settles-alone : (v grown : VersionContent) (count : ℕ) → Grows v grown → count ≡ tail_count (ranges_of grown.slots) → count < 2 → Settles v grown grown
 settles-alone v grown count h counted less =
     let tail = is-tail v grown h in
@@ -62,7 +62,7 @@ settles-alone v grown count h counted less =
       edition = h.edition;
     }
 
--- where the slot takes the place of those that the rule makes one
+-- if the slot takes the place of those that the rule merges
 pub settles-joined : (v grown joined' w : VersionContent) (at count : ℕ) (slot : SlotContent) → Grows v grown → count ≡ tail_count (ranges_of grown.slots) → 2 ≤ count → at + count ≡ length grown.slots
     → whole_range (ranges_of (slots_at at count grown.slots)) ≡ Some slot.range → slot.mask ≡ [] → joined' ≡ version_with_slot grown at count (Some slot) → Keeps grown joined' → JoinsTail grown.slots at count (Some slot) joined'.slots
     → w ≡ record joined' { number = v.number + 1; edition = v.edition + 1 } → Keeps joined' w → Settles v grown w
@@ -94,7 +94,7 @@ grows v grown file shard is alone = record {
   edition = ap (λ u. u.edition) is;
 }
 
--- a file more, in slots that are made one
+-- one more file, in slots that are merged
 pub adds-file : (v grown w : VersionContent) (file : FileEntry) (shard : ShardContent) (name : List ℕ) (tokens : List (List ℕ)) → file.base ≡ v.next → file.len ≡ width_of tokens → file.name ≡ name → v.next + width_of tokens ≤ address_end
     → is_name name ≡ true → AllByRecursion IsToken tokens → words_of shard ≡ words_from v.next (with_boundaries tokens) → AddsFile v file shard grown → ranges_of grown.slots ≡ ranges_of v.slots ++ range_of file ∷ [] → Settles v grown w
     → AddsFileTo v w name tokens

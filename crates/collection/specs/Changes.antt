@@ -9,13 +9,13 @@ use Rattle.manifest_publish.specs.Accounts.{ReceiptContent}
 use Rattle.collection.specs.Engines.{EngineContent, IsPublication}
 use Rattle.collection.specs.declared.engine.Added.{Added}
 
--- the second slots are some of the first ones, from the front and unchanged, and one slot after them of which nothing is dead
+-- the second slots are some of the first ones, from the front and unchanged, and after them one slot without dead addresses
 pub record EndsInOneSlot (before after : List SlotContent) : Type 0 where
   pub slot : SlotContent
   pub alive : slot.mask ≡ []
   pub slots : after ≡ take (length after - 1) before ++ slot ∷ []
 
--- a file more: the collection is the one after that step, and the last slots are made one as far as the rule of adding goes
+-- one more file: the collection is the one after that step, and the last slots are merged as far as the rule of adding goes
 pub record AddsFileTo (v w : VersionContent) (name : List ℕ) (tokens : List (List ℕ)) : Type 0 where
   pub stands : (c : Collection) → StandsFor v c → CanAdd c name tokens × StandsFor w (with_file c name tokens)
   pub ranges : ranges_of w.slots ≡ slots_after_add (ranges_of v.slots) (slot_range v.next (v.next + width_of tokens - 1))
@@ -23,7 +23,7 @@ pub record AddsFileTo (v w : VersionContent) (name : List ℕ) (tokens : List (L
   pub number : w.number ≡ v.number + 1
   pub edition : w.edition ≡ v.edition + 1
 
--- a surviving file less: each slot keeps its range and its index, and the addresses of the file alone are dead besides
+-- one surviving file fewer: each slot keeps its range and its index, and only the addresses of the file are dead besides
 pub record DeletesFileFrom (v w : VersionContent) (id : ℕ) : Type 0 where
   pub stands : (c : Collection) → StandsFor v c → (has_file c id ≡ true) × StandsFor w (without_file c id)
   pub ranges : ranges_of w.slots ≡ ranges_of v.slots
@@ -32,7 +32,7 @@ pub record DeletesFileFrom (v w : VersionContent) (id : ℕ) : Type 0 where
   pub number : w.number ≡ v.number + 1
   pub edition : w.edition ≡ v.edition + 1
 
--- the same collection in one slot, or in none where no file survives, of which nothing is dead
+-- the same collection in one slot, or in none if no file survives, without dead addresses
 pub record MergesSlotsOf (v w : VersionContent) : Type 0 where
   pub stands : Keeps v w
   pub ranges : (c : Collection) → StandsFor v c → ranges_of w.slots ≡ slots_after_merge (ranges_of v.slots) c.files
@@ -56,7 +56,7 @@ pub record Adopts (v opened w : VersionContent) : Type 0 where
   pub number : w.number ≡ v.number + 1
   pub edition : w.edition ≡ v.edition + 1
 
--- the same collection, with the slot in place of so many first ones
+-- the same collection, with the slot in place of the first `count` ones
 pub record PutsSlotFirst (v w : VersionContent) (count : ℕ) (slot : SlotContent) : Type 0 where
   pub stands : Keeps v w
   pub slots : w.slots ≡ slot ∷ drop count v.slots
@@ -86,7 +86,7 @@ pub record IsAdoption (old : EngineContent) (opened : VersionContent) (new : Eng
   pub change : Adopts old.version opened new.version
   pub published : IsPublication old new receipt
 
--- a slot was put in place of so many first ones
+-- a slot was put in place of the first `count` ones
 pub record IsFrontMerge (old new : EngineContent) (count : ℕ) (slot : SlotContent) (receipt : ReceiptContent) : Type 0 where
   pub change : PutsSlotFirst old.version new.version count slot
   pub published : IsPublication old new receipt

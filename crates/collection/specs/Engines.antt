@@ -15,7 +15,7 @@ pub record EngineContent : Type 0 where
   pub history : List VersionContent
   pub version : VersionContent
 
--- the last of these versions, or some version where there is none
+-- the last of these versions, or some version if there is none
 abbrev pub last_of : List VersionContent → VersionContent
 last_of [] = empty_version 0
 last_of (v ∷ []) = v
@@ -25,11 +25,11 @@ last_of (v ∷ w ∷ vs) = last_of (w ∷ vs)
 abbrev pub engine_content : Book → List VersionContent → EngineContent
 engine_content publisher history = record { publisher = publisher; history = history; version = last_of history }
 
--- the engine after one version more was published
+-- the engine after one more version was published
 abbrev pub with_version : EngineContent → VersionContent → EngineContent
 with_version e v = engine_content e.publisher (e.history ++ v ∷ [])
 
--- what a pass and a receipt of the last version tell
+-- what a pass and a receipt of the last version show
 abbrev pub published : EngineContent → Account
 published e = account e.publisher e.history
 
@@ -41,7 +41,7 @@ pub record IsEngine (e : EngineContent) : Type 0 where
   pub tiers : AreTiers e.version.first e.version.next (ranges_of e.version.slots)
   pub numbers : e.version.number ≤ merge_end + e.version.next_id + e.version.dels
 
--- exactly one version more was published, by the same publisher, and the receipt vouches for all that was
+-- exactly one more version was published, by the same publisher, and the receipt vouches for all that was
 pub record IsPublication (old new : EngineContent) (answer : ReceiptContent) : Type 0 where
   pub publisher : new.publisher ≡ old.publisher
   pub history : new.history ≡ old.history ++ new.version ∷ []

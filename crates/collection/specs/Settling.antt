@@ -6,7 +6,7 @@ use Rattle.live_version.specs.Contents.{SlotContent, VersionContent, ranges_of}
 use Rattle.live_version.specs.StandsFor.{Keeps}
 use Rattle.collection.specs.Changes.{EndsInOneSlot}
 
--- one slot more, of which nothing is dead
+-- one more slot, without dead addresses
 pub record Grows (v grown : VersionContent) : Type 0 where
   pub slot : SlotContent
   pub slots : grown.slots ≡ v.slots ++ slot ∷ []
@@ -15,7 +15,7 @@ pub record Grows (v grown : VersionContent) : Type 0 where
   pub number : grown.number ≡ v.number + 1
   pub edition : grown.edition ≡ v.edition + 1
 
--- the last slots of a version that grew are made one as far as the rule of adding goes
+-- the last slots of a version that grew are merged as far as the rule of adding goes
 pub record Settles (v grown w : VersionContent) : Type 0 where
   pub stands : Keeps grown w
   pub ranges : (range : SlotRange) → ranges_of grown.slots ≡ ranges_of v.slots ++ range ∷ [] → ranges_of w.slots ≡ slots_after_add (ranges_of v.slots) range

@@ -1,6 +1,5 @@
 ghost use Rattle.std.specs.Prelude.{◌≡◌, ◌+◌, ◌-◌, ◌<◌, ◌≤◌, ◌↔◌, true, ℕ, length, IfOk, IfErr, IsErr, IsErrOf, OnOk, OnErr};
-ghost use Rattle.std.specs.List.{AllByRecursion};
-ghost use Rattle.gcl_model.specs.Collections.{IsToken, width_of};
+ghost use Rattle.gcl_model.specs.Collections.{width_of};
 ghost use Rattle.gcl_model.specs.Limits.{address_end, most_slots, version_end};
 ghost use Rattle.gcl_model.specs.Names.{is_name};
 ghost use Rattle.gcl_model.specs.Slots.{slot_range};
@@ -21,13 +20,13 @@ use std::sync::Wait;
 use word_tokens::token_count;
 
 impl Engine {
-    /// Adds a file of these bytes, and publishes once. At `Err` nothing was published.
+    /// Adds a file of these bytes, and publishes once. On `Err` nothing was published.
     pub fn add<R: Wait>(&mut self, rt: &R, name: &[u8], bytes: &[u8]) -> Result<Added, AddFault>
         requires { is_name name.now ≡ true }
         ensures ok { IfOk result (IsAdd self.old self.new name.now (tokens_of bytes.now)) }
         ensures fits { OnOk result (self.old.version.next + width_of (tokens_of bytes.now) ≤ address_end) }
-        ensures spent { (next : ℕ) → (need : ℕ) → IsErrOf result (Spent next need) → (next ≡ self.old.version.next) × (need ≡ width_of (tokens_of bytes.now)) ×
-            (address_end < next + need) }
+        ensures spent { (next : ℕ) → (need : ℕ) → IsErrOf result (Spent next need) → (next ≡ self.old.version.next) ×
+            (need ≡ width_of (tokens_of bytes.now)) × (address_end < next + need) }
         ensures err { OnErr result (self.new ≡ self.old) }
     {
         find_room(self.version().next(), bytes)?;
@@ -36,8 +35,8 @@ impl Engine {
         Ok(added)
     }
 
-    /// Adds a file of the text whose index was made ahead, and publishes once. At `Err` nothing was published. What it does is what `add`
-    /// does with that text: the index is placed, which needs no look at the text.
+    /// Adds a file of a text whose index was made ahead, and publishes once. On `Err` nothing was published. It does what `add` does
+    /// with that text: the index is placed, which needs no look at the text.
     pub fn add_indexed<R: Wait>(
         &mut self,
         rt: &R,
@@ -47,8 +46,8 @@ impl Engine {
         requires { is_name name.now ≡ true }
         ensures ok { IfOk result (IsAdd self.old self.new name.now index) }
         ensures fits { OnOk result (self.old.version.next + width_of index ≤ address_end) }
-        ensures spent { (next : ℕ) → (need : ℕ) → IsErrOf result (Spent next need) → (next ≡ self.old.version.next) × (need ≡ width_of index) ×
-            (address_end < next + need) }
+        ensures spent { (next : ℕ) → (need : ℕ) → IsErrOf result (Spent next need) → (next ≡ self.old.version.next) ×
+            (need ≡ width_of index) × (address_end < next + need) }
         ensures err { OnErr result (self.new ≡ self.old) }
     {
         place_file(self.version().next(), index.width())?;
@@ -95,12 +94,13 @@ impl Engine {
     }
 }
 
-/// Whether there is room from `next` on for a file of these bytes.
-// Where more addresses are left than any text of so many bytes needs, its tokens are not counted.
+/// Whether there is room starting at `next` for a file of these bytes.
+// If more addresses are left than any text of this many bytes needs, its tokens are not counted.
 fn find_room(next: u64, bytes: &[u8]) -> Result<(), AddressesSpent>
     requires { next ≤ address_end }
     ensures ok { OnOk result (next + width_of (tokens_of bytes.now) ≤ address_end) }
-    ensures spent { IfErr result (λ spent. (spent.next ≡ next) × (spent.need ≡ width_of (tokens_of bytes.now)) × (address_end < next + width_of (tokens_of bytes.now))) }
+    ensures spent { IfErr result (λ spent. (spent.next ≡ next) × (spent.need ≡ width_of (tokens_of bytes.now)) ×
+        (address_end < next + width_of (tokens_of bytes.now))) }
 {
     let left = ADDRESS_END - next;
     if left >= 2 && bytes.len() as u64 <= left - 2 {
@@ -125,7 +125,7 @@ fn count(bytes: &[u8]) -> u64
     token_count(bytes)
 }
 
-/// The addresses from `next` on of a file that needs so many.
+/// The addresses, starting at `next`, of a file that needs `need` of them.
 fn place_file(next: u64, need: u64) -> Result<Range, AddressesSpent>
     requires start { next ≤ address_end }
     requires some { 1 ≤ need }
@@ -139,7 +139,7 @@ fn place_file(next: u64, need: u64) -> Result<Range, AddressesSpent>
     place(next, need)
 }
 
-/// The version with a file more, of the text with this index, and whose last slots are made one as far as the rule of adding goes.
+/// The version with one more file, of the text with this index, and with its last slots merged as far as the rule of adding goes.
 fn with_file(
     alloc: Global,
     last: &Version,
@@ -165,7 +165,7 @@ fn with_file(
     Ok(version)
 }
 
-/// A version that grew by one slot, with the last slots made one as far as the rule of adding goes.
+/// A version that grew by one slot, with the last slots merged as far as the rule of adding goes.
 fn settled(alloc: Global, last: &Version, grown: Version) -> Result<Version, AllocError>
     requires grown { Grows last.now grown }
     requires number { last.now.number + 1 < version_end }

@@ -3,7 +3,8 @@ ghost use Rattle.address_space.specs.declared.file_id.FileId.{FileId};
 ghost use Rattle.gcl_model.specs.Limits.{merge_end, version_end};
 ghost use Rattle.live_version.specs.Changes.{file_with_id, IsSameLive, slots_at, whole_range};
 ghost use Rattle.live_version.specs.Contents.{dead_of, files_of, ranges_of};
-ghost use Rattle.collection.specs.Changes.{DeletesFileFrom, IsAdoption, IsDelete, IsFrontMerge, IsMerge, IsOpened, MergesSlotsOf, PutsSlotFirst};
+ghost use Rattle.collection.specs.Changes.{DeletesFileFrom, IsAdoption, IsDelete, IsFrontMerge};
+ghost use Rattle.collection.specs.Changes.{IsMerge, IsOpened, MergesSlotsOf, PutsSlotFirst};
 ghost use Rattle.collection.specs.declared.faults.AdoptFault.TheVariants.{NotEmpty};
 ghost use Rattle.collection.specs.declared.faults.DeleteFault.TheVariants.{NotLive};
 
@@ -18,10 +19,11 @@ use std::alloc::{AllocError, Global};
 use std::sync::Wait;
 
 impl Engine {
-    /// Deletes the file with this id, and publishes once. At `Err` nothing was published.
+    /// Deletes the file with this id, and publishes once. On `Err` nothing was published.
     pub fn delete<R: Wait>(&mut self, rt: &R, id: FileId) -> Result<Receipt, DeleteFault>
         ensures ok { IfOk result (IsDelete self.old self.new id.0) }
-        ensures not_live { (other : FileId) → IsErrOf result (NotLive other) ↔ ((other ≡ id) × (file_with_id id.0 (files_of self.old.version.slots) ≡ None)) }
+        ensures not_live { (other : FileId) → IsErrOf result (NotLive other) ↔
+            ((other ≡ id) × (file_with_id id.0 (files_of self.old.version.slots) ≡ None)) }
         ensures err { OnErr result (self.new ≡ self.old) }
     {
         if self.version().find_file(id).is_none() {
@@ -32,8 +34,8 @@ impl Engine {
         Ok(receipt)
     }
 
-    /// Makes all slots one, or none where no file survives, and publishes once, also where nothing changes. The gate is told of the
-    /// new number before and after. At `Err` nothing was published.
+    /// Merges all slots into one, or into none if no file survives, and publishes once, even if nothing changes. The gate gets the
+    /// new number before and after. On `Err` nothing was published.
     pub fn merge_all<R: Wait, G: Gate>(&mut self, rt: &R, gate: &G) -> Result<Receipt, AllocError>
         requires { self.old.version.number < merge_end }
         ensures ok { IfOk result (IsMerge self.old self.new) }
@@ -47,8 +49,8 @@ impl Engine {
         Ok(receipt)
     }
 
-    /// Puts a slot that was made elsewhere in place of so many first ones, of which it has all live words and files, and publishes once.
-    /// At `Err` nothing was published.
+    /// Puts a slot that was made elsewhere in place of the first `count` ones, whose live words and files it has, and publishes once.
+    /// On `Err` nothing was published.
     pub fn put_merged<R: Wait>(
         &mut self,
         rt: &R,
@@ -69,7 +71,7 @@ impl Engine {
         Ok(receipt)
     }
 
-    /// Puts an opened version in place of one that never had a file, and publishes once. At `Err` nothing was published.
+    /// Puts an opened version in place of one that never had a file, and publishes once. On `Err` nothing was published.
     pub fn adopt<R: Wait>(&mut self, rt: &R, version: Version) -> Result<Receipt, AdoptFault>
         requires opened { IsOpened version }
         requires number { self.old.version.number < merge_end }
@@ -97,7 +99,7 @@ fn without_file(last: &Version, id: FileId) -> Result<Version, AllocError>
     Ok(version)
 }
 
-/// The version with all slots made one, or with none where no file survives. One slot of which nothing is dead stays.
+/// The version with all slots merged into one, or with none if no file survives. A single slot without dead addresses stays.
 fn merged(alloc: Global, last: &Version) -> Result<Version, AllocError>
     requires { last.now.number < version_end }
     ensures { IfOk result (MergesSlotsOf last.now) }
@@ -116,7 +118,7 @@ fn merged(alloc: Global, last: &Version) -> Result<Version, AllocError>
     Ok(version)
 }
 
-/// The version with the slot in place of so many first ones.
+/// The version with the slot in place of the first `count` ones.
 fn with_first(last: &Version, count: usize, slot: Slot) -> Result<Version, AllocError>
     requires within { count ≤ length last.now.slots }
     requires alive { slot.mask ≡ [] }
@@ -129,7 +131,7 @@ fn with_first(last: &Version, count: usize, slot: Slot) -> Result<Version, Alloc
     Ok(version)
 }
 
-/// Whether there is one slot, of which nothing is dead.
+/// Whether there is one slot, and no dead address.
 fn is_one_slot(slots: &[Slot]) -> bool
     ensures one { IsTrue result → length slots.now ≡ 1 }
     ensures alive { IsTrue result → dead_of slots.now ≡ [] }

@@ -1,4 +1,4 @@
-ghost use Rattle.std.specs.Prelude.{◌≡◌, ◌↔◌, ◌+◌, ◌<◌, ◌≤◌, [], ◌∷◌, ℕ, length, IfOk, IsErrOf, OnOk, OnErr};
+ghost use Rattle.std.specs.Prelude.{◌≡◌, ◌↔◌, ◌<◌, ◌≤◌, [], ◌∷◌, ℕ, length, IfOk, IsErrOf, OnOk, OnErr};
 ghost use Rattle.std.specs.List.{AllByRecursion};
 ghost use Rattle.gcl_model.specs.Limits.{address_end, most_readers};
 ghost use Rattle.live_version.specs.Changes.{empty_version};
@@ -21,7 +21,7 @@ use std::sync::{Arc, Wait};
 pub struct Engine {
     alloc: Global,
     publisher: Publisher,
-    // lent to each add: nothing in them matters, nor does the number that they are hashed from
+    // lent to each add: no answer depends on them, nor on the number that their hashes begin with
     names: Names,
     seed: u64,
 }
@@ -36,7 +36,7 @@ impl Model for Engine {
     ghost invariant = { λ e. IsEngine (engine_content e.publisher.publisher e.publisher.history) };
 }
 
-/// An engine that was just opened, its readers, and how many lines of a script were worked off.
+/// An engine that was just opened, its readers, and how many lines of a script were executed.
 pub struct Opened {
     pub engine: Engine,
     pub readers: Vec<Reader>,
@@ -119,7 +119,7 @@ impl Engine {
         self.publisher.pass()
     }
 
-    /// The hashes of tokens begin with this number from now on. Where it is a run's own, as of the system's random bytes, no
+    /// The hashes of tokens begin with this number from now on. If each run has its own, such as from the system's random bytes, no
     /// file can be made that is slow to add. No answer depends on it.
     pub fn seed(&mut self, seed: u64)
         ensures { self.new ≡ self.old }
@@ -157,7 +157,7 @@ impl Engine {
         self.names = names;
     }
 
-    /// Publishes one version more.
+    /// Publishes one more version.
     pub(crate) fn publish<R: Wait>(
         &mut self,
         rt: &R,

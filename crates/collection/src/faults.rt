@@ -30,7 +30,7 @@ impl From<AllocError> for OpenFault {
 /// Why a file was not added.
 #[derive(Clone, Copy, Debug, PartialEq, Eq, Error)]
 pub enum AddFault {
-    /// It needs so many addresses from the next one on, and there are not so many below 2^56.
+    /// It needs `need` addresses starting at `next`, and there are not that many below 2^56.
     #[error("{need} addresses are needed from {next} on")]
     AddressesSpent { next: u64, need: u64 },
     /// There was not enough memory.
@@ -77,7 +77,7 @@ impl From<AllocError> for DeleteFault {
 /// Why a version was not adopted.
 #[derive(Clone, Copy, Debug, PartialEq, Eq, Error)]
 pub enum AdoptFault {
-    /// So many ids were given already.
+    /// This many ids were given already.
     #[error("{0} files were added before")]
     NotEmpty(u64),
     /// There was not enough memory.

@@ -6,10 +6,10 @@
 //! version stands for, of the ranges of its slots, and of what stays of slots. So for any list of calls the collection
 //! is the one that its adds, deletions and openings give, whatever merges came between.
 //!
-//! The layers above call it and put what it answers, and read the last version. After `to be or not to be` was added
-//! from address 0 on, and then a file without words, the slots are 0 to 7 and 8 to 9 made one, 0 to 9: an add makes the
-//! last slots one as long as four times the width of the last is at least that of the one before it. Where the first
-//! file is deleted, the slot stays, and 0 to 7 are dead in it; a merge leaves one slot of which nothing is dead.
+//! The layers above call it, write what it answers, and read the last version. After `to be or not to be` was added
+//! starting at address 0, and then a file without words, the slots 0 to 7 and 8 to 9 are merged into one, 0 to 9: an add
+//! merges the last slots while four times the width of the last is at least that of the one before it. If the first
+//! file is deleted, the slot stays, and 0 to 7 are dead in it; a merge leaves one slot without dead addresses.
 #![tactic(auto)]
 
 mod add;

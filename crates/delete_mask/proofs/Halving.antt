@@ -9,7 +9,7 @@ use Rattle.gcl_model.specs.Slots.{SlotRange, AreRangesWithin}
 use Rattle.delete_mask.specs.Masks.{is_within, is_dead, dead_range, IsApart}
 use Rattle.delete_mask.proofs.MaskLemmas.{is_within-before, is_within-behind, is_within-bounds, dead_range-before, is_dead-before, IsApart-rest, IsApart-behind}
 
--- how many ranges end before p, where there is a first range
+-- how many ranges end before p, if there is a first range
 prefix_len-cases : (P : ℕ → Type 0) (range : SlotRange) (mask : List SlotRange) (p : ℕ)
     → (range.last < p → P (suc (prefix_len (λ other. ltb other.last p) mask))) → (p ≤ range.last → P 0) → P (prefix_len (λ (other : SlotRange). ltb other.last p) (range ∷ mask))
 prefix_len-cases P range mask p before after =
@@ -92,7 +92,7 @@ abbrev pub is_clear : SlotRange → Option SlotRange → Bool
 is_clear range None = true
 is_clear range (Some dead) = ltb range.last dead.first
 
--- a range is apart from all exactly where it ends before the first one that does not end before it
+-- a range is apart from all exactly if it ends before the first one that does not end before it
 pub is_clear-apart : (low end : ℕ) (mask : List SlotRange) (range : SlotRange) → AreRangesWithin low end mask → range.first ≤ range.last
     → (is_clear range (slice_get mask (prefix_len (λ dead. ltb dead.last range.first) mask)) ≡ true) ↔ IsApart range mask
 is_clear-apart low end [] range h le = (λ e p within. refl, λ apart. refl)

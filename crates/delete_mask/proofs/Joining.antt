@@ -24,7 +24,7 @@ is_within-joined a b p h k touch = by_place (cases_lt a.last p)
         ap (λ t. leb a.first p && t) (le-leb p b.last (omega arith) ∙ sym (le-leb p a.last le))
         ∙ or_false (is_within a p) ∙ sym (ap (λ t. is_within a p || t) (is_within-before b p (omega arith)))
 
--- the four cases of a range that is added where there is a first one
+-- the four cases of an added range if there is a first one
 pub with_range-cases : (P : List SlotRange → Type 0) (range dead : SlotRange) (mask : List SlotRange)
     → (dead.last + 1 < range.first → P (dead ∷ with_range range mask))
     → (dead.last + 1 ≡ range.first → P (with_range (joined dead range) mask))
@@ -87,7 +87,7 @@ with_range-touch range dead mask h =
     cond-false (ltb (dead.last + 1) range.first) _ _ (le-ltb (dead.last + 1) range.first (omega arith))
     ∙ cond-true (eqb (dead.last + 1) range.first) _ _ (eq-eqb (dead.last + 1) range.first h)
 
--- where the last of the ranges before one ends right before it, the two are joined
+-- if the last of the ranges before one ends right before it, the two are joined
 pub with_range-joined : (low : ℕ) (before after : List SlotRange) (range last : SlotRange) → AreRangesWithin low range.first before → 1 ≤ length before → last ≡ get_or before (length before - 1) last
     → last.last + 1 ≡ range.first → with_range range (before ++ after) ≡ take (length before - 1) before ++ with_range (joined last range) after
 with_range-joined low [] after range last h some e touch = absurd (omega arith)
@@ -103,7 +103,7 @@ with_range-joined low (dead ∷ next ∷ before) after range last h some e touch
     (with_range-joined (dead.last + 1) (next ∷ before) after range last h.3 (omega arith) (e ∙ ap (λ i. get_or (dead ∷ next ∷ before) i last) n) touch)
     ∙ sym (ap (λ i. take i (dead ∷ next ∷ before) ++ with_range (joined last range) after) n)
 
--- where it does not, they all stay
+-- if it does not, they all stay
 pub with_range-apart : (low : ℕ) (before after : List SlotRange) (range last : SlotRange) → AreRangesWithin low range.first before → 1 ≤ length before → last ≡ get_or before (length before - 1) last
     → (last.last + 1 ≡ range.first → ⊥) → with_range range (before ++ after) ≡ before ++ with_range range after
 with_range-apart low [] after range last h some e apart = absurd (omega arith)

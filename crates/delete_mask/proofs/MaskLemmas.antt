@@ -18,7 +18,7 @@ is_within-bounds range p e =
     let both = and_parts (leb range.first p) (leb p range.last) e in
     (leb-true range.first p both.0, leb-true p range.last both.1)
 
--- an address is dead exactly where a range has it
+-- an address is dead exactly if a range has it
 pub dead_range-none : (mask : List SlotRange) (p : ℕ) → (is_dead mask p ≡ false) ↔ (dead_range mask p ≡ None)
 dead_range-none [] p = (λ e. refl, λ e. refl)
 dead_range-none (range ∷ mask) p = here (is_within range p) (dead_range-none mask p)

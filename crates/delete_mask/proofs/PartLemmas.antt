@@ -136,7 +136,7 @@ has_begun p ranges = leb (first_dead ranges) p
 pub parts_rest : (ranges : List SlotRange) (parts : List (List SlotRange)) → AreParts (ranges ∷ parts) → AreParts parts
 parts_rest ranges parts are = record { inhabited = are.inhabited.1; apart = ranges_right 0 address_end ranges (ranges_in parts) are.apart }
 
--- what a part has, where there is one
+-- what a part has, if there is one
 abbrev pub dead_in : ℕ → Option (List SlotRange) → Option SlotRange
 dead_in p None = None
 dead_in p (Some ranges) = dead_range ranges p

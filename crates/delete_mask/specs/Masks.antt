@@ -19,7 +19,7 @@ dead_range mask p = find (λ range. is_within range p) mask
 abbrev pub IsApart : SlotRange → List SlotRange → Type 0
 IsApart range mask = (p : ℕ) → is_within range p ≡ true → is_dead mask p ≡ false
 
--- with one range more, which is joined with those that it touches: 2 to 4 and 7 to 9 with 5 to 6 are 2 to 9
+-- with one more range, which is joined with those that it touches: 2 to 4 and 7 to 9 with 5 to 6 are 2 to 9
 abbrev pub with_range : SlotRange → List SlotRange → List SlotRange
 with_range range [] = range ∷ []
 with_range range (dead ∷ mask) =

@@ -1,4 +1,4 @@
-ghost use Rattle.std.specs.Prelude.{◌≡◌, ℕ, ◌+◌, ◌<◌, ◌≤◌, ◌↔◌, ◌||◌, ◌^◌, nat_lt, IsTrue, List, [], ◌∷◌, ◌++◌, length, IfOk, take, drop};
+ghost use Rattle.std.specs.Prelude.{◌≡◌, ℕ, ◌+◌, ◌<◌, ◌≤◌, ◌↔◌, ◌||◌, nat_lt, IsTrue, List, [], ◌∷◌, ◌++◌, length, IfOk};
 ghost use Rattle.std.specs.List.{prefix_len, slice_get};
 ghost use Rattle.gcl_model.specs.Slots.{SlotRange, AreRangesWithin};
 ghost use Rattle.delete_mask.specs.Masks.{is_within, is_dead, dead_range, IsApart, with_range};
@@ -8,7 +8,7 @@ use address_space::Range;
 use std::alloc::{AllocError, Global};
 use std::marker::Model;
 
-/// Dead ranges of addresses, in order. A range that is added is joined with those that it touches.
+/// Dead ranges of addresses, in order. An added range is joined with those that it touches.
 #[derive(Drop)]
 pub struct Mask {
     ranges: Vec<Range>,
@@ -16,7 +16,7 @@ pub struct Mask {
 
 impl Model for Mask {
     ghost use Rattle.gcl_model.specs.Limits.{address_end};
-    ghost use Rattle.std.specs.Prelude.{List, ◌^◌};
+    ghost use Rattle.std.specs.Prelude.{List};
     ghost use Rattle.gcl_model.specs.Slots.{SlotRange, AreRangesWithin};
 
     ghost Value = { List SlotRange };
@@ -134,7 +134,7 @@ impl Mask {
     }
 }
 
-/// The range with the last one before it, where they touch, and the ranges before both.
+/// The ranges left before the range, and the range, joined with the last one before it if they touch.
 fn joined_before(before: &[Range], range: Range) -> (&[Range], Range)
     requires { AreRangesWithin 0 range.first before.now }
     ensures joined { (after : List SlotRange) → with_range range (before.now ++ after) ≡ result.0.now ++ with_range result.1 after }
@@ -153,7 +153,7 @@ fn joined_before(before: &[Range], range: Range) -> (&[Range], Range)
     (rest, joined)
 }
 
-/// The range with the first one after it, where they touch, and the ranges after both.
+/// The range, joined with the first one after it if they touch, and the ranges left after it.
 fn joined_after(range: Range, after: &[Range]) -> (Range, &[Range])
     requires { AreRangesWithin (range.last + 1) address_end after.now }
     ensures { with_range range after.now ≡ result.0 ∷ result.1.now }

@@ -10,7 +10,7 @@ use crate::shared_part::SharedPart;
 use address_space::Range;
 use std::alloc::{AllocError, Global};
 
-/// A range that is added copies two parts of at most this many ranges, most often one, and the places of all parts.
+/// Adding a range copies two parts of at most this many ranges, most often one, and the places of all parts.
 const PART_MOST: usize = 256;
 
 /// How many ranges the parts have together.
@@ -96,7 +96,7 @@ pub(crate) fn parts_with(
 }
 
 /// The ranges in parts of their own, between others that are shared.
-// There is room for all of them from the start: each part that is cut but the last has half of `PART_MOST` ranges or more.
+// Room for all of them is reserved at the start: each part that is cut except the last has half of `PART_MOST` ranges or more.
 fn in_parts(
     alloc: Global,
     before: &[SharedPart],
@@ -116,7 +116,7 @@ fn in_parts(
     Ok(made)
 }
 
-/// From which part and up to which one the range is near: those that it touches, or else one beside it, if there is one.
+/// The first part near the range, and the end of those near it: those that it touches, or else one next to it, if there is one.
 fn around(parts: &[SharedPart], range: Range) -> (usize, usize)
     requires { AreParts parts.now }
     ensures clear { result.0 ≤ prefix_len (λ ranges. nat_lt (last_dead ranges) (range.first - 1)) parts.now }
@@ -137,7 +137,7 @@ fn around(parts: &[SharedPart], range: Range) -> (usize, usize)
     }
 }
 
-/// Puts the parts after those that are there. They are shared.
+/// Appends the parts. They are shared.
 fn put_shares(into: &mut Vec<SharedPart>, parts: &[SharedPart]) -> Result<(), AllocError>
     ensures { OnOk result (into.new.items ≡ into.old.items ++ parts.now) }
 {
@@ -147,7 +147,7 @@ fn put_shares(into: &mut Vec<SharedPart>, parts: &[SharedPart]) -> Result<(), Al
     Ok(())
 }
 
-/// Puts the ranges after the parts that are there, in parts of at most `PART_MOST`. Where there are more, none of them is short.
+/// Appends the ranges, in parts of at most `PART_MOST`. If there are more, none of the parts is short.
 fn put_cut(alloc: Global, into: &mut Vec<SharedPart>, ranges: &[Range]) -> Result<(), AllocError>
     requires { AreRangesWithin 0 address_end ranges.now }
     ensures value { OnOk result (ranges_in into.new.items ≡ ranges_in into.old.items ++ ranges.now) }

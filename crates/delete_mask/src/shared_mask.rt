@@ -11,7 +11,7 @@ use address_space::Range;
 use std::alloc::{AllocError, Global};
 use std::marker::Model;
 
-/// Dead ranges of addresses, in order, as a `Mask` has them. A range that is added copies those near it, and shares the others.
+/// Dead ranges of addresses, in order, as a `Mask` has them. Adding a range copies those near it, and shares the others.
 #[derive(Drop)]
 pub struct SharedMask {
     parts: Vec<SharedPart>,

@@ -41,7 +41,7 @@ impl SharedPart {
         &self.mask
     }
 
-    /// The same ranges, with one owner more and not copied. Err comes where no more owners can be counted.
+    /// The same ranges, with one more owner and not copied. Err means that no more owners can be counted.
     pub(crate) fn share(&self) -> Result<Self, AllocError>
         ensures { IfOk result (λ shared. shared ≡ self.now) }
     {

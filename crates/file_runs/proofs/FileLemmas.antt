@@ -39,7 +39,7 @@ ids_rise (file ∷ files) run zero (suc j) d is lt = (all_at (Precedes file) fil
 ids_rise (file ∷ files) run (suc k) zero d is lt = absurd (omega arith)
 ids_rise (file ∷ files) run (suc k) (suc j) d is lt = ids_rise files run.2 k j d (omega arith) (omega arith)
 
--- halving by the ids may go over a run
+-- halving by the ids may search a run
 pub searchable : (files : List FileEntry) (id : ℕ) → IsFileRun files → IsNonDecreasingBy (λ file. ordering_index (nat_cmp file.id id)) files
 searchable files id run =
     searchable_from_sorted nat_cmp_total (λ (file : FileEntry). file.id) files id
@@ -58,7 +58,7 @@ missed : (files : List FileEntry) (id : ℕ) → ((k : ℕ) (d : FileEntry) → 
 missed [] id none = refl
 missed (file ∷ files) id none = rw (ne_eqb file.id id (none 0 file (omega arith))) (missed files id (λ k d lt. none (suc k) d (omega arith)))
 
--- where halving ends between the lesser and the greater ids, no file has the id
+-- if halving ends between the lesser and the greater ids, no file has the id
 pub file_missed : (files : List FileEntry) (id i : ℕ) → IsPartitionPoint (λ file. nat_cmp file.id id ≡ Less) (λ file. nat_cmp file.id id ≡ Greater) files i → file_with_id id files ≡ None
 file_missed files id i parted =
     missed files id

@@ -97,7 +97,7 @@ lasts_rise (files ∷ runs) are zero (suc j) d le lt =
 lasts_rise (files ∷ runs) are (suc i) zero d le lt = absurd (omega arith)
 lasts_rise (files ∷ runs) are (suc i) (suc j) d le lt = lasts_rise runs (runs_rest files runs are) i j d (omega arith) (omega arith)
 
--- what a run has, where there is one
+-- what a run has, if there is one
 abbrev pub found_in : ℕ → Option (List FileEntry) → Option FileEntry
 found_in id None = None
 found_in id (Some files) = file_with_id id files

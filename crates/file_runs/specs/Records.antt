@@ -22,12 +22,12 @@ pub record AreRuns (runs : List (List FileEntry)) : Type 0 where
   pub inhabited : AllByRecursion IsInhabited runs
   pub run : IsFileRun (files_in runs)
 
--- how many files there are up to the end of each run, after so many that come before: of two runs of two and one, after none, 2 and 3
+-- how many files there are up to the end of each run, after `before` others: of two runs of two and one, after none, 2 and 3
 abbrev pub ends_from : ℕ → List (List FileEntry) → List ℕ
 ends_from before [] = []
 ends_from before (files ∷ runs) = (before + length files) ∷ ends_from (before + length files) runs
 
--- how many files come before the run at a place, where so many come before the first: before the second of two runs that end at 2 and 3, 2
+-- how many files come before the run at a place, if `before` come before the first: before the second of two runs that end at 2 and 3, 2
 abbrev pub start_at : ℕ → List ℕ → ℕ → ℕ
 start_at before ends zero = before
 start_at before [] (suc at) = before
@@ -39,7 +39,7 @@ pub record IsOf (runs : List (List FileEntry)) (ends : List ℕ) (count : ℕ) :
   pub ended : ends ≡ ends_from 0 runs
   pub counted : count ≡ length (files_in runs)
 
--- the files of runs but for those of the first run that have this id
+-- the files of runs except those of the first run that have this id
 abbrev pub left_of : ℕ → List (List FileEntry) → List FileEntry
 left_of id [] = []
 left_of id (files ∷ runs) = filter (λ file. not (file.id == id)) files ++ files_in runs

@@ -9,7 +9,7 @@ use address_space::{FileId, FileRecord, FileRun};
 use std::alloc::{AllocError, Global};
 use std::marker::Model;
 
-/// Files in rising ids, at rising addresses that none of them shares. What a change leaves as it is, both share: a deletion copies one run.
+/// Files in rising ids, at rising addresses that none of them shares. A change shares what it leaves as it is: a deletion copies one run.
 #[derive(Drop)]
 pub struct Records {
     runs: Vec<SharedRun>,
@@ -96,7 +96,7 @@ impl Records {
         find_among(self.runs.as_slice(), id)
     }
 
-    /// The files but for those with this id. All runs but one are shared.
+    /// The files except those with this id. All runs but one are shared.
     pub fn without(&self, id: FileId) -> Result<Self, AllocError>
         ensures { IfOk result (λ left. left ≡ filter (λ file. not (file.id == id.0)) self.now) }
     {
@@ -106,7 +106,7 @@ impl Records {
         Ok(left)
     }
 
-    /// These files, and after them those of `next`, whose runs are shared, but where two are short enough for one.
+    /// These files, and after them those of `next`, whose runs are shared, except that two that are short enough become one.
     pub fn and(self, next: &Records) -> Result<Self, AllocError>
         requires { IsFileRun (self ++ next.now) }
         ensures { IfOk result (λ records. records ≡ self ++ next.now) }

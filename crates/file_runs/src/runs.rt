@@ -47,7 +47,7 @@ fn run_of(alloc: Global, files: &[SharedRecord]) -> Result<SharedRun, AllocError
     SharedRun::new(alloc, run)
 }
 
-/// Puts the records after the files. They are shared.
+/// Appends the records. They are shared.
 fn put_records(files: &mut FileRun, records: &[SharedRecord]) -> Result<(), AllocError>
     requires { IsFileRun (files.old ++ records.now) }
     ensures { OnOk result (files.new ≡ files.old ++ records.now) }
@@ -174,7 +174,7 @@ pub(crate) fn runs_without(
     Ok(left)
 }
 
-/// Puts the runs after those that are there, the first of them without the file of this id.
+/// Appends the runs, the first of them without the file of this id.
 fn put_rest(
     alloc: Global,
     into: &mut Vec<SharedRun>,
@@ -192,7 +192,7 @@ fn put_rest(
     put_shares(into, after)
 }
 
-/// Puts the runs after those that are there. They are shared.
+/// Appends the runs. They are shared.
 fn put_shares(into: &mut Vec<SharedRun>, runs: &[SharedRun]) -> Result<(), AllocError>
     ensures { OnOk result (into.new.items ≡ into.old.items ++ runs.now) }
 {
@@ -202,7 +202,7 @@ fn put_shares(into: &mut Vec<SharedRun>, runs: &[SharedRun]) -> Result<(), Alloc
     Ok(())
 }
 
-/// Puts the run after those that are there. It is shared.
+/// Appends the run. It is shared.
 #[inline]
 fn put_share(into: &mut Vec<SharedRun>, run: &SharedRun) -> Result<(), AllocError>
     ensures value { OnOk result (into.new.items ≡ into.old.items ++ run.now ∷ []) }
@@ -212,7 +212,7 @@ fn put_share(into: &mut Vec<SharedRun>, run: &SharedRun) -> Result<(), AllocErro
     Ok(())
 }
 
-/// Puts a run without the file of this id after those that are there, if a file is left.
+/// Appends a run without the file of this id, if a file is left.
 fn put_without(
     alloc: Global,
     into: &mut Vec<SharedRun>,
@@ -226,7 +226,7 @@ fn put_without(
     put_files(alloc, into, left)
 }
 
-/// Puts files after the runs that are there, as a run of their own, if there are any.
+/// Appends files as a run of their own, if there are any.
 fn put_files(alloc: Global, into: &mut Vec<SharedRun>, files: FileRun) -> Result<(), AllocError>
     ensures value { OnOk result (files_in into.new.items ≡ files_in into.old.items ++ files) }
     ensures inhabited { OnOk result (AllByRecursion IsInhabited into.old.items → AllByRecursion IsInhabited into.new.items) }
@@ -238,7 +238,7 @@ fn put_files(alloc: Global, into: &mut Vec<SharedRun>, files: FileRun) -> Result
     Ok(())
 }
 
-/// The records but for those with this id, which are shared.
+/// The records except those with this id. They are shared.
 fn records_without(alloc: Global, files: &[SharedRecord], id: FileId) -> Result<FileRun, AllocError>
     requires { IsFileRun files.now }
     ensures { IfOk result (λ left. left ≡ filter (λ file. not (file.id == id.0)) files.now) }
@@ -250,7 +250,7 @@ fn records_without(alloc: Global, files: &[SharedRecord], id: FileId) -> Result<
     Ok(left)
 }
 
-/// Puts the record after the files, unless it has this id. It is shared.
+/// Appends the record, unless it has this id. It is shared.
 #[inline]
 fn put_other(files: &mut FileRun, record: &SharedRecord, id: FileId) -> Result<(), AllocError>
     requires { IfSome (last_file files.old) (λ last. Precedes last record.now) }
@@ -262,7 +262,7 @@ fn put_other(files: &mut FileRun, record: &SharedRecord, id: FileId) -> Result<(
     files.push_shared(record.share()?)
 }
 
-/// Puts the runs after those that are there.
+/// Appends the runs.
 pub(crate) fn put_runs(into: &mut Vec<SharedRun>, runs: &[SharedRun]) -> Result<(), AllocError>
     requires { IsFileRun (files_in into.old.items ++ files_in runs.now) }
     ensures value { OnOk result (files_in into.new.items ≡ files_in into.old.items ++ files_in runs.now) }
@@ -274,7 +274,7 @@ pub(crate) fn put_runs(into: &mut Vec<SharedRun>, runs: &[SharedRun]) -> Result<
     Ok(())
 }
 
-/// Puts a run after those that are there, and makes it one with the last of them where both are short.
+/// Appends a run, joined with the last one if both are short.
 fn put_run(into: &mut Vec<SharedRun>, run: &SharedRun) -> Result<(), AllocError>
     requires { IsFileRun (files_in into.old.items ++ run.now) }
     ensures value { OnOk result (files_in into.new.items ≡ files_in into.old.items ++ run.now) }
@@ -286,7 +286,7 @@ fn put_run(into: &mut Vec<SharedRun>, run: &SharedRun) -> Result<(), AllocError>
     }
 }
 
-/// Puts two runs after those that are there, as one where both are short.
+/// Appends two runs, as one if both are short.
 fn put_two(into: &mut Vec<SharedRun>, last: SharedRun, run: &SharedRun) -> Result<(), AllocError>
     requires { IsFileRun (last ++ run.now) }
     ensures value { OnOk result (files_in into.new.items ≡ files_in into.old.items ++ last ++ run.now) }
@@ -299,7 +299,7 @@ fn put_two(into: &mut Vec<SharedRun>, last: SharedRun, run: &SharedRun) -> Resul
     put_share(into, run)
 }
 
-/// Puts the files of two runs after those that are there, as one run.
+/// Appends the files of two runs as one run.
 fn put_joined(
     into: &mut Vec<SharedRun>,
     last: &SharedRun,

@@ -43,7 +43,7 @@ impl SharedRun {
         self.files.as_slice()
     }
 
-    /// The same files, with one owner more and not copied. Err comes where no more owners can be counted.
+    /// The same files, with one more owner and not copied. Err means that no more owners can be counted.
     pub(crate) fn share(&self) -> Result<Self, AllocError>
         ensures { IfOk result (λ shared. shared ≡ self.now) }
     {

@@ -1,4 +1,4 @@
--- The terms of some words, made from the last word on, are their terms, and there are no others.
+-- The terms of some words, made starting at the last word, are their terms, and there are no others.
 use Rattle.std.proofs.Common.{◌≡◌, ℕ, ◌+◌, ◌<◌, ◌≤◌, Bool, true, false, ◌||◌, List, [], ◌∷◌, length, map, bytes_eq, nat_cmp, Ordering, inl, inr, refl, sym, ap, ◌∙◌, subst, arith}
 use Rattle.std.specs.declared.cmp.Ordering.TheVariants.{Less, Equal, Greater}
 use Rattle.std.specs.Cmp.Lexicographic.{slice_cmp}

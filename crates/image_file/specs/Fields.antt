@@ -20,11 +20,11 @@ pub record Fields : Type 0 where
 abbrev pub eight_bytes : ℕ → List ℕ
 eight_bytes n = little_bytes 8 n
 
--- a length in four bytes, and then so many bytes: "b" is 01 00 00 00 62
+-- a length in four bytes, and then that many bytes: "b" is 01 00 00 00 62
 abbrev pub long_text : List ℕ → List ℕ
 long_text bytes = little_bytes 4 (length bytes) ++ bytes
 
--- a packed length, and then so many bytes: "b" is 01 62
+-- a packed length, and then that many bytes: "b" is 01 62
 abbrev pub short_text : List ℕ → List ℕ
 short_text bytes = spelling (length bytes) ++ bytes
 
@@ -32,7 +32,7 @@ short_text bytes = spelling (length bytes) ++ bytes
 abbrev pub long_file : FileEntry → List ℕ
 long_file file = eight_bytes file.id ++ eight_bytes file.base ++ eight_bytes file.len ++ long_text file.name
 
--- a file in version 2: its numbers less the least that they may be, where the files from an id and an address on are to come
+-- a file in version 2: its numbers less the least that they may be, if the next file has at least this id and this address
 abbrev pub short_file : ℕ → ℕ → FileEntry → List ℕ
 short_file id at file = spelling (file.id - id) ++ spelling (file.base - at) ++ spelling (file.len - 2) ++ short_text file.name
 
@@ -45,7 +45,7 @@ short_files id at (file ∷ files) = short_file id at file ++ short_files (file.
 abbrev pub long_term : ℕ → TermEntry → List ℕ
 long_term first entry = long_text entry.term ++ eight_bytes (length entry.addresses) ++ packed_from first entry.addresses
 
--- a term in version 2, with how many addresses it has beside one, and all of them
+-- a term in version 2, with how many addresses it has besides one, and all of them
 abbrev pub short_term : ℕ → TermEntry → List ℕ
 short_term first entry = short_text entry.term ++ spelling (length entry.addresses - 1) ++ packed_from first entry.addresses
 
@@ -59,7 +59,7 @@ abbrev pub files_bytes : Format → ℕ → List FileEntry → List ℕ
 files_bytes One first files = flat_map long_file files
 files_bytes Two first files = short_files 0 first files
 
--- one term, with its addresses from the first address of all on
+-- one term, with its addresses as differences, the first from the first address of all
 abbrev pub term_bytes : Format → ℕ → TermEntry → List ℕ
 term_bytes One first entry = long_term first entry
 term_bytes Two first entry = short_term first entry

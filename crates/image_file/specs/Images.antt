@@ -21,7 +21,7 @@ abbrev pub TermsRise : List TermEntry → Type 0
 TermsRise [] = Unit {0}
 TermsRise (entry ∷ entries) = AllByRecursion (λ later. ComesBefore entry.term later.term) entries × TermsRise entries
 
--- each token of the words stands as a term once, in byte order, with the addresses that hold it
+-- each token of the words is a term once, in byte order, with the addresses that hold it
 pub record AreTermsOf (words : List Word) (terms : List TermEntry) : Type 0 where
   pub rising : TermsRise terms
   pub some : AllByRecursion (λ entry. 0 < length entry.addresses) terms

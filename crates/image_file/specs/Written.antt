@@ -40,7 +40,7 @@ pub record FitsShort (least at : ℕ) (file : FileEntry) : Type 0 where
   pub len : file.len - 2 < number_end
   pub name : length file.name < number_end
 
--- the bytes are the spelling of so many terms, which are those of the version's words
+-- the bytes are the spelling of this number of terms, which are those of the version's words
 pub record IsTextOf (v : VersionContent) (number : ℕ) (text : List ℕ) (table : List TermEntry) : Type 0 where
   pub terms : AreTermsOf (live_of v.slots) table
   pub short : AreShort Two table

@@ -9,7 +9,7 @@ use live_version::Version;
 use posting_code::put_number;
 use std::alloc::AllocError;
 
-/// Puts all files of the version after the bytes.
+/// Appends all files of the version.
 pub(crate) fn put_files(out: &mut Vec<u8>, version: &Version) -> Result<(), AllocError>
     requires { ArePacked 0 version.now.first (files_of version.now.slots) }
     ensures { OnOk result (out.new.items ≡ out.old.items ++ short_files 0 version.now.first (files_of version.now.slots)) }
@@ -25,7 +25,7 @@ pub(crate) fn put_files(out: &mut Vec<u8>, version: &Version) -> Result<(), Allo
     Ok(())
 }
 
-/// Puts a file after the bytes, whose id and base are at least these.
+/// Appends a file whose id and base are at least these.
 fn put_file(out: &mut Vec<u8>, id: u64, at: u64, file: &FileRecord) -> Result<(), AllocError>
     requires { CanPack id at file.now }
     ensures { OnOk result (out.new.items ≡ out.old.items ++ short_file id at file.now) }

@@ -4,8 +4,8 @@
 //! the collection's words, laid out field by field (`specs/Fields.antt`). By the laws here a collection has one
 //! spelling of a version, no bytes spell two collections, and none are of both versions.
 //!
-//! The layer above saves a version by `image`, in version 2. Of a file `a` with `to be or not to be` from address 0 on,
-//! the image has 97 bytes, however its index was merged.
+//! The layer above saves a version by `image`, in version 2. Of a file `a` with `to be or not to be` starting at address
+//! 0, the image has 97 bytes, however its index was merged.
 #![tactic(auto)]
 
 mod files;

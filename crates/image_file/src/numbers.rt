@@ -6,7 +6,7 @@ use byteorder::{ByteOrder, LittleEndian};
 use posting_code::put_number;
 use std::alloc::AllocError;
 
-/// Puts a number in eight bytes after the others.
+/// Appends a number in eight bytes.
 pub(crate) fn put_eight(out: &mut Vec<u8>, n: u64) -> Result<(), AllocError>
     ensures { OnOk result (out.new.items ≡ out.old.items ++ eight_bytes n) }
 {
@@ -16,7 +16,7 @@ pub(crate) fn put_eight(out: &mut Vec<u8>, n: u64) -> Result<(), AllocError>
     Ok(())
 }
 
-/// Puts a packed length and so many bytes after the others.
+/// Appends a packed length and that many bytes.
 pub(crate) fn put_text(out: &mut Vec<u8>, text: &[u8]) -> Result<(), AllocError>
     requires { length text.now < number_end }
     ensures { OnOk result (out.new.items ≡ out.old.items ++ short_text text.now) }
@@ -26,7 +26,7 @@ pub(crate) fn put_text(out: &mut Vec<u8>, text: &[u8]) -> Result<(), AllocError>
     Ok(())
 }
 
-/// Puts bytes after the others.
+/// Appends bytes.
 pub(crate) fn put_bytes(out: &mut Vec<u8>, bytes: &[u8]) -> Result<(), AllocError>
     ensures { OnOk result (out.new.items ≡ out.old.items ++ bytes.now) }
 {

@@ -15,7 +15,7 @@ use posting_code::put_number;
 use slot_terms::SlotTerms;
 use std::alloc::{AllocError, Global};
 
-/// The spelling of some terms, and how many they are.
+/// The spelling of some terms, and their number.
 #[derive(Drop)]
 pub(crate) struct TermText {
     pub(crate) count: u64,
@@ -36,7 +36,7 @@ pub(crate) fn terms_text(alloc: Global, version: &Version) -> Result<TermText, A
     Ok(text)
 }
 
-/// Puts the terms of all slots, where the text has none yet.
+/// Appends the terms of all slots to the text, which has none yet.
 fn put_terms(
     alloc: Global,
     version: &Version,
@@ -61,7 +61,7 @@ fn put_terms(
     Ok(())
 }
 
-/// Puts a term and its addresses after the bytes.
+/// Appends a term and its addresses.
 fn put_term(out: &mut Vec<u8>, first: u64, term: &[u8], addresses: &[u64]) -> Result<(), AllocError>
     requires short { length term.now < number_end }
     requires some { 0 < length addresses.now }
@@ -74,7 +74,7 @@ fn put_term(out: &mut Vec<u8>, first: u64, term: &[u8], addresses: &[u64]) -> Re
     Ok(())
 }
 
-/// Puts each address after the bytes, as its difference from the one before.
+/// Appends each address, as its difference from the one before.
 fn put_differences(out: &mut Vec<u8>, from: u64, addresses: &[u64]) -> Result<(), AllocError>
     requires { RiseWithin from address_end addresses.now }
     ensures { OnOk result (out.new.items ≡ out.old.items ++ packed_from from addresses.now) }

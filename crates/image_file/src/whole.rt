@@ -45,10 +45,10 @@ fn put_all(out: &mut Vec<u8>, version: &Version, count: u64, terms: &[u8]) -> Re
     put_bytes(out, terms)
 }
 
-/// Puts the mark, the numbers and the number of files after the bytes.
+/// Appends the mark, the numbers and the number of files.
 fn put_head(out: &mut Vec<u8>, version: &Version) -> Result<(), AllocError>
-    ensures { OnOk result (out.new.items ≡ out.old.items ++ mark Format.Two ++ eight_bytes version.now.first ++ eight_bytes version.now.next ++
-        eight_bytes version.now.next_id ++ eight_bytes (length (files_of version.now.slots))) }
+    ensures { OnOk result (out.new.items ≡ out.old.items ++ mark Format.Two ++ eight_bytes version.now.first ++
+        eight_bytes version.now.next ++ eight_bytes version.now.next_id ++ eight_bytes (length (files_of version.now.slots))) }
 {
     out.extend_from_slice(MARK_TWO)?;
     put_eight(out, version.first())?;

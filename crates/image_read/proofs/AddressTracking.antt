@@ -26,7 +26,7 @@ lacks_later low bound (q ∷ qs) p rise le =
     let lt : q < bound = rise.1 in
     rw (ne_eqb q p (λ same. omega arith)) (lacks_later (q + 1) bound qs p rise.2 le)
 
--- what an address of a role stands in is a file
+-- an address of a role is in a file
 pub role_of_files : (files : List FileEntry) (p : ℕ) (role : Role) → role_in files p ≡ Some role → is_of_files files p ≡ true
 role_of_files [] p role is = absurd cc
 role_of_files (file ∷ files) p role is = elim (cases_Bool (is_of_file p file)) [
@@ -127,7 +127,7 @@ has_next_address first next number start role whole i before now addresses rest 
       },
     )
 
--- the difference that stands there is that of the address
+-- the difference that is there is that of the address
 pub same_next : (before bound next gap : ℕ) (whole behind : List ℕ) (p : ℕ) (rest : List ℕ) → next ≤ 2 ^ 56 → before ≤ bound → IsPacked whole gap behind → bound ≤ p → p < next → whole ≡ spelling (p - before) ++ rest →
     (before + gap ≡ p) × (behind ≡ rest)
 same_next before bound next gap whole behind p rest end_le le packed from below is =
@@ -135,7 +135,7 @@ same_next before bound next gap whole behind p rest end_le le packed from below 
     let same = cut.0 in
     (omega (arith, same, from, le), cut.1)
 
--- no number that stands there is none of an address
+-- no number that is there is one of an address
 pub next_unpacked : (before bound next : ℕ) (start : SeenContent) (role : Role) (whole : List ℕ) → next ≤ 2 ^ 56 → HasNoPacked whole → HasNoNextAddress bound next start role before whole
 next_unpacked before bound next start role whole end_le none p rest from below place fresh is = none (p - before) rest (omega (arith, below, end_le)) is
 
@@ -223,7 +223,7 @@ addresses_step first next number start role whole i before now addresses rest bo
           );
     }
 
--- no list of addresses stands there
+-- no list of addresses is there
 abbrev pub HaveNone : (first next number : ℕ) → SeenContent → Role → List ℕ → Type 0
 HaveNone first next number start role whole = (all end : List ℕ) → AreAllAddresses first next number start role whole all end → ⊥
 
@@ -238,7 +238,7 @@ addresses_stop first next number start role whole i before now addresses rest bo
     let fresh : is_seen now p ≡ false = was ∙ ap (λ b. b || is_seen start p) lacks ∙ has.2.fresh in
     none p (packed_from p has.1 ++ end) has.2.from has.2.below (ap (λ fs. role_in fs p) read.sees.files ∙ role_is) fresh has.2.bytes
 
--- the number of the addresses that stand there is one
+-- the number of the addresses that are there is one
 count_same : (format : Format) (whole : List ℕ) (n m : ℕ) (r s : List ℕ) → IsCountFront format whole n r → IsCountFront format whole m s → (n ≡ m) × (r ≡ s)
 count_same One whole n m r s a b = eight_same n m r s a.small b.small (sym a.bytes ∙ b.bytes)
 count_same Two whole n m r s a b =

@@ -158,7 +158,7 @@ pub terms_apart : (next first : ℕ) (words : List Word) (es : List TermEntry) �
 terms_apart next first words [] rising rise own = tt
 terms_apart next first words (e ∷ es) rising rise own = (apart_later next first words e es rising own.0 rise.0 own.1, terms_apart next first words es rising rise.1 own.1)
 
--- an address of a file has a word, and the word's address stands under a term
+-- an address of a file has a word, and the word's address is under a term
 abbrev has_word : List Word → ℕ → Bool
 has_word words p = list_any (λ (w : Word). eqb w.address p) words
 

@@ -12,7 +12,7 @@ use Rattle.image_file.proofs.Decoding.{long_file_same, packs_long, packs_short, 
 use Rattle.image_file.proofs.Packing.{name_fits}
 use Rattle.image_read.specs.Reading.{AreAllFiles, AreFilesUpTo, FitsFields, HasNoFile, HasNoFiles, IsFileFront, IsFilesFront, IsNextFile, file_bytes, files_from}
 
--- what stands next fits its fields
+-- what comes next fits its fields
 pub next_packs : (next next_id id at : ℕ) (file : FileEntry) → next ≤ 2 ^ 56 → next_id ≤ 2 ^ 56 → IsNextFile next next_id id at file → CanPack id at file
 next_packs next next_id id at file le ids is =
     let small = is.small in
@@ -27,7 +27,7 @@ pub file_front_same : (format : Format) (id at : ℕ) (whole : List ℕ) (x y : 
 file_front_same One id at whole x y r s px py = long_file_same x y r s px.fits py.fits (sym px.bytes ∙ py.bytes)
 file_front_same Two id at whole x y r s px py = short_file_same id at x y r s px.fits py.fits (sym px.bytes ∙ py.bytes)
 
--- files, told one after the other
+-- files, one after the other
 long_from : (id at : ℕ) (files : List FileEntry) → flat_map long_file files ≡ files_from One id at files
 long_from id at [] = refl
 long_from id at (file ∷ files) = ap (λ l. long_file file ++ l) (long_from (file.id + 1) (file.base + file.len) files)
@@ -68,7 +68,7 @@ upto_last next next_id id at last_id last (f ∷ []) file upto ids bases =
     record { ids = omega (arith, a, ids); addresses = omega (arith, b, bases) }
 upto_last next next_id id at last_id last (f ∷ g ∷ files) file upto ids bases = upto_last next next_id (f.id + 1) (f.base + f.len) last_id last (g ∷ files) file upto.1 ids bases
 
--- what an image of the bytes has beside the files that were read
+-- what an image of the bytes has besides the files that were read
 pub record IsLeft (format : Format) (next next_id id at : ℕ) (files : List FileEntry) (rest : List ℕ) (all : List FileEntry) (end : List ℕ) (left : List FileEntry) : Type 0 where
   pub whole : all ≡ files ++ left
   pub bytes : rest ≡ files_from format id at left ++ end
@@ -145,14 +145,14 @@ files_step format first next next_id number whole i files id at rest file behind
           );
     }
 
--- where no file stands next the bytes are no image
+-- if no file comes next, the bytes are no image
 pub files_stop : (format : Format) (first next next_id number : ℕ) (whole : List ℕ) (i : ℕ) (files : List FileEntry) (id at : ℕ) (rest : List ℕ) → next ≤ 2 ^ 56 → next_id ≤ 2 ^ 56 → i < number →
     AreReadFiles format first next next_id number whole i files id at rest → HasNoFile format id at rest → HasNoFiles format first next next_id number whole
 files_stop format first next next_id number whole i files id at rest le ids lt read none all end is =
     let has = has_next format first next next_id number whole i files id at rest le ids lt read all end is in
     none has.0 (files_from format (has.0.id + 1) (has.0.base + has.0.len) has.1 ++ end) has.2.front
 
--- and so where the file that stands there may not
+-- and so if the file that is there may not come next
 pub files_refuse : (format : Format) (first next next_id number : ℕ) (whole : List ℕ) (i : ℕ) (files : List FileEntry) (id at : ℕ) (rest : List ℕ) (file : FileEntry) (behind : List ℕ) → next ≤ 2 ^ 56 → next_id ≤ 2 ^ 56 → i < number →
     AreReadFiles format first next next_id number whole i files id at rest → IsFileFront format id at rest file behind → (IsNextFile next next_id id at file → ⊥) → HasNoFiles format first next next_id number whole
 files_refuse format first next next_id number whole i files id at rest file behind le ids lt read front none all end is =
@@ -160,7 +160,7 @@ files_refuse format first next next_id number whole i files id at rest file behi
     let same = file_front_same format id at rest file has.0 behind (files_from format (has.0.id + 1) (has.0.base + has.0.len) has.1 ++ end) front has.2.front in
     none (subst (IsNextFile next next_id id at) (sym same.0) has.2.stands)
 
--- the same, where the new values were computed otherwise
+-- the same, if the new values were computed otherwise
 pub files_read_as : (format : Format) (first next next_id number : ℕ) (whole : List ℕ) (i : ℕ) (files more : List FileEntry) (id id' at at' : ℕ) (rest : List ℕ) →
     AreReadFiles format first next next_id number whole i files id at rest → more ≡ files → id' ≡ id → at' ≡ at → AreReadFiles format first next next_id number whole i more id' at' rest
 files_read_as format first next next_id number whole i files more id id' at at' rest read same_files same_id same_at =

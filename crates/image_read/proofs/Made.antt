@@ -20,7 +20,7 @@ use Rattle.image_read.specs.Reading.{AreAllEntries, AreAllFiles, IsEntry, is_cov
 use Rattle.image_read.proofs.Candidates.{role_here, role_later, role-first, role-inner, role-last}
 use Rattle.image_read.proofs.TermTracking.{member_all}
 
--- the token at an address, where the table has one
+-- the token at an address, if the table has one
 abbrev pub token_or : Option (List ℕ) → List ℕ
 token_or None = []
 token_or (Some t) = t
@@ -55,7 +55,7 @@ next_table table e es at le is = record {
   covered = λ q of. is.covered q (or_right (is_of_file q e) (is_of_files es q) of);
 }
 
--- the role of what stands at an address of the first file
+-- the role of what is at an address of the first file
 first_role : (table : List TermEntry) (e : FileEntry) (es : List FileEntry) (at q : ℕ) (t : List ℕ) → at ≤ e.base → IsWordTable table (e ∷ es) at → is_of_file q e ≡ true → term_at table q ≡ Some t → role_of t ≡ role_of_file q e
 first_role table e es at q t le is of has =
     let lies = is_of_file-bounds q e of in
@@ -142,7 +142,7 @@ file_words table e es at le two is =
     ∙ ap (λ p. words_from (e.base + 1) ts ++ word p file_end ∷ []) next
     ∙ sym (words_from-parts (e.base + 1) ts (file_end ∷ [])))
 
--- before the next file stands no word
+-- before the next file there is no word
 hole_none : (table : List TermEntry) (e : FileEntry) (es : List FileEntry) (next next_id id at q : ℕ) → IsWordTable table (e ∷ es) at → AreAllFiles next next_id id at (e ∷ es) → at ≤ q → q < e.base → term_at table q ≡ None
 hole_none table e es next next_id id at q is all from lt = by_term (term_at table q) refl
   where

@@ -76,7 +76,7 @@ word_lacks words i word is small other full =
     let none = zero_bit.1 in
     omega (arith, one, none)
 
--- where the bits of the first words are set and those behind them, all are
+-- if the bits of the first words are set and those behind them, all are
 pub full_marks : (words front : List ℕ) (count : ℕ) → front ≡ take (count / 64) words → count ≤ 64 * length words → ((k : ℕ) → k < 64 * length front → bit_of front k ≡ true) →
     ((k : ℕ) → 64 * (count / 64) ≤ k → k < count → get_or (bits_of words count) k false ≡ true) → (k : ℕ) → k < count → get_or (bits_of words count) k false ≡ true
 full_marks words front count is room full behind k lt = elim (cases_lt k (64 * (count / 64))) [
@@ -87,7 +87,7 @@ full_marks words front count is room full behind k lt = elim (cases_lt k (64 * (
   | inr high ↦ behind k high lt
 ]
 
--- and they are set where all are
+-- and they are set if all are
 pub front_marks : (words front : List ℕ) (count : ℕ) → front ≡ take (count / 64) words → count ≤ 64 * length words → ((k : ℕ) → k < count → get_or (bits_of words count) k false ≡ true) → (k : ℕ) → k < 64 * length front → bit_of front k ≡ true
 front_marks words front count is room full k lt =
     let long = ap length is ∙ length-take (count / 64) words in

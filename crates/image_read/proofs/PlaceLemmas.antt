@@ -105,7 +105,7 @@ ends_rise (f ∷ fs) run zero (suc j) d le lt = ends_later f fs run.1 j d (omega
 ends_rise (f ∷ fs) run (suc i) zero d le lt = absurd (omega arith)
 ends_rise (f ∷ fs) run (suc i) (suc j) d le lt = ends_rise fs run.2 i j d (omega arith) (omega arith)
 
--- where the files before a place are those that end by the address, the file there is the only one that may have it
+-- if the files before a place are those that end by the address, the file there is the only one that may have it
 pub record IsFirstLeft (files : List FileEntry) (p i : ℕ) (e : FileEntry) : Type 0 where
   pub here : e ≡ get_or files i e
   pub within : i < length files
@@ -165,7 +165,7 @@ later_from p file (next ∷ files) all is = elim (or_cases (is_of_file p next) (
   | inr h ↦ later_from p file files all.1 h
 ]
 
--- where the file at a place has an address, those that end by it are the ones before
+-- if the file at a place has an address, those that end by it are the ones before
 pub file_prefix : (files : List FileEntry) (i p : ℕ) (d : FileEntry) → IsFileRun files → i < length files → is_of_file p (get_or files i d) ≡ true → i ≡ prefix_len (ends_by p) files
 file_prefix [] i p d run lt is = absurd (omega arith)
 file_prefix (file ∷ files) zero p d run lt is = let at = is_of_file-bounds p file is in rw (lt-leb (file.base + file.len) p at.1) refl
@@ -201,7 +201,7 @@ marked files seen p q lt ip iq = elim (cases_Bool (eqb q p)) [
   | inr h ↦ rw h (get_or-set_other seen (rank files p) (rank files q) true false (λ same. eqb-false q p h (rank-same files q p iq ip same)))
 ]
 
--- where each address of the files was seen, so was each rank
+-- if each address of the files was seen, so was each rank
 pub full_from : (files : List FileEntry) (seen : List Bool) → IsFileRun files → length seen ≡ widths files → ((p : ℕ) → is_of_files files p ≡ true → get_or seen (rank files p) false ≡ true) → (i : ℕ) → i < length seen → get_or seen i false ≡ true
 full_from files seen run marks full i lt =
     let place = unrank files i run (omega (arith, marks, lt)) in

@@ -1,4 +1,4 @@
--- Where a part of an image is refused, the bytes are no image.
+-- If a part of an image is refused, the bytes are no image.
 use Rattle.std.proofs.Common.{◌≡◌, ℕ, ◌+◌, ◌-◌, ◌*◌, ◌^◌, ◌≤◌, List, [], ◌∷◌, ◌++◌, length, map, flat_map, refl, sym, ap, ◌∙◌, subst, arith}
 use Rattle.std.proofs.lemmas.List.{append-nil}
 use Rattle.gcl_model.specs.Collections.{Collection, File, AreFilesFrom, width_of}
@@ -108,7 +108,7 @@ files_front_of : (format : Format) (bytes : List ℕ) (c : Collection) → (s : 
     IsFilesFront format c.first c.next c.next_id (length (map entry_of c.files)) (behind_of format c s.spelled.0) (map entry_of c.files) (terms_of format c s.spelled.0)
 files_front_of format bytes c s = record { all = all_files c c.first 0 c.files s.said.sound.files; count = refl; bytes = refl }
 
--- the files after the head of the image of a collection, where the head is one that was read
+-- the files after the head of the image of a collection, if the head is one that was read
 same_files_front : (format : Format) (first next next_id count : ℕ) (bytes rest : List ℕ) → IsHead format first next next_id count bytes rest → (other : Format) (c : Collection) → (s : Spells other bytes c) →
     IsFilesFront format first next next_id count rest (map entry_of c.files) (terms_of other c s.spelled.0)
 same_files_front format first next next_id count bytes rest head other c s =

@@ -98,7 +98,7 @@ all_hits-more (e ∷ es) q qs =
     let rest = all_hits-more es q qs in
     omega (arith, here, rest)
 
--- where each address stands under a term, the terms have as many
+-- if each address is under a term, the terms have as many
 covered_few : (es : List TermEntry) (qs : List ℕ) → AllByRecursion (λ q. is_covered es q ≡ true) qs → length qs ≤ all_hits es qs
 covered_few es [] all = omega arith
 covered_few es (q ∷ qs) all =
@@ -147,7 +147,7 @@ all-places (e ∷ es) =
     all-from_to (λ q. is_of_files (e ∷ es) q ≡ true) e.base e.len (places_of es) (λ q le lt. or_left (is_of_file q e) (is_of_files es q) (is_of_file-inside q e le lt))
     (all_weaker (λ q. is_of_files es q ≡ true) (λ q. is_of_files (e ∷ es) q ≡ true) (λ q of. or_right (is_of_file q e) (is_of_files es q) of) (places_of es) (all-places es))
 
--- those of files from an address on rise
+-- those of files at or after an address rise
 rise-places : (low : ℕ) (es : List FileEntry) → IsFileRun es → AllByRecursion (λ (e : FileEntry). low ≤ e.base) es → RiseWithin low (2 ^ 56) (places_of es)
 rise-places low [] run from = tt
 rise-places low (e ∷ es) run from =

@@ -12,7 +12,7 @@ use Rattle.image_file.specs.declared.format.Format.{Format}
 use Rattle.image_file.specs.Images.{AreShort, CanBeSaved, most_term}
 use Rattle.image_read.specs.Answers.{IsImageOf}
 
--- each word stands somewhere
+-- each word is somewhere
 words_stand : (ws : List Word) → AllByRecursion (λ (w : Word). 0 < length (places ws w.token)) ws
 words_stand [] = tt
 words_stand (w ∷ ws) = (

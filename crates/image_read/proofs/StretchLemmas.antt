@@ -33,7 +33,7 @@ placed_at [] i e run lt = absurd (omega arith)
 placed_at (file ∷ files) zero e run lt = run.0
 placed_at (file ∷ files) (suc i) e run lt = placed_at files i e run.2 (omega arith)
 
--- a stretch ends before an address where its file ends by it
+-- a stretch ends before an address if its file ends by it
 ends_same : (p before : ℕ) (file : FileEntry) → IsPlaced file → ends_before p (stretch_of file before) ≡ ends_by p file
 ends_same p before file placed =
     let long = placed.bounded in
@@ -63,7 +63,7 @@ in_row before files run i j d le lt =
     let high = ap (λ (s : Stretch). s.last) (stretch_at before files j d none within) in
     omega (arith, order, some, more, low, high)
 
--- where one stretch does not end before an address and the one in front of it does, those in front are all that do
+-- if one stretch does not end before an address and the one in front of it does, those in front are all that do
 pub met_at : (p i : ℕ) (stretches : List Stretch) (d : Stretch) → AreInRow stretches → i < length stretches → p ≤ (get_or stretches i d).last → (0 < i → (get_or stretches (i - 1) d).last < p) → i ≡ prefix_len (ends_before p) stretches
 met_at p i stretches d row lt until before =
     prefix_len_at_point (ends_before p) stretches i (omega (arith, lt)) (
@@ -117,7 +117,7 @@ found_in files stretches p i stretch run each at lt is =
       found_of files p i stretch none run (at ∙ ap (prefix_len (ends_before p)) each ∙ ended_same p 0 files run) (omega (arith, lt, long)) (is ∙ ap (λ l. get_or l i stretch) each),
     )
 
--- between the ends of the stretch of a file stand its tokens
+-- between the ends of the stretch of a file are its tokens
 near_token : (files : List FileEntry) (i p : ℕ) (e : FileEntry) → IsFileRun files → i < length files → e ≡ get_or files i e → e.base < p → p < e.base + (e.len - 1) → IsTokenAt files p (widths (take i files) + (p - e.base))
 near_token files i p e run lt here low high =
     let of : is_of_file p (get_or files i e) ≡ true = ap (is_of_file p) (sym here) ∙ is_of_file-inside p e (omega (arith, low)) (omega (arith, high)) in
@@ -137,7 +137,7 @@ searched files stretches row seen near p i long stretch is same at within size o
     let rows = ap length same in
     found_in files stretches p i stretch is.run is.each (at ∙ ap (prefix_len (ends_before p)) same) (omega (arith, within, rows, size, other)) here
 
--- another stretch is near from then on
+-- another stretch is near after that
 pub near_now : (files : List FileEntry) (stretches : List Stretch) (seen : List Bool) (near : Stretch) (p i : ℕ) (stretch : Stretch) (e : FileEntry) → IsPlaces files stretches seen near → IsFound files p i stretch e → IsPlaces files stretches seen stretch
 near_now files stretches seen near p i stretch e is found = record { run = is.run; each = is.each; marks = is.marks; small = is.small; tokens = near_found files p i stretch e is.run found }
 
@@ -146,7 +146,7 @@ pub found_none : (files : List FileEntry) (stretches : List Stretch) (p i : ℕ)
 found_none files stretches p i role run each at end =
     not_some files p role (past_none files p i (at ∙ ap (prefix_len (ends_before p)) each ∙ ended_same p 0 files run) (end ∙ ap length each ∙ stretches_long 0 files))
 
--- nor does the one that was found where it begins behind the address, or holds another role there
+-- nor does the one that was found if it begins behind the address, or holds another role there
 pub found_behind : (files : List FileEntry) (p i : ℕ) (stretch : Stretch) (e : FileEntry) (role : Role) → IsFileRun files → IsFound files p i stretch e → p < stretch.first → role_in files p ≡ Some role → ⊥
 found_behind files p i stretch e role run found lt =
     let first = ap (λ (s : Stretch). s.first) found.is in
@@ -160,7 +160,7 @@ found_role files p i stretch e found le =
 pub found_other : (files : List FileEntry) (p i : ℕ) (stretch : Stretch) (e : FileEntry) (role : Role) → IsFound files p i stretch e → stretch.first ≤ p → (role_of_stretch p stretch ≡ role → ⊥) → role_in files p ≡ Some role → ⊥
 found_other files p i stretch e role found le differ = role_differs files p role (role_of_stretch p stretch) (found_role files p i stretch e found le) differ
 
--- and else it says where the mark of the address stands
+-- and else it says where the mark of the address is
 pub ranked_at : (files : List FileEntry) (seen : List Bool) (p at : ℕ) (role : Role) → length seen ≡ widths files → role_in files p ≡ Some role → at ≡ rank files p → IsRankOf files seen p role at
 ranked_at files seen p at role marks place is =
     let small = rank-small files p (role_of_files files p role place) in
@@ -175,7 +175,7 @@ found_rank files seen p i stretch e role marks found le is =
     let at : stretch.before + (p - stretch.first) ≡ rank files p = omega (arith, rank_is, first, before) in
     ranked_at files seen p (stretch.before + (p - stretch.first)) role marks (found_role files p i stretch e found le ∙ ap (λ r. Some r) is) at
 
--- so many files were gone through: where each lies is noted, and there are not too many addresses
+-- this many files were gone through: where each lies is noted, and there are not too many addresses
 pub record AreCounted (files : List FileEntry) (i : ℕ) (stretches : List Stretch) (total most : ℕ) : Type 0 where
   pub each : stretches ≡ stretches_from 0 (take i files)
   pub sum : total ≡ widths (take i files)

@@ -52,7 +52,7 @@ member_all P (q ∷ qs) p all has = elim (or_cases (eqb q p) (has_address qs p) 
   | inr h ↦ member_all P qs p all.1 h
 ]
 
--- an address of a term that stands apart is under none of the others
+-- an address of a term that is apart is under none of the others
 uncovered : (table : List TermEntry) (addresses : List ℕ) (p : ℕ) → AllByRecursion (λ (d : TermEntry). AreApart d.addresses addresses) table → has_address addresses p ≡ true → is_covered table p ≡ false
 uncovered [] addresses p apart has = refl
 uncovered (d ∷ ds) addresses p apart has =
@@ -67,7 +67,7 @@ apart_from (d ∷ ds) addresses none = (
   apart_from ds addresses (λ p h. (or_parts (has_address d.addresses p) (is_covered ds p) (none p h)).1),
 )
 
--- the addresses of a term that may stand next were seen nowhere
+-- the addresses of a term that may come next were seen nowhere
 unseen_next : (format : Format) (first next : ℕ) (places : SeenContent) (table : List TermEntry) (e : TermEntry) → HoldsTerms format first next places table → IsEntry format first next places.files e →
     AllByRecursion (λ (d : TermEntry). AreApart d.addresses e.addresses) table → AllByRecursion (λ p. is_seen places p ≡ false) e.addresses
 unseen_next format first next places table e holds entry apart =
@@ -111,7 +111,7 @@ apart_push : (table : List TermEntry) (e : TermEntry) → TermsApart table → A
 apart_push [] e apart all = (tt, tt)
 apart_push (d ∷ ds) e apart all = (all_push (λ (f : TermEntry). AreApart d.addresses f.addresses) ds e apart.0 all.0, apart_push ds e apart.1 all.1)
 
--- a term that was read stands apart from those before it
+-- a term that was read is apart from those before it
 pub read_apart : (format : Format) (first next : ℕ) (places : SeenContent) (table : List TermEntry) (role : Role) (whole addresses rest : List ℕ) → HoldsTerms format first next places table →
     IsAddressesFront format first next places role whole addresses rest → AllByRecursion (λ (d : TermEntry). AreApart d.addresses addresses) table
 read_apart format first next places table role whole addresses rest holds is =
@@ -188,7 +188,7 @@ read_postings format first next places range role whole addresses rest lie is = 
       (all_weaker (λ p. role_in places.files p ≡ Some role) (λ p. (range.first ≤ p) × (p < range.last + 1)) (λ p role_is. in_range range places.files p role lie role_is) addresses is.fills.roles);
 }
 
--- what an image of the bytes has beside the terms that were read
+-- what an image of the bytes has besides the terms that were read
 pub record AreTermsLeft (format : Format) (first : ℕ) (table : List TermEntry) (rest : List ℕ) (all left : List TermEntry) : Type 0 where
   pub whole : all ≡ table ++ left
   pub bytes : rest ≡ flat_map (term_bytes format first) left
@@ -296,7 +296,7 @@ last_more (d ∷ f ∷ table) e = last_more (f ∷ table) e
 pub last_put : (format : Format) (first : ℕ) (before after : List TermEntry) (whole term rest : List ℕ) → PutsTerm format first before after whole term rest → Some term ≡ last_term after
 last_put format first before after whole term rest put = ap (λ t. Some t) (sym put.1.text) ∙ sym (last_more before put.0) ∙ ap last_term (sym put.1.table)
 
--- where no table has so many terms the bytes are those of none
+-- if no table has this many terms, the bytes are those of none
 pub terms_none : (format : Format) (first next : ℕ) (files : List FileEntry) (whole : List ℕ) (number : ℕ) (behind : List ℕ) → IsFixed 8 whole number behind → ((all : List TermEntry) → AreTermBytes format first next number files behind all → ⊥) → HasNoTerms format first next files whole
 terms_none format first next files whole number behind count none terms few rest at are =
     let same = eight_front whole behind rest number (length terms) count few at in
@@ -311,7 +311,7 @@ terms_read format first next files whole number behind table count are =
       terms = (behind, count.bytes ∙ ap (λ n. eight_bytes n ++ behind) (sym are.count), record { all = are.all; count = refl; bytes = are.bytes });
     }
 
--- the same, where the new values were computed otherwise
+-- the same, if the new values were computed otherwise
 pub terms_step_as : (format : Format) (first next number : ℕ) (start : List FileEntry) (whole : List ℕ) (i : ℕ) (table more : List TermEntry) (places after : SeenContent) (rest term behind : List ℕ) → next ≤ 2 ^ 56 → i < number →
     AreTermsRead format first next number start whole i table places rest → PutsTerm format first table more rest term behind → after.files ≡ places.files → HoldsTerms format first next after more →
     AreTermsRead format first next number start whole (i + 1) more after behind

@@ -1,4 +1,4 @@
--- How an image is gone through, for this crate alone.
+-- How an image is read, for this crate alone.
 use Rattle.std.specs.Prelude.{◌≡◌, ℕ, ◌+◌, ◌-◌, ◌*◌, ◌^◌, ◌<◌, ◌≤◌, Bool, true, false, ◌||◌, ◌==◌, bytes_eq, nat_le, List, [], ◌∷◌, ◌++◌, length, flat_map, find, get_or, Option, Some, if◌then◌else◌}
 use Rattle.std.specs.List.{AllByRecursion, list_any}
 use Rattle.std.specs.Option.{option_map}
@@ -21,7 +21,7 @@ use Rattle.image_read.specs.declared.places.Role.TheVariants.{Start, Inner, End}
 use Rattle.image_read.specs.declared.places.Stretch.{Stretch}
 use Rattle.image_read.specs.Stretches.{stretches_from}
 
--- bytes begin with so many bytes
+-- bytes begin with a text of `len` bytes
 pub record IsText (len : ℕ) (whole text rest : List ℕ) : Type 0 where
   pub bytes : whole ≡ text ++ rest
   pub long : length text ≡ len
@@ -80,7 +80,7 @@ abbrev pub files_from : Format → ℕ → ℕ → List FileEntry → List ℕ
 files_from format id at [] = []
 files_from format id at (file ∷ files) = file_bytes format id at file ++ files_from format (file.id + 1) (file.base + file.len) files
 
--- the file may stand next, where ids are below next_id and addresses below next
+-- the file may come next, if ids are below next_id and addresses below next
 pub record IsNextFile (next next_id least at : ℕ) (file : FileEntry) : Type 0 where
   pub id : least ≤ file.id
   pub small : file.id < next_id
@@ -90,12 +90,12 @@ pub record IsNextFile (next next_id least at : ℕ) (file : FileEntry) : Type 0 
   pub hole : FitsHole (file.base - at) (file.id - least)
   pub named : is_name file.name ≡ true
 
--- the files from an id and an address on lead to these
+-- the files starting at an id and an address lead to these
 abbrev pub AreFilesUpTo : (next next_id : ℕ) → ℕ → ℕ → List FileEntry → ℕ → ℕ → Type 0
 AreFilesUpTo next next_id id at [] last_id last = (id ≡ last_id) × (at ≡ last)
 AreFilesUpTo next next_id id at (file ∷ files) last_id last = IsNextFile next next_id id at file × AreFilesUpTo next next_id (file.id + 1) (file.base + file.len) files last_id last
 
--- the files from an id and an address on fill what there is
+-- the files starting at an id and an address fill what there is
 abbrev pub AreAllFiles : (next next_id : ℕ) → ℕ → ℕ → List FileEntry → Type 0
 AreAllFiles next next_id id at [] = (at ≤ next) × (id ≤ next_id) × FitsHole (next - at) (next_id - id)
 AreAllFiles next next_id id at (file ∷ files) = IsNextFile next next_id id at file × AreAllFiles next next_id (file.id + 1) (file.base + file.len) files
@@ -152,7 +152,7 @@ role_of term = if bytes_eq term file_start then Start else if bytes_eq term file
 abbrev pub role_of_file : ℕ → FileEntry → Role
 role_of_file p file = if p == file.base then Start else if p + 1 == file.base + file.len then End else Inner
 
--- what an address of some files is to hold, where one of them has it
+-- what an address of some files is to hold, if one of them has it
 abbrev pub role_in : List FileEntry → ℕ → Option Role
 role_in files p = option_map (role_of_file p) (find (is_of_file p) files)
 
@@ -173,12 +173,12 @@ pub record IsEntry (format : Format) (first next : ℕ) (files : List FileEntry)
   pub token : role_of e.term ≡ Inner → IsToken e.term
   pub fills : FillRole first next files (role_of e.term) e.addresses
 
--- no address stands under two terms
+-- no address is under two terms
 abbrev pub TermsApart : List TermEntry → Type 0
 TermsApart [] = Unit {0}
 TermsApart (e ∷ es) = AllByRecursion (λ d. AreApart e.addresses d.addresses) es × TermsApart es
 
--- whether the address stands under a term
+-- whether the address is under a term
 abbrev pub is_covered : List TermEntry → ℕ → Bool
 is_covered terms p = list_any (λ e. has_address e.addresses p) terms
 
@@ -213,16 +213,16 @@ pub record IsRankOf (files : List FileEntry) (seen : List Bool) (p : ℕ) (role 
   pub ranked : at ≡ rank files p
   pub marked : at < length seen
 
--- the address is one of a token in the files, and so many addresses of them come before it
+-- the address is one of a token in the files, and `at` addresses of them come before it
 pub record IsTokenAt (files : List FileEntry) (p at : ℕ) : Type 0 where
   pub token : role_in files p ≡ Some Inner
   pub ranked : at ≡ rank files p
 
--- between the ends of the stretch stand tokens of the files
+-- between the ends of the stretch are tokens of the files
 abbrev pub IsNear : List FileEntry → Stretch → Type 0
 IsNear files near = (p : ℕ) → near.first < p → p < near.last → IsTokenAt files p (near.before + (p - near.first))
 
--- the stretches are those of the files, there is a mark for each address, of which there are no more than a number says, and one stretch is near
+-- the stretches are those of the files, there is a mark for each address, of which there are fewer than 2^64, and one stretch is near
 pub record IsPlaces (files : List FileEntry) (stretches : List Stretch) (seen : List Bool) (near : Stretch) : Type 0 where
   pub run : IsFileRun files
   pub each : stretches ≡ stretches_from 0 files
@@ -268,7 +268,7 @@ pub record SeesAll (before after : SeenContent) (addresses : List ℕ) : Type 0 
   pub files : after.files ≡ before.files
   pub seen : (q : ℕ) → is_of_files before.files q ≡ true → is_seen after q ≡ (has_address addresses q || is_seen before q)
 
--- and each address of the files stands under one
+-- and each address of the files is under one
 pub record AreAllEntries (format : Format) (first next : ℕ) (files : List FileEntry) (terms : List TermEntry) : Type 0 where
   pub entries : AreEntries format first next files terms
   pub covered : (p : ℕ) → is_of_files files p ≡ true → is_covered terms p ≡ true

@@ -6,7 +6,7 @@ use Rattle.image_read.specs.declared.places.Role.{Role}
 use Rattle.image_read.specs.declared.places.Role.TheVariants.{Start, Inner, End}
 use Rattle.image_read.specs.declared.places.Stretch.{Stretch}
 
--- where a file lies that comes after so many addresses of files: one of three addresses from 7 on, after 5, from 7 to 9
+-- where a file lies that comes after `before` addresses of files: one of three addresses starting at 7, after 5, from 7 to 9
 abbrev pub stretch_of : FileEntry → ℕ → Stretch
 stretch_of file before = record { first = file.base; last = file.base + (file.len - 1); before = before }
 

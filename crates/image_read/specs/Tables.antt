@@ -38,13 +38,13 @@ pub record HoldsTerms (format : Format) (first next : ℕ) (places : SeenContent
   pub entries : AreEntries format first next places.files table
   pub seen : (q : ℕ) → is_of_files places.files q ≡ true → is_seen places q ≡ is_covered table q
 
--- one term more, which the bytes begin with
+-- one more term, which the bytes begin with
 pub record IsPut (format : Format) (first : ℕ) (before after : List TermEntry) (whole term rest : List ℕ) (e : TermEntry) : Type 0 where
   pub table : after ≡ before ++ e ∷ []
   pub text : e.term ≡ term
   pub bytes : whole ≡ term_bytes format first e ++ rest
 
--- the table has one term more at its end, with this text, and the bytes begin with it
+-- the table has one more term at its end, with this text, and the bytes begin with it
 abbrev pub PutsTerm : Format → ℕ → (before after : List TermEntry) → (bytes text rest : List ℕ) → Type 0
 PutsTerm format first before after bytes text rest = (e : TermEntry) × IsPut format first before after bytes text rest e
 

@@ -1,6 +1,7 @@
 ghost use Rattle.std.specs.Prelude.{◌≡◌, ◌≤◌, IfOk, IfSome, IsNone};
 ghost use Rattle.gcl_model.specs.Limits.{address_end};
-ghost use Rattle.image_read.specs.Reading.{HasNoAddresses, HasNoCount, HasNoNextAddress, IsAddressesFront, IsCountFront, IsNextAddress, SeesAll};
+ghost use Rattle.image_read.specs.Reading.{HasNoAddresses, HasNoCount, HasNoNextAddress, IsAddressesFront};
+ghost use Rattle.image_read.specs.Reading.{IsCountFront, IsNextAddress, SeesAll};
 
 use crate::front::{NumberFront, eight_in_front, packed_in_front};
 use crate::head::Head;
@@ -9,7 +10,7 @@ use image_file::Format;
 use posting_code::PackedMaker;
 use std::alloc::{AllocError, Global};
 
-/// The addresses of a term, which are seen. What comes after them is the rest behind the list.
+/// Reads the addresses of a term, and sees them. What comes after them is the rest behind the list.
 pub(crate) fn read_addresses<'a>(
     alloc: Global,
     head: Head,
@@ -19,7 +20,8 @@ pub(crate) fn read_addresses<'a>(
 ) -> Result<Option<PackedMaker<'a>>, AllocError>
     requires ordered { head.first ≤ head.next }
     requires in_range { head.next ≤ address_end }
-    ensures some { IfOk result (λ found. IfSome found (λ f. IsAddressesFront head.format head.first head.next places.old role bytes.now f.list f.rest)) }
+    ensures some { IfOk result
+        (λ found. IfSome found (λ f. IsAddressesFront head.format head.first head.next places.old role bytes.now f.list f.rest)) }
     ensures files { IfOk result (λ found. places.new.files ≡ places.old.files) }
     ensures sees { IfOk result (λ found. IfSome found (λ f. SeesAll places.old places.new f.list)) }
     ensures none { IfOk result (λ found. IsNone found → HasNoAddresses head.format head.first head.next places.old role bytes.now) }
@@ -49,7 +51,7 @@ struct AddressFront<'a> {
     rest: &'a [u8],
 }
 
-/// The next address of a term, which is seen: it is at least `least`, and the bytes have its difference from the one before.
+/// Reads the next address of a term, and sees it: it is at least `least`, and the bytes have its difference from the one before.
 #[inline(always)]
 fn next_address<'a>(
     head: Head,

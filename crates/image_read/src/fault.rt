@@ -10,7 +10,7 @@ pub enum ImageFault {
     /// The bytes are the image of no collection, in no version of the format.
     #[error("not an image")]
     NotImage,
-    /// There is no memory for the collection that they say.
+    /// There is not enough memory for the collection that they spell.
     #[error("out of memory")]
     NoMemory,
 }

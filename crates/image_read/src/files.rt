@@ -36,7 +36,7 @@ pub(crate) struct FilesFront<'a> {
     pub(crate) rest: &'a [u8],
 }
 
-/// As many files as the head says, where they fill its addresses up.
+/// As many files as the head says, if they fill its addresses.
 pub(crate) fn read_files<'a>(
     alloc: Global,
     head: Head,
@@ -151,7 +151,8 @@ fn short_file(least: Least, bytes: &[u8]) -> Option<FileFront<'_>>
 
 /// Whether the file may be the next one.
 fn fits(head: Head, least: Least, file: FileFront<'_>) -> bool
-    ensures { IsTrue result ↔ IsNextFile head.next head.next_id least.id least.base (entry file.entry.id file.entry.base file.entry.len file.entry.name.now) }
+    ensures { IsTrue result ↔ IsNextFile head.next head.next_id least.id least.base
+        (entry file.entry.id file.entry.base file.entry.len file.entry.name.now) }
 {
     least.id <= file.id
         && file.id < head.next_id
@@ -163,7 +164,7 @@ fn fits(head: Head, least: Least, file: FileFront<'_>) -> bool
         && is_name(file.name)
 }
 
-/// Whether so many addresses may lie between two files whose ids leave out so many.
+/// Whether `addresses` addresses may lie between two files that leave out `ids` ids between theirs.
 fn fits_hole(addresses: u64, ids: u64) -> bool
     ensures { IsTrue result ↔ FitsHole addresses ids }
 {

@@ -18,7 +18,7 @@ pub(crate) struct TextFront<'a> {
     pub(crate) rest: &'a [u8],
 }
 
-/// So many bytes, where there are so many.
+/// `len` bytes, if there are that many.
 pub(crate) fn text_of_len(bytes: &[u8], len: u64) -> Option<TextFront<'_>>
     ensures some { IfSome result (λ f. IsText len bytes.now f.text.now f.rest.now) }
     ensures none { IsNone result → length bytes.now < len }

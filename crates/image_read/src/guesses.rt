@@ -3,7 +3,7 @@ ghost use Rattle.std.specs.Prelude.{◌<◌};
 use crate::places::Stretch;
 use std::alloc::{AllocError, Global};
 
-/// Guesses of the file that an address is in. Nothing is promised of them: whoever asks looks whether a guess is right.
+/// Guesses of the file that an address is in. No contract says anything about them: the caller checks whether a guess is right.
 // The addresses are cut into parts of equal length, about two for each file, and for each part the file of its first address is noted.
 #[derive(Drop)]
 pub(crate) struct Guesses {
@@ -52,7 +52,7 @@ fn ends_of(stretches: &[Stretch]) -> (u64, u64) {
     }
 }
 
-/// Notes a file for all of the first parts that have none.
+/// Notes a file for each of the first `count` parts that has none.
 fn note(parts: &mut Vec<usize>, file: usize, count: usize) -> Result<(), AllocError> {
     if parts.len() < count {
         parts.resize(count, file)?;
@@ -60,7 +60,7 @@ fn note(parts: &mut Vec<usize>, file: usize, count: usize) -> Result<(), AllocEr
     Ok(())
 }
 
-/// The least power of two by which a length is cut into at most so many parts.
+/// The least power of two by which `length + 1` addresses are cut into at most `most + 1` parts.
 fn power_for(length: u64, most: u64) -> u32
     ensures { result < 64 }
 {

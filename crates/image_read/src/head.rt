@@ -23,7 +23,7 @@ pub(crate) struct HeadFront<'a> {
     pub(crate) rest: &'a [u8],
 }
 
-/// The head, where the first address and the number of ids lie within what the last address allows.
+/// The head, if the first address and the number of ids lie within what the last address allows.
 pub(crate) fn head_in_front(bytes: &[u8]) -> Option<HeadFront<'_>>
     ensures some { IfSome result (λ f. IsHead f.head.format f.head.first f.head.next f.head.next_id f.head.files bytes.now f.rest.now) }
     ensures none { IsNone result → HasNoHead bytes.now }

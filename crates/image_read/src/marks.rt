@@ -23,7 +23,7 @@ impl Model for Marks {
 }
 
 impl Marks {
-    /// So many marks, of which none is set.
+    /// `count` marks, none of which is set.
     pub(crate) fn new(alloc: Global, count: usize) -> Result<Self, AllocError>
         ensures { IfOk result (λ marks. marks ≡ replicate count false) }
     {
@@ -62,7 +62,7 @@ impl Marks {
         self.marked_from(64 * whole)
     }
 
-    /// Whether the marks from a place on are set.
+    /// Whether the marks starting at a place are set.
     fn marked_from(&self, at: usize) -> bool
         ensures { IsTrue result ↔ ((i : ℕ) → at ≤ i → i < length self.now → get_or self.now i false ≡ true) }
     {

@@ -12,7 +12,7 @@ use address_space::{FileRecord, SharedRecord};
 use std::alloc::{AllocError, Global};
 use std::marker::Model;
 
-/// What stands at an address of a file.
+/// What is at an address of a file.
 #[derive(Clone, Copy, Debug, PartialEq, Eq)]
 pub(crate) enum Role {
     /// `<file!>`.
@@ -32,7 +32,7 @@ pub(crate) struct Stretch {
 }
 
 /// The addresses of all files, and at which of them a word was seen.
-// Most addresses of a term are in the file of the one before, which is kept apart. The others are looked for among the stretches.
+// Most addresses of a term are in the file of the one before, which is kept separately. The others are searched for among the stretches.
 #[derive(Drop)]
 pub(crate) struct Places<'a> {
     files: &'a [SharedRecord],
@@ -55,7 +55,7 @@ impl<'a> Model for Places<'a> {
 }
 
 impl<'a> Places<'a> {
-    /// Nothing was seen yet. There are none where the files have more than `most` addresses.
+    /// Nothing was seen yet. Returns None if the files have more than `most` addresses.
     pub(crate) fn new(
         alloc: Global,
         files: &'a [SharedRecord],
@@ -87,7 +87,7 @@ impl<'a> Places<'a> {
         }))
     }
 
-    /// Sees a word with this role at an address. False where no file has the address, it has another role, or a word was seen there.
+    /// Sees a word with this role at an address. Returns false if no file has the address, it has another role, or a word was seen there.
     #[inline(always)]
     pub(crate) fn see(&mut self, address: u64, role: Role) -> bool
         ensures may { IsTrue result → role_in self.old.files address ≡ Some role }
@@ -106,8 +106,8 @@ impl<'a> Places<'a> {
         true
     }
 
-    /// How many addresses of the files come before one of this role. None where the address has not this role.
-    // Between the ends of the file that is near stand tokens alone.
+    /// How many addresses of the files come before one of this role. Returns None if the address does not have this role.
+    // Between the ends of the near file there are tokens alone.
     #[inline(always)]
     fn rank_of(&mut self, address: u64, role: Role) -> Option<usize>
         ensures some { IfSome result (λ at. IsRankOf self.old.files self.old.seen address role at) }
@@ -121,7 +121,7 @@ impl<'a> Places<'a> {
         self.look_for(address, role)
     }
 
-    /// The same in any file. That file is near afterwards.
+    /// The same in any file, which is the near one afterwards.
     #[inline(never)]
     fn look_for(&mut self, address: u64, role: Role) -> Option<usize>
         ensures some { IfSome result (λ at. IsRankOf self.old.files self.old.seen address role at) }
@@ -149,7 +149,7 @@ impl<'a> Places<'a> {
     }
 }
 
-/// How many stretches are tried from a guess on.
+/// How many stretches are tried starting at a guess.
 const GUESSES: usize = 4;
 
 /// No file: no address lies between its ends.
@@ -171,7 +171,7 @@ fn stretch_of(file: &FileRecord, before: usize) -> Stretch
 }
 
 /// How many stretches end before an address: they are the first ones.
-// The stretch behind the last one is tried, then a few at a guess. All of them are searched only where none of these is the one.
+// The stretch behind the last one is tried, then a few at a guess. All of them are searched only if none of these is the right one.
 fn ended_by(stretches: &[Stretch], guesses: &Guesses, place: usize, address: u64) -> usize
     requires { AreInRow stretches.now }
     ensures value { result ≡ prefix_len (ends_before address) stretches.now }

@@ -21,8 +21,8 @@ use live_version::{Slot, Version};
 use std::alloc::{AllocError, Global};
 
 /// The version that the bytes are an image of, in either version of the format, as it is when it was just opened: one slot from the
-/// first file to the last, or none. `NotImage` comes exactly where the bytes are the image of no collection, so `b"GCLIMG02"`
-/// alone gives it.
+/// first file to the last, or none. Unless memory runs out, it returns `NotImage` exactly if the bytes are the image of no collection,
+/// so `b"GCLIMG02"` alone gives it.
 pub fn read_image(alloc: Global, bytes: &[u8]) -> Result<Version, ImageFault>
     ensures ok { IfOk result (λ version. IsImageOf bytes.now version) }
     ensures not_image { IsErrOf result NotImage → IsNoImage bytes.now }
@@ -33,7 +33,7 @@ pub fn read_image(alloc: Global, bytes: &[u8]) -> Result<Version, ImageFault>
     }
 }
 
-/// The same, with none where the bytes are no image.
+/// The same, with None if the bytes are no image.
 fn found_in(alloc: Global, bytes: &[u8]) -> Result<Option<Version>, AllocError>
     ensures some { IfOk result (λ found. IfSome found (λ version. IsImageOf bytes.now version)) }
     ensures none { IfOk result (λ found. IsNone found → IsNoImage bytes.now) }
@@ -59,7 +59,8 @@ fn version_of(
     requires files { AreAllFiles head.next head.next_id 0 head.first front.files }
     ensures some { IfOk result (λ found. IfSome found (λ v.
         IsReadFrom head.format head.first head.next head.next_id front.entry.files front.entry.rest.now v)) }
-    ensures none { IfOk result (λ found. IsNone found → HasNoTerms head.format head.first head.next front.entry.files front.entry.rest.now) }
+    ensures none { IfOk result (λ found. IsNone found →
+        HasNoTerms head.format head.first head.next front.entry.files front.entry.rest.now) }
 {
     let Some(range) = range_of_files(&front) else {
         return empty_version(alloc, head, front.rest);
@@ -82,7 +83,8 @@ fn shard_of(
     requires ordered { head.first ≤ head.next }
     requires in_range { head.next ≤ address_end }
     requires range { IsRangeOf range front.now.files }
-    ensures some { IfOk result (λ found. IfSome found (λ shard. AreReadTerms head.format head.first head.next front.now.files front.now.rest.now shard.table)) }
+    ensures some { IfOk result
+        (λ found. IfSome found (λ shard. AreReadTerms head.format head.first head.next front.now.files front.now.rest.now shard.table)) }
     ensures range { IfOk result (λ found. IfSome found (λ shard. shard.range ≡ range)) }
     ensures shard { IfOk result (λ found. IfSome found IsShard) }
     ensures none { IfOk result (λ found. IsNone found → HasNoTerms head.format head.first head.next front.now.files front.now.rest.now) }

@@ -27,7 +27,7 @@ struct TermFront<'a> {
     rest: &'a [u8],
 }
 
-/// As many terms as the bytes say and nothing after them, where the words of all terms fill the places.
+/// As many terms as the bytes say and nothing after them, if the words of all terms fill the places.
 pub(crate) fn read_terms(
     alloc: Global,
     head: Head,
@@ -39,7 +39,8 @@ pub(crate) fn read_terms(
     requires in_range { head.next ≤ address_end }
     requires range { IsRangeOf range places.old.files }
     requires unseen { (p : ℕ) → is_seen places.old p ≡ false }
-    ensures some { IfOk result (λ found. IfSome found (λ shard. AreReadTerms head.format head.first head.next places.old.files bytes.now shard.table)) }
+    ensures some { IfOk result
+        (λ found. IfSome found (λ shard. AreReadTerms head.format head.first head.next places.old.files bytes.now shard.table)) }
     ensures range { IfOk result (λ found. IfSome found (λ shard. shard.range ≡ range)) }
     ensures shard { IfOk result (λ found. IfSome found IsShard) }
     ensures none { IfOk result (λ found. IsNone found → HasNoTerms head.format head.first head.next places.old.files bytes.now) }
@@ -63,14 +64,14 @@ pub(crate) fn read_terms(
     Ok(Some(maker.finish()))
 }
 
-/// Whether nothing follows, and each address of the files stands under a term.
+/// Whether nothing follows, and each address of the files is listed under a term.
 fn is_end(rest: &[u8], places: &Places<'_>) -> bool
     ensures { IsTrue result ↔ (rest.now ≡ []) × ((p : ℕ) → is_of_files places.now.files p ≡ true → is_seen places.now p ≡ true) }
 {
     rest.is_empty() && places.is_full()
 }
 
-/// Puts the next term with its addresses after the others.
+/// Appends the next term with its addresses.
 fn next_term<'a>(
     alloc: Global,
     head: Head,
@@ -84,11 +85,13 @@ fn next_term<'a>(
     requires range { IsRangeOf maker.old.range places.old.files }
     requires last { option_map (λ t. t.now) last ≡ last_term maker.old.table }
     requires holds { HoldsTerms head.format head.first head.next places.old maker.old.table }
-    ensures some { IfOk result (λ found. IfSome found (λ f. PutsTerm head.format head.first maker.old.table maker.new.table bytes.now f.text.now f.rest.now)) }
+    ensures some { IfOk result
+        (λ found. IfSome found (λ f. PutsTerm head.format head.first maker.old.table maker.new.table bytes.now f.text.now f.rest.now)) }
     ensures range { IfOk result (λ found. maker.new.range ≡ maker.old.range) }
     ensures files { IfOk result (λ found. places.new.files ≡ places.old.files) }
     ensures holds { IfOk result (λ found. IfSome found (λ f. HoldsTerms head.format head.first head.next places.new maker.new.table)) }
-    ensures none { IfOk result (λ found. IsNone found → HasNoNextTerm head.format head.first head.next places.old.files maker.old.table bytes.now) }
+    ensures none { IfOk result (λ found. IsNone found →
+        HasNoNextTerm head.format head.first head.next places.old.files maker.old.table bytes.now) }
 {
     let Some(term) = term_in_front(head.format, last, bytes) else {
         return Ok(None);
@@ -104,7 +107,7 @@ fn next_term<'a>(
     }))
 }
 
-/// Puts a term after the others. A list of one block is copied from the bytes to where those of all terms are.
+/// Appends a term. A list of one block is copied from the bytes to where those of all terms are.
 fn put_list(
     alloc: Global,
     maker: &mut ShardMaker,
@@ -114,7 +117,8 @@ fn put_list(
     requires rising { IfSome (last_entry maker.old.table) (λ last. ComesBefore last.term term.now) }
     requires postings { ArePostingsIn maker.old.range list.list }
     requires apart { AllByRecursion (λ entry. AreApart entry.addresses list.list) maker.old.table }
-    ensures ok { OnOk result (maker.new ≡ record maker.old { table = maker.old.table ++ record { term = term.now; addresses = list.entry.list } ∷ [] }) }
+    ensures ok { OnOk result
+        (maker.new ≡ record maker.old { table = maker.old.table ++ record { term = term.now; addresses = list.entry.list } ∷ [] }) }
     ensures err { OnErr result (maker.new ≡ maker.old) }
 {
     if list.len() > BLOCK {
@@ -124,7 +128,7 @@ fn put_list(
     maker.push_parts(head_of(term), term, &[list.as_block()])
 }
 
-/// The term at the front of some bytes, where it comes after the last one.
+/// The term at the front of some bytes, if it comes after the last one.
 fn term_in_front<'a>(
     format: Format,
     last: Option<&'a [u8]>,
@@ -158,7 +162,7 @@ fn comes_behind(last: Option<&[u8]>, term: &[u8]) -> bool
     }
 }
 
-/// What a term stands for, and none where it is no term.
+/// What a term stands for, or None if it is no term.
 fn role_of(term: &[u8]) -> Option<Role>
     ensures some { IfSome result (λ role. HasRole term.now role) }
     ensures none { IsNone result → (role : Role) → HasRole term.now role → ⊥ }

@@ -29,7 +29,7 @@ pub at_least : (n h : ℕ) → h ≤ leading n h []
 at_least zero h = omega arith
 at_least (suc n) h = let more = at_least n (h * 256) in omega (arith, more)
 
--- where the numbers differ, they tell the order
+-- if the numbers differ, they decide the order
 heads_tell : (n h : ℕ) (a b : List ℕ) → AreBytes a → AreBytes b → leading n h a < leading n h b → slice_cmp nat_cmp a b ≡ Less
 heads_tell zero h a b first second lt = absurd (omega (arith, lt))
 heads_tell (suc n) h [] [] first second lt = absurd (omega (arith, lt))
@@ -58,7 +58,7 @@ next_cmp a b =
       ]
     ]
 
--- where the numbers are equal and tell all bytes of one, the shorter one comes first
+-- if the numbers are equal and have all bytes of one, the shorter one comes first
 pub shorter_first : (n h : ℕ) (a b : List ℕ) → AreBytes a → AreBytes b → length a ≤ n → leading n h a ≡ leading n h b → nat_cmp (length a) (length b) ≡ slice_cmp nat_cmp a b
 shorter_first n h [] [] first second few same = refl
 shorter_first n h [] (y ∷ ys) first second few same = sym (nat_cmp_is 0 (suc (length ys)) Less (omega arith))

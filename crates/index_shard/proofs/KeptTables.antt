@@ -29,7 +29,7 @@ part_bytes (x ∷ xs) zero zero bytes k = omega arith
 part_bytes (x ∷ xs) zero (suc size) bytes zero = bytes 0
 part_bytes (x ∷ xs) zero (suc size) bytes (suc k) = part_bytes xs zero size (λ j. bytes (suc j)) k
 
--- the order that an entry tells is that of its term
+-- the order that an entry shows is that of its term
 pub kept_order : (bytes packed : List ℕ) (long : List (List ℕ)) (term : List ℕ) (head : ℕ) (e : Entry) → AreBytes bytes → AreBytes term → head ≡ leading 8 0 term → IsTermIn bytes e →
     order_in bytes head term e ≡ slice_cmp nat_cmp (entry_in bytes packed long e).term term
 kept_order bytes packed long term head e bs ts is kept =
@@ -47,7 +47,7 @@ order_here bytes packed long term head es k d f bs ts is kept lt =
 no_entry : Entry
 no_entry = record { head = 0; start = 0; size = 0; list = Long 0 }
 
--- halving may go over the entries where it may go over the table
+-- halving may search the entries if it may search the table
 pub kept_searchable : (bytes packed : List ℕ) (long : List (List ℕ)) (term : List ℕ) (head : ℕ) (es : List Entry) → AreBytes bytes → AreBytes term → head ≡ leading 8 0 term → AllByRecursion (IsTermIn bytes) es →
     IsNonDecreasingBy (λ e. ordering_index (slice_cmp nat_cmp e.term term)) (table_in bytes packed long es) → IsNonDecreasingBy (λ e. ordering_index (order_in bytes head term e)) es
 kept_searchable bytes packed long term head es bs ts is kept rises i j d le lt =
@@ -72,7 +72,7 @@ kept_parted bytes packed long term head es i bs ts is kept le parted =
       λ k f low lt. let within : k < length es = omega (arith, lt, reach) in sym (order_here bytes packed long term head es k no_entry f bs ts is kept within) ∙ parted.1 k no_entry low within,
     )
 
--- what stands in a row stays there when more is added at the end
+-- what is in a row stays there when more is added at the end
 part_more : (bytes more : List ℕ) (start size : ℕ) → start + size ≤ length bytes → part_of (bytes ++ more) start size ≡ part_of bytes start size
 part_more bytes more start size le =
     let long = length-drop start bytes in
@@ -120,7 +120,7 @@ lists_more packed p long l (e ∷ es) are = (still_list packed p long l e.list a
 pub kept_more : (bytes b packed p : List ℕ) (long l : List (List ℕ)) (es : List Entry) → AreKeptIn bytes packed long es → AreKeptIn (bytes ++ b) (packed ++ p) (long ++ l) es
 kept_more bytes b packed p long l es are = record { terms = terms_more bytes b es are.terms; lists = lists_more packed p long l es are.lists }
 
--- what stands at a place of a table
+-- what is at a place of a table
 pub record IsEntryAt (table : List TermEntry) (i : ℕ) (entry : TermEntry) : Type 0 where
   pub addresses : addresses_at table i ≡ entry.addresses
   pub term : slice_get (map (λ (e : TermEntry). e.term) table) i ≡ Some entry.term

@@ -12,11 +12,11 @@ use Rattle.index_shard.specs.declared.parts.Ends.{Ends}
 pub ends_none : (ends : Ends) → ends.first ≡ 0 → ends.last ≡ 0 → ends.count ≡ 0 → AreEndsOf ends []
 ends_none ends first last count = record { first = first; last = last; count = count }
 
--- where nothing comes after it
+-- if nothing comes after it
 pub ends_same : (ends : Ends) (front list : List ℕ) → AreEndsOf ends front → 0 ≡ length list → AreEndsOf ends (front ++ list)
 ends_same ends front list are none = subst (AreEndsOf ends) (sym (ap (λ l. front ++ l) (nil_from_length list (sym none)) ∙ append-nil front)) are
 
--- where a list comes after nothing
+-- if a list comes after nothing
 pub ends_begin : (ends more : Ends) (front list : List ℕ) → AreEndsOf ends front → ends.count ≡ 0 → more.first ≡ get_or list 0 0 → more.last ≡ last_of list → more.count ≡ length list → AreEndsOf more (front ++ list)
 ends_begin ends more front list are none first last count =
     let counted = are.count in

@@ -58,7 +58,7 @@ all_apart : (e : TermEntry) (es : List TermEntry) → AllByRecursion (Precedes e
 all_apart e [] all = tt
 all_apart e (d ∷ ds) all = (all.0.addresses, all_apart e ds all.1)
 
--- a term stands in the table once
+-- a term is in the table once
 once : (e : TermEntry) (es : List TermEntry) (term : List ℕ) → AllByRecursion (Precedes e) es → bytes_eq e.term term ≡ true → postings_of es term ≡ []
 once e es term all is =
     let same : e.term ≡ term = (bytes_eq-Decides e.term term).0 is in
@@ -118,7 +118,7 @@ has_later x xs q lt =
       | inr e ↦ rw e refl
     ]
 
--- in a range from p on, rising addresses that tell where the term stands are its places
+-- in a range starting at p, rising addresses that show where the term is are its places
 places_from : (table : List TermEntry) (term : List ℕ) (n p : ℕ) (ps : List ℕ) → RiseWithin p (p + n) ps → ((q : ℕ) → p ≤ q → is_the_term term (term_at table q) ≡ has_address ps q) →
     places (flat_map (words_at table) (range_with_len p n)) term ≡ ps
 places_from table term zero p [] rise tells = refl
@@ -152,7 +152,7 @@ places_are_postings shard term is =
     (rise_wider first first (last + 1) (first + (last - first + 1)) (postings_of shard.table term) (postings_rise shard.range shard.table term is.table) (omega arith) (omega arith))
     (λ q le. term_at_tells shard.range shard.table term q is.table)
 
--- where each address from p on has the token of a list in turn, the words are those of the list
+-- if each address starting at p has the token of a list in turn, the words are those of the list
 pub words_in_turn : (table : List TermEntry) (n p : ℕ) (tokens : List (List ℕ)) → n ≡ length tokens →
     ((i : ℕ) → i < n → term_at table (p + i) ≡ Some (get_or tokens i [])) → flat_map (words_at table) (range_with_len p n) ≡ words_from p tokens
 words_in_turn table zero p [] is at = refl
@@ -178,7 +178,7 @@ rising_places next low (w ∷ ws) term rise =
       | inr e ↦ rw e (rise_wider (w.address + 1) low next next (places ws term) rest (omega (arith, le)) (omega arith))
     ]
 
--- where words rise each address stands once: no two terms have a place in common
+-- if words rise, each address occurs once: no two terms have a place in common
 pub rising_apart : (next low : ℕ) (words : List Word) (a b : List ℕ) → AreRisingBelow next low words → (a ≡ b → ⊥) → AreApart (places words a) (places words b)
 rising_apart next low [] a b rise other q has = refl
 rising_apart next low (w ∷ ws) a b rise other q has =

@@ -69,7 +69,7 @@ terms_rise range (x ∷ y ∷ ys) table (suc k) (suc j) d is lt = terms_rise ran
 not_before : (a b : List ℕ) → ComesBefore a b → is_lt (slice_cmp nat_cmp b a) ≡ false
 not_before a b before = ap is_lt (nat_list_cmp_total.antisymm b a ∙ ap ordering_reverse before)
 
--- halving by the terms may go over a table
+-- halving by the terms may search a table
 pub searchable : (range : SlotRange) (es : List TermEntry) (term : List ℕ) → IsTable range es → IsNonDecreasingBy (λ e. ordering_index (slice_cmp nat_cmp e.term term)) es
 searchable range es term table =
     searchable_from_sorted nat_list_cmp_total (λ e. e.term) es term
@@ -143,7 +143,7 @@ at_its_place es term i e = subst (AtPlace es term) e (at_place es term)
 abbrev pub names : List TermEntry → List (List ℕ)
 names es = map (λ (entry : TermEntry). entry.term) es
 
--- where the terms before a place fail a test and the one there passes, it is the first that does
+-- if the terms before a place fail a test and the one there passes, it is the first that does
 found_at : (p : List ℕ → Bool) (es : List TermEntry) (i : ℕ) → ((k : ℕ) (d : TermEntry) → k < i → k < length es → p (get_or es k d).term ≡ false) →
     ((d : TermEntry) → i < length es → p (get_or es i d).term ≡ true) → slice_get (names es) i ≡ find p (names es)
 found_at p [] zero before there = refl

@@ -1,4 +1,4 @@
--- Tables, computed: `to be or not to be` from address 1 on.
+-- Tables, computed: `to be or not to be` starting at address 1.
 use Rattle.std.proofs.Common.{◌≡◌, ◌+◌, ◌*◌, true, false, List, [], ◌∷◌, map, codes, Some, None, refl}
 use Rattle.gcl_model.specs.Slots.{slot_range}
 use Rattle.gcl_model.specs.Texts.{places}
@@ -49,7 +49,7 @@ place_of-missing = refl
 addresses_at-last : addresses_at hamlet 3 ≡ 1 ∷ 5 ∷ []
 addresses_at-last = refl
 
--- the least term from a bound on, above it, and after the last
+-- the least term at or after a bound, above it, and after the last
 least_term-from : least_term hamlet (codes "bee") false ≡ Some (codes "not")
 least_term-from = refl
 

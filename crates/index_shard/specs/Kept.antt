@@ -1,5 +1,5 @@
--- How a shard keeps its terms, for this crate alone but for the first two: their bytes in one row, the packed differences of short lists in
--- another one, and longer lists in rows of theirs.
+-- How a shard keeps its terms, for this crate alone except the first two: their bytes in one row, the packed differences of short lists
+-- in another one, and longer lists in rows of theirs.
 use Rattle.std.specs.Prelude.{◌≡◌, ℕ, zero, suc, ◌+◌, ◌*◌, ◌<◌, ◌≤◌, List, [], ◌∷◌, length, map, take, drop, get_or}
 use Rattle.std.specs.List.{AllByRecursion}
 use Rattle.std.specs.Ordering.{nat_cmp, ordering_then}
@@ -24,11 +24,11 @@ leading (suc n) before (b ∷ bs) = leading n (before * 256 + b) bs
 abbrev pub AreBytes : List ℕ → Type 0
 AreBytes bytes = (k : ℕ) → get_or bytes k 0 < 256
 
--- the part of a row of bytes: of 1, 2, 3, 4 the two from place 1 on are 2, 3
+-- the part of a row of bytes: of 1, 2, 3, 4 the two starting at place 1 are 2, 3
 abbrev pub part_of : List ℕ → ℕ → ℕ → List ℕ
 part_of bytes start size = take size (drop start bytes)
 
--- the addresses that are kept: up to 64 by a part of the packed differences, and more as one of the lists
+-- the addresses that are kept: up to 64 as a part of the packed differences, and more as one of the lists
 abbrev pub list_in : List ℕ → List (List ℕ) → Kept → List ℕ
 list_in packed long (Short first last at size count) = kept count first (part_of packed at size)
 list_in packed long (Long place) = get_or long place []
@@ -56,7 +56,7 @@ pub record AreKeptIn (bytes packed : List ℕ) (long : List (List ℕ)) (entries
   pub terms : AllByRecursion (IsTermIn bytes) entries
   pub lists : AllByRecursion (λ (entry : Entry). IsListIn packed long entry.list) entries
 
--- the order of an entry's term to another one, of which the first eight bytes are given: these decide where they differ
+-- the order of an entry's term to another one, whose first eight bytes are given: these decide if they differ
 abbrev pub order_in : List ℕ → ℕ → List ℕ → Entry → Ordering
 order_in bytes head term entry = ordering_then (nat_cmp entry.head head) (slice_cmp nat_cmp (part_of bytes entry.start entry.size) term)
 
@@ -66,7 +66,7 @@ pub record AreEndsOf (ends : Ends) (addresses : List ℕ) : Type 0 where
   pub last : ends.last ≡ last_of addresses
   pub count : ends.count ≡ length addresses
 
--- the addresses are kept by a part of the packed differences
+-- the addresses are kept as a part of the packed differences
 pub record IsPutShort (packed : List ℕ) (addresses : List ℕ) (list : Kept) : Type 0 where
   pub is : (long : List (List ℕ)) → list_in packed long list ≡ addresses
   pub within : (long : List (List ℕ)) → IsListIn packed long list

@@ -10,6 +10,6 @@ abbrev pub nearest : Direction → List ℕ → ℕ → Option ℕ
 nearest Forward postings k = least_from postings k
 nearest Backward postings k = greatest_to postings k
 
--- the nearest address of a term from k on or up to k: of "to" at 1 and 5, from 2 on it is 5
+-- the nearest address of a term at or after k, or up to k: of "to" at 1 and 5, at or after 2 it is 5
 abbrev pub look_up : List TermEntry → List ℕ → ℕ → Direction → Option ℕ
 look_up table term k direction = nearest direction (postings_of table term) k

@@ -21,7 +21,7 @@ pub record ShardContent : Type 0 where
   pub range : SlotRange
   pub table : List TermEntry
 
--- byte order: the first byte that differs decides, and else the shorter comes first
+-- byte order: the first byte that differs decides, and otherwise the shorter comes first
 abbrev pub ComesBefore : List ℕ → List ℕ → Type 0
 ComesBefore a b = slice_cmp nat_cmp a b ≡ Less
 
@@ -38,7 +38,7 @@ pub record ArePostingsIn (range : SlotRange) (addresses : List ℕ) : Type 0 whe
   pub some : 0 < length addresses
   pub rising : RiseWithin range.first (range.last + 1) addresses
 
--- an earlier entry of a table: its term comes before, and no address stands under both
+-- an earlier entry of a table: its term comes before, and no address is listed under both
 pub record Precedes (first second : TermEntry) : Type 0 where
   pub terms : ComesBefore first.term second.term
   pub addresses : AreApart first.addresses second.addresses
@@ -60,12 +60,12 @@ last_entry [] = None
 last_entry (entry ∷ []) = Some entry
 last_entry (entry ∷ next ∷ entries) = last_entry (next ∷ entries)
 
--- the postings of a term: none where the table does not have it
+-- the postings of a term: none if the table does not have it
 abbrev pub postings_of : List TermEntry → List ℕ → List ℕ
 postings_of [] term = []
 postings_of (entry ∷ entries) term = if bytes_eq entry.term term then entry.addresses else postings_of entries term
 
--- the postings of the entry at place i: none where there is no such place
+-- the postings of the entry at place i: none if there is no such place
 abbrev pub addresses_at : List TermEntry → ℕ → List ℕ
 addresses_at [] i = []
 addresses_at (entry ∷ entries) zero = entry.addresses
@@ -87,12 +87,12 @@ words_of shard =
     flat_map (λ p. option_to_list (option_map (λ term. record { address = p; token = term }) (term_at shard.table p)))
     (range_with_len shard.range.first (shard.range.last - shard.range.first + 1))
 
--- whether a term of this order to another one is looked for from that one on: an equal one is unless only later ones are
+-- whether a term of this order to a lower bound is at or after it, or after it if strict
 abbrev pub comes_from : Bool → Ordering → Bool
 comes_from strict Less = false
 comes_from strict Equal = if strict then false else true
 comes_from strict Greater = true
 
--- the least term of a table that is at least low, or above it where strict: of be, not, or and to it is not from "bee" on
+-- the least term of a table that is at least low, or above it if strict: of be, not, or and to the least that is at least "bee" is not
 abbrev pub least_term : List TermEntry → List ℕ → Bool → Option (List ℕ)
 least_term entries low strict = find (λ term. comes_from strict (slice_cmp nat_cmp term low)) (map (λ (entry : TermEntry). entry.term) entries)

@@ -4,8 +4,8 @@ ghost use Rattle.index_shard.specs.Kept.{AreBytes, IsListIn, leading, list_in, m
 use posting_code::{PostingRows, Postings};
 use std::cmp::Ordering;
 
-/// Where a term stands among the bytes of all terms, and where its postings are kept.
-// The first eight bytes stand here once more as one number: most comparisons end with it, and touch no other memory.
+/// Where a term is among the bytes of all terms, and where its postings are kept.
+// The first eight bytes are stored here once more as one number: most comparisons end with it, and touch no other memory.
 #[derive(Clone, Copy)]
 pub(crate) struct Entry {
     pub(crate) head: u64,
@@ -14,8 +14,8 @@ pub(crate) struct Entry {
     pub(crate) list: Kept,
 }
 
-/// Where the postings of a term are kept: up to 64 of them by their packed differences, which stand among those of all terms, and
-/// more by the place of their list among the long ones.
+/// Where the postings of a term are kept: up to 64 as packed differences among those of all terms, and more by the place of their list
+/// among the long ones.
 // Most terms have few postings, and a table of thousands of them takes six pieces of memory.
 #[derive(Clone, Copy)]
 pub(crate) enum Kept {
@@ -62,7 +62,7 @@ impl Entry {
 }
 
 impl Kept {
-    /// Where the same postings are kept once they are moved up. A long list is moved where it stands.
+    /// Where the same postings are kept once they are moved up. A long list keeps its place.
     fn moved(self, by: u64) -> Kept
         ensures { result ≡ moved_kept by self }
     {
@@ -85,7 +85,7 @@ impl Kept {
     }
 }
 
-/// Moves the postings of some entries up, but for those in long lists.
+/// Moves the postings of some entries up, except those in long lists.
 pub(crate) fn move_entries(entries: &mut [Entry], by: u64)
     ensures { entries.new ≡ map (moved_entry by) entries.old }
 {
@@ -112,7 +112,7 @@ pub(crate) fn lent<'a>(packed: &'a [u8], long: &'a PostingRows, list: Kept) -> P
     }
 }
 
-/// So many bytes from a place on, as far as there are any.
+/// `size` bytes starting at a place, as far as there are any.
 #[inline]
 fn part(bytes: &[u8], start: usize, size: usize) -> &[u8]
     ensures { result.now ≡ part_of bytes.now start size }

@@ -19,7 +19,7 @@ pub(crate) fn find_place(bytes: &[u8], entries: &[Entry], term: &[u8]) -> Option
     }
 }
 
-/// The place of the least term that is at least `low`, or above it with `strict`: the end where there is none.
+/// The place of the least term that is at least `low`, or above it with `strict`: the end if there is none.
 pub(crate) fn place_from(bytes: &[u8], entries: &[Entry], low: &[u8], strict: bool) -> usize
     requires { AllByRecursion (IsTermIn bytes.now) entries.now }
     ensures { (packed : List ℕ) (long : List (List ℕ)) (range : SlotRange) → IsTable range (table_in bytes.now packed long entries.now)

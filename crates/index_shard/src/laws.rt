@@ -5,7 +5,7 @@ pub fn postings_are_places()
     ensures { PostingsArePlaces }
 {}
 
-/// The words of a shard stand at rising addresses of its range.
+/// The words of a shard are at rising addresses of its range.
 pub fn words_rise()
     ensures { WordsRise }
 {}

@@ -1,11 +1,11 @@
 //! The index of a range of addresses: its terms in rising byte order, each with its postings.
 //!
 //! Contracts see a `Shard` as a range and a table from terms to lists of addresses inside the range. No list is empty,
-//! and no address stands under two terms.
+//! and no address is listed under two terms.
 //!
 //! The layer above looks terms up, one step each, and walks over the postings of one term after the other. By the laws
-//! here that is the same as to look among the words of the shard (`words_of`). In the shard of `to be or not to be` at
-//! the addresses from 1 on, `to` looked up forward at 2 gives 5.
+//! here that is the same as searching the words of the shard (`words_of`). In the shard of `to be or not to be` at the
+//! addresses starting at 1, `to` looked up forward at 2 gives 5.
 #![tactic(auto)]
 
 mod entry;

@@ -34,7 +34,7 @@ impl ShardMaker {
         ensures range { result.range ≡ range }
         ensures table { result.table ≡ [] }
     {
-        // any look at a range tells that it is one
+        // reading a field of a range shows that it is one
         let _ = &range.first;
         ShardMaker {
             range,
@@ -42,39 +42,41 @@ impl ShardMaker {
         }
     }
 
-    /// Makes room for so much more, so that the rows need not be moved while they grow. What is not used is given back in the end.
+    /// Reserves this much more room, so that the rows need not be moved while they grow. Unused room is given back at the end.
     pub fn reserve(&mut self, room: Room) -> Result<(), AllocError>
         ensures { self.new ≡ self.old }
     {
         self.table.reserve(room)
     }
 
-    /// Puts a term with its postings after the others.
+    /// Appends a term with its postings.
     pub fn push_term(&mut self, term: &[u8], addresses: &[u64]) -> Result<(), AllocError>
         requires rising { IfSome (last_entry self.old.table) (λ last. ComesBefore last.term term.now) }
         requires postings { ArePostingsIn self.old.range addresses.now }
         requires apart { AllByRecursion (λ entry. AreApart entry.addresses addresses.now) self.old.table }
-        ensures ok { OnOk result (self.new ≡ record self.old { table = self.old.table ++ record { term = term.now; addresses = addresses.now } ∷ [] }) }
+        ensures ok { OnOk result
+            (self.new ≡ record self.old { table = self.old.table ++ record { term = term.now; addresses = addresses.now } ∷ [] }) }
         ensures err { OnErr result (self.new ≡ self.old) }
     {
         let postings = encode(self.table.alloc(), addresses)?;
         self.push_list(term, postings)
     }
 
-    /// Puts a term after the others with postings that are handed over.
+    /// Appends a term with postings that are handed over.
     pub fn push_list(&mut self, term: &[u8], postings: PostingList) -> Result<(), AllocError>
         requires rising { IfSome (last_entry self.old.table) (λ last. ComesBefore last.term term.now) }
         requires postings { ArePostingsIn self.old.range postings }
         requires apart { AllByRecursion (λ entry. AreApart entry.addresses postings) self.old.table }
-        ensures ok { OnOk result (self.new ≡ record self.old { table = self.old.table ++ record { term = term.now; addresses = postings } ∷ [] }) }
+        ensures ok { OnOk result
+            (self.new ≡ record self.old { table = self.old.table ++ record { term = term.now; addresses = postings } ∷ [] }) }
         ensures err { OnErr result (self.new ≡ self.old) }
     {
         self.table.push(term, postings)?;
         Ok(())
     }
 
-    /// The same with the postings of several lists, each after those before, and the first bytes of the term as a number, as `head_of` gives
-    /// it. None of the lists is unpacked.
+    /// The same with the postings of several lists, each after those before, and the first bytes of the term as a number, as `head_of`
+    /// gives it. None of the lists is unpacked.
     #[inline]
     pub fn push_parts(
         &mut self,
@@ -86,7 +88,8 @@ impl ShardMaker {
         requires rising { IfSome (last_entry self.old.table) (λ last. ComesBefore last.term term.now) }
         requires postings { ArePostingsIn self.old.range (concat parts.now) }
         requires apart { AllByRecursion (λ entry. AreApart entry.addresses (concat parts.now)) self.old.table }
-        ensures ok { OnOk result (self.new ≡ record self.old { table = self.old.table ++ record { term = term.now; addresses = concat parts.now } ∷ [] }) }
+        ensures ok { OnOk result
+            (self.new ≡ record self.old { table = self.old.table ++ record { term = term.now; addresses = concat parts.now } ∷ [] }) }
         ensures err { OnErr result (self.new ≡ self.old) }
     {
         self.table.push_parts(head, term, parts)?;

@@ -57,7 +57,7 @@ fn ends_behind(ends: Ends, list: &Postings<'_>) -> Ends
     }
 }
 
-/// Puts the packed differences of up to 64 addresses after those of others, and gives where they stand.
+/// Appends the packed differences of up to 64 addresses to those of others, and returns where they are kept.
 #[inline]
 pub(crate) fn put_short(
     packed: &mut Vec<u8>,
@@ -82,7 +82,7 @@ pub(crate) fn put_short(
     })
 }
 
-/// Puts an entry after the others, and its term after the bytes of theirs.
+/// Appends an entry, and its term to the bytes of the others.
 #[inline(always)]
 pub(crate) fn put_entry(
     bytes: &mut Vec<u8>,

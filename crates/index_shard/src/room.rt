@@ -1,6 +1,6 @@
 use posting_code::RowsRoom;
 
-/// What a table takes: so many terms, so many bytes of them, so many of packed differences of lists of up to 64, and the rows of longer lists.
+/// The room of a table: the numbers of terms, of their bytes and of bytes of packed differences of lists of up to 64, and the longer lists.
 #[derive(Clone, Copy)]
 pub struct Room {
     pub terms: usize,
@@ -10,7 +10,7 @@ pub struct Room {
 }
 
 impl Room {
-    /// The room of both, as far as numbers go.
+    /// The room of both, each number at most the greatest `usize`.
     pub fn and(self, other: Room) -> Room {
         Room {
             terms: self.terms.saturating_add(other.terms),
@@ -21,7 +21,7 @@ impl Room {
     }
 }
 
-/// The room for long lists in a table that is made of tables with this room in all: a long list may take over what short ones had, and has a
+/// The room for long lists in a table that is made of tables with this room in all: a long list may take in short ones, and has a
 /// step between any two.
 pub(crate) fn long_room(room: Room) -> RowsRoom {
     if room.long.lists == 0 {

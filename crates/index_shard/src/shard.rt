@@ -78,7 +78,7 @@ impl Shard {
         unprobed::<L, Brand>(self, term, k, direction, steps, Blank::new(1))
     }
 
-    /// The same, with the probes of first addresses counted beside the step.
+    /// The same, with the probes of first addresses counted as well as the step.
     pub fn look_up_probed<L: Ledger, P: Ledger>(
         &self,
         term: &[u8],
@@ -127,7 +127,7 @@ impl Shard {
         self.table.len()
     }
 
-    /// What its table takes, so that room for as much can be made.
+    /// The room of its table, so that as much can be reserved.
     pub fn room(&self) -> Room
         ensures terms { result.terms ≡ length self.now.table }
         ensures shard { IsShard self.now }
@@ -166,7 +166,7 @@ impl Shard {
         self.table.term_from(low, strict)
     }
 
-    /// The postings of the term at place `i`, from the first on.
+    /// The postings of the term at place `i`, starting at the first.
     pub fn walk(&self, i: usize) -> Walk<'_>
         requires { i < length self.now.table }
         ensures value { slice_get (map (λ (entry : TermEntry). entry.addresses) self.now.table) i ≡ Some result }
@@ -187,7 +187,7 @@ fn moved_range(range: Range, by: u64) -> Range
     }
 }
 
-/// A look-up whose probes are counted apart and kept nowhere.
+/// A look-up whose probes are counted separately and not kept.
 fn unprobed<L: Ledger, B: ledger::Ledger>(
     shard: &Shard,
     term: &[u8],

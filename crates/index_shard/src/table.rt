@@ -1,4 +1,5 @@
-ghost use Rattle.std.specs.Prelude.{◌≡◌, ◌<◌, ◌++◌, ◌∷◌, [], length, map, option_map, slice_get, MatchOption, None, Some, IfSome, OnOk, OnErr};
+ghost use Rattle.std.specs.Prelude.{◌≡◌, ◌<◌, ◌++◌, ◌∷◌, [], length, map, option_map};
+ghost use Rattle.std.specs.Prelude.{slice_get, MatchOption, None, Some, IfSome, OnOk, OnErr};
 ghost use Rattle.std.specs.List.{AllByRecursion, concat};
 ghost use Rattle.gcl_model.specs.Slots.{SlotRange};
 ghost use Rattle.posting_code.specs.Postings.{ArePostings};
@@ -14,8 +15,8 @@ use posting_code::{BLOCK, PostingList, PostingRows, Postings};
 use std::alloc::{AllocError, Global};
 use std::marker::Model;
 
-/// Terms with their postings. The bytes of all terms stand in one row, and so do the packed differences of all lists of up to 64. Longer
-/// ones that were put together have rows of their own.
+/// Terms with their postings. The bytes of all terms are in one row, and so are the packed differences of all lists of up to 64. Longer
+/// ones that were joined have rows of their own.
 #[derive(Drop)]
 pub(crate) struct TermTable {
     bytes: Vec<u8>,
@@ -55,7 +56,7 @@ impl TermTable {
         *self.entries.allocator()
     }
 
-    /// Puts a term with its postings after the others. A long list keeps its memory, and a short one is copied.
+    /// Appends a term with its postings. A long list keeps its memory, and a short one is copied.
     pub(crate) fn push(&mut self, term: &[u8], postings: PostingList) -> Result<(), AllocError>
         ensures ok { OnOk result (self.new ≡ self.old ++ record { term = term.now; addresses = postings } ∷ []) }
         ensures err { OnErr result (self.new ≡ self.old) }
@@ -139,7 +140,7 @@ impl TermTable {
         self.long.move_up(by);
     }
 
-    /// What it takes.
+    /// The room it takes.
     pub(crate) fn room(&self) -> Room
         ensures { result.terms ≡ length self.now }
     {
@@ -151,7 +152,7 @@ impl TermTable {
         }
     }
 
-    /// Makes room for so much more.
+    /// Reserves this much more room.
     pub(crate) fn reserve(&mut self, room: Room) -> Result<(), AllocError>
         ensures { self.new ≡ self.old }
     {
@@ -229,7 +230,7 @@ impl TermTable {
         Some(self.postings_at(place))
     }
 
-    /// The place of the least term that is at least `low`, or above it with `strict`: the end where there is none.
+    /// The place of the least term that is at least `low`, or above it with `strict`: the end if there is none.
     fn least_place(&self, low: &[u8], strict: bool) -> usize
         requires { (range : SlotRange) × IsTable range self.now }
         ensures { slice_get (map (λ (entry : TermEntry). entry.term) self.now) result ≡ least_term self.now low.now strict }
@@ -240,7 +241,8 @@ impl TermTable {
     /// The least term that is at least `low`, or above it with `strict`.
     pub(crate) fn term_from(&self, low: &[u8], strict: bool) -> Option<&[u8]>
         requires { (range : SlotRange) × IsTable range self.now }
-        ensures { MatchOption result (least_term self.now low.now strict ≡ None) (λ term. least_term self.now low.now strict ≡ Some term.now) }
+        ensures { MatchOption result (least_term self.now low.now strict ≡ None)
+            (λ term. least_term self.now low.now strict ≡ Some term.now) }
     {
         let place = self.least_place(low, strict);
         if place < self.entries.len() {

@@ -39,7 +39,7 @@ impl<'a> Walk<'a> {
         }
     }
 
-    /// The next posting, which is one step. At the end it is None, and no step.
+    /// The next posting, which is one step. At the end it returns None, without a step.
     pub fn next<L: Ledger>(&mut self, steps: &mut Steps<L>) -> Option<u64>
         ensures postings { self.old ≡ option_to_list result ++ self.new }
         ensures none { IsNone result ↔ (self.old ≡ []) }

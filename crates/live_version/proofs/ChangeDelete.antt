@@ -22,7 +22,7 @@ use Rattle.live_version.proofs.ChangeFiles.{has_id, is_of_file-inside, is_within
 use Rattle.file_runs.proofs.RunLemmas.{survives, run_survives, run_left, run_right}
 use Rattle.std.proofs.lemmas.List.Elements.{filter-append}
 
--- what is left of a slot where a file with the id goes
+-- what is left of a slot if a file with the id goes
 abbrev pub slot_after : ℕ → SlotContent → SlotContent
 slot_after id slot = slot_without slot (file_with_id id slot.files)
 
@@ -251,7 +251,7 @@ stands_deleted v id gone c is found stands =
           ∙ sym (words_after id gone c.files (subst (λ files. AllByRecursion (IsSorted id gone) files) stands.files sorted));
     }
 
--- the same where some file has the id
+-- the same if some file has the id
 pub some_deleted : (v : VersionContent) (id : ℕ) → IsVersion v → IsSome (file_with_id id (files_of v.slots)) → IsVersion (version_without_file v id)
 some_deleted v id is some = here (file_with_id id (files_of v.slots)) refl some
   where

@@ -1,8 +1,8 @@
 -- The surviving files of a run, and the one that goes.
-use Rattle.std.proofs.Common.{◌≡◌, ℕ, ◌+◌, ◌-◌, ◌<◌, ◌≤◌, Bool, true, false, not, ◌&&◌, cond, eqb, leb, ltb, zero, suc, get_or, take, List, [], ◌∷◌, ◌++◌, filter, length, Some, None, IfSome, refl, sym, ap, ◌∙◌, subst, arith, inl, inr, ◌⊎◌}
+use Rattle.std.proofs.Common.{◌≡◌, ℕ, ◌+◌, ◌-◌, ◌<◌, ◌≤◌, Bool, true, false, not, ◌&&◌, cond, eqb, leb, ltb, List, [], ◌∷◌, ◌++◌, filter, length, Some, None, refl, sym, ap, ◌∙◌, subst, arith, inl, inr, ◌⊎◌}
 use Rattle.std.specs.List.{AllByRecursion, find}
 use Rattle.std.proofs.lemmas.Bool.{cases_lt, false≢true, eqb-true, ne_eqb, le-leb, lt-leb, leb-true, lt-ltb, le-ltb, ltb-true, and_parts, and_left, and_right, and_from, or_cases, or_left, or_right}
-use Rattle.address_space.specs.Runs.{FileEntry, Precedes, IsFileRun, last_file, range_of}
+use Rattle.address_space.specs.Runs.{FileEntry, Precedes, IsFileRun, range_of}
 use Rattle.delete_mask.specs.Masks.{is_within}
 use Rattle.live_version.specs.Contents.{is_of_file, is_of_files}
 use Rattle.live_version.specs.Changes.{file_with_id}

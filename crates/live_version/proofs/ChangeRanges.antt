@@ -1,4 +1,4 @@
--- Ranges that lie one after another, when one comes, and when one stands in the place of some.
+-- Ranges that lie one after another, when one comes, and when one takes the place of some.
 use Rattle.std.proofs.Common.{◌≡◌, ℕ, ◌+◌, ◌<◌, ◌≤◌, List, [], ◌∷◌, ◌++◌, refl, arith}
 use Rattle.gcl_model.specs.Slots.{SlotRange, joined, spanned, AreRangesWithin}
 use Rattle.address_space.proofs.TierLemmas.{ranges_earlier}
@@ -23,7 +23,7 @@ pub ranges_without : (low end : ℕ) (before gone after : List SlotRange) → Ar
 ranges_without low end [] gone after h = ranges_less low end gone after h
 ranges_without low end (range ∷ before) gone after h = (h.0, h.1, h.2, ranges_without (range.last + 1) end before gone after h.3)
 
--- where ranges lie after one, the span of all of them begins with it and ends before what lies after all
+-- if ranges lie after one, the span of all of them begins with it and ends before what lies after all
 record IsSpan (end : ℕ) (first whole : SlotRange) (after : List SlotRange) : Type 0 where
   start : whole.first ≡ first.first
   inside : whole.last < end
@@ -33,7 +33,7 @@ span : (end : ℕ) (first : SlotRange) (ranges after : List SlotRange) → first
 span end first [] after last h = record { start = refl; inside = last; behind = h }
 span end first (next ∷ ranges) after last h = let rest = span end (joined first next) ranges after h.2 h.3 in record { start = rest.start; inside = rest.inside; behind = rest.behind }
 
--- one that lies inside the span of some may stand in their place
+-- one that lies inside the span of some may take their place
 pub ranges_in_place : (low end : ℕ) (before gone after : List SlotRange) (range : SlotRange) → range.first ≤ range.last → LiesInside range (whole_range gone) → AreRangesWithin low end (before ++ (gone ++ after))
     → AreRangesWithin low end (before ++ range ∷ after)
 ranges_in_place low end [] [] after range some inside h = absurd inside

@@ -1,4 +1,4 @@
--- Versions in which one slot stands in the place of some, and versions under other numbers.
+-- Versions in which one slot takes the place of some, and versions under other numbers.
 use Rattle.std.proofs.Common.{◌≡◌, ℕ, ◌+◌, ◌≤◌, ◌<◌, List, [], ◌∷◌, ◌++◌, length, take, drop, Option, None, Some, IfSome, refl, sym, ap, ◌∙◌, subst, arith, length-append, append-nil}
 use Rattle.std.specs.List.{AllByRecursion, flat_map}
 use Rattle.std.specs.Option.{option_to_list}
@@ -14,7 +14,7 @@ use Rattle.live_version.specs.StandsFor.{StandsFor}
 use Rattle.gcl_model.proofs.Lists.{all_take, all_drop, all_append, cut_twice}
 use Rattle.live_version.proofs.ChangeRanges.{ranges_without, ranges_in_place}
 
--- where some lists are the same all together, so are they between two others
+-- if some lists are the same all together, so are they between two others
 flat_in_place : {X Y : Type 0} (f : X → List Y) (before gone new after : List X) → flat_map f new ≡ flat_map f gone → flat_map f ((before ++ new) ++ after) ≡ flat_map f (before ++ (gone ++ after))
 flat_in_place f before gone new after same =
     flat_map-append f (before ++ new) after

@@ -80,7 +80,7 @@ dead_more (range ∷ mask) (suc i) d p lt =
     here true rest = refl
     here false rest = rest
 
--- where a second test passes none that a first one passes, those that fail the first are those that fail both and those that pass the second
+-- if a second test passes none that a first one passes, those that fail the first are those that fail both and those that pass the second
 parted : (dead within both : ℕ → Bool) → ((x : ℕ) → both x ≡ (dead x || within x)) → ((x : ℕ) → within x ≡ true → dead x ≡ false) → (xs : List ℕ) →
     length (filter (λ x. not (both x)) xs) + length (filter within xs) ≡ length (filter (λ x. not (dead x)) xs)
 parted dead within both joined apart [] = refl

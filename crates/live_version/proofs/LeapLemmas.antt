@@ -15,7 +15,7 @@ later_none None y e = (refl, e)
 later_none (Some x) y e = absurd cc
 
 module _ (alive : ℕ → Bool) (test : ℕ → Bool) where
-  -- where all fail, the living do
+  -- if all fail, the living do
   pub find_none : (ps : List ℕ) → find test ps ≡ None → find test (filter alive ps) ≡ None
   find_none [] e = refl
   find_none (p ∷ ps) e =
@@ -24,7 +24,7 @@ module _ (alive : ℕ → Bool) (test : ℕ → Bool) where
         | inr f ↦ let rest = find_none ps (rw f at e) in elim (cases_Bool (alive p)) [ inl a ↦ rw (a, f) rest | inr a ↦ rw a rest ]
       ]
 
-  -- the first of all is the first of the living, where it lives
+  -- the first of all is the first of the living, if it lives
   pub find_alive : (ps : List ℕ) (q : ℕ) → find test ps ≡ Some q → alive q ≡ true → find test (filter alive ps) ≡ Some q
   find_alive [] q e lives = absurd cc
   find_alive (p ∷ ps) q e lives =
@@ -312,7 +312,7 @@ behind_falls (range ∷ mask) k p j dead e le lt =
           omega arith
     ]
 
--- what one look-up tells: `same` says that nothing alive was passed so far
+-- what one look-up shows: `same` says that nothing alive was passed so far
 alive_where : (mask : List SlotRange) (p : ℕ) → None ≡ dead_range mask p → is_alive mask p ≡ true
 alive_where mask p none = ap not ((dead_range-none mask p).1 (sym none))
 

@@ -18,7 +18,7 @@ holds_before next low (w ∷ ws) token p r lt =
     let other : eqb w.address p ≡ false = ne_eqb w.address p (λ is. absurd (omega (arith, is, first, lt))) in
     rw other (holds_before next (w.address + 1) ws token p r.2 (omega (arith, first, lt)))
 
--- among the addresses from p on, those that a test passes as words hold a token are its places
+-- among the addresses starting at p, those that a test passes as words hold a token are its places
 pub marked : (test : ℕ → Bool) (words : List Word) (token : List ℕ) (n p end : ℕ) → end ≡ p + n → AreRisingBelow end p words → ((q : ℕ) → p ≤ q → test q ≡ holds words token q) → filter test (range_with_len p n) ≡ places words token
 marked test [] token zero p end is r tells = refl
 marked test (w ∷ ws) token zero p end is r tells = let a = r.0 in let b = r.1 in absurd (omega (arith, a, b, is))
@@ -54,7 +54,7 @@ longer : (test : Extent → Bool) (p : ℕ) → ((q : ℕ) → p < q → test (e
 longer test p fails zero q lt = refl
 longer test p fails (suc n) q lt = let none = fails q lt in rw none (longer test p fails n (q + 1) (omega (arith, lt)))
 
--- where single addresses alone pass a test, those are the extents that pass
+-- if single addresses alone pass a test, those are the extents that pass
 pub points_pass : (test : Extent → Bool) (at : ℕ → Bool) (next : ℕ) → ((p q : ℕ) → p < q → test (extent p q) ≡ false) → ((p : ℕ) → test (extent p p) ≡ at p) → (n p : ℕ) → p + n ≤ next →
     filter test (flat_map (λ s. map (λ e. extent s e) (range_with_len s (next - s))) (range_with_len p n)) ≡ map point (filter at (range_with_len p n))
 points_pass test at next fails tells zero p le = refl

@@ -1,4 +1,4 @@
--- The ranges after an add, where slots at the end are made one and where none is; and how many the rule makes one, counted from the end.
+-- The ranges after an add, if slots at the end are merged and if none is; and how many the rule merges, counted from the end.
 use Rattle.std.proofs.Common.{◌≡◌, ℕ, suc, ◌+◌, ◌-◌, ◌*◌, ◌<◌, true, false, cond, leb, List, [], ◌∷◌, ◌++◌, length, take, drop, reverse, get_or, Option, Some, sym, ap, ◌∙◌, arith, length-append, append-nil}
 use Rattle.std.specs.Option.{option_to_list}
 use Rattle.std.proofs.lemmas.List.{take_at, drop_at, map-append, take-map, drop-map, length-map, length-drop, reverse-append, take_all, drop_all}

@@ -22,7 +22,7 @@ use Rattle.index_shard.proofs.TableLaws.{names}
 use Rattle.live_version.specs.Contents.{SlotContent, live_words, live_of}
 use Rattle.live_version.specs.Terms.{IsLeastTerm, IsNoLater, has_term, terms_from, terms_of}
 
--- of two terms, the second where the first is greater
+-- of two terms, the second if the first is greater
 pub greater_first : (a b : List ℕ) → slice_cmp nat_cmp a b ≡ Greater → IsNoLater (Some b) (Some a)
 greater_first a b is = inr (nat_list_cmp_total.antisymm b a ∙ ap ordering_reverse is)
 
@@ -122,7 +122,7 @@ pub now_is : (found : Option (Bor (List ℕ))) (least : Option (List ℕ)) → M
 now_is None least is = sym is
 now_is (Some term) least is = sym is
 
--- what was found of all terms is the least of them, and none only where there is none
+-- what was found of all terms is the least of them, and none only if there is none
 pub least_of_all : (terms : List (List ℕ)) (found : Option (Bor (List ℕ))) → IsFound terms (option_map (λ (term : Bor (List ℕ)). term.now) found) →
     MatchOption found (terms ≡ []) (λ term. IsLeastTerm terms term.now)
 least_of_all [] None is = refl

@@ -67,7 +67,7 @@ live_of_rise low end (slot ∷ slots) r all =
 pub version_is_text : (v : VersionContent) → IsVersion v → IsText (version_text v)
 version_is_text v is = record { ordered = is.ordered; in_range = is.in_range; rising = live_of_rise v.first v.next v.slots is.apart is.slots }
 
--- the slots that end before an address have none of the words from it on
+-- the slots that end before an address have none of the words at or after it
 pub next_from : (slots : List SlotContent) (term : List ℕ) (k : ℕ) → AllByRecursion IsSlot slots →
     next_place (live_of (drop (prefix_len (λ slot. ltb slot.range.last k) slots) slots)) term k ≡ next_place (live_of slots) term k
 next_from [] term k all = refl
@@ -115,7 +115,7 @@ previous_by_slot slot shard mask term k o is e f answer =
     ∙ ap (λ (s : ShardContent). find_last (λ p. leb p k) (filter (is_alive slot.mask) (postings_of s.table term))) e
     ∙ sym (ap (find_last (λ p. leb p k)) (live_places slot term is))
 
--- where a slot has no file nothing is found in it
+-- if a slot has no file, nothing is found in it
 pub no_words : (slot : SlotContent) (n : ℕ) → IsSlot slot → n ≡ length slot.files → n ≡ 0 → live_words slot ≡ []
 no_words slot n is count none = no_live_words slot is (nil_from_length slot.files (sym count ∙ none))
 
@@ -176,7 +176,7 @@ take_here (x ∷ xs) (suc i) slot lt is = ap (λ ss. x ∷ ss) (take_here xs i s
 pub look_ups_most : (v : VersionContent) → IsVersion v → look_ups v.slots ≤ most_slots + v.dels
 look_ups_most v is = let a = is.few in let b = is.dead in omega arith
 
--- where each address below the end is of a file, so is that of each word
+-- if each address below the end is of a file, so is that of each word
 pub owned_by : (files : List FileEntry) (next low : ℕ) (words : List Word) → AreRisingBelow next low words → ((p : ℕ) → p < next → is_of_files files p ≡ true) → AllByRecursion (λ w. is_of_files files w.address ≡ true) words
 owned_by files next low [] r has = tt
 owned_by files next low (w ∷ ws) r has = (has w.address r.1, owned_by files next (w.address + 1) ws r.2 has)

@@ -77,7 +77,7 @@ look_ups-both = refl
 look_ups-left : look_ups left.slots ≡ 3
 look_ups-left = refl
 
--- terms stand in the index also where no posting is alive
+-- terms are in the index even if no posting is alive
 terms_from-left : terms_from (terms_of left.slots) (codes "not") false ≡ codes "not" ∷ codes "or" ∷ codes "to" ∷ []
 terms_from-left = refl
 
@@ -87,6 +87,6 @@ terms_from-strict = refl
 terms_from-none : terms_from (terms_of left.slots) (codes "to") true ≡ []
 terms_from-none = refl
 
--- from "<" on the boundaries of both slots come first, and of these "</file!>"
+-- at or after "<" the boundaries of both slots come first, and of these "</file!>"
 least-boundary : IsLeastTerm (terms_from (terms_of two_files) (codes "<") true) (codes "</file!>")
 least-boundary = record { member = refl; least = (inl refl, (inr refl, (inr refl, (inr refl, (inr refl, (inr refl, (inl refl, (inr refl, tt)))))))) }

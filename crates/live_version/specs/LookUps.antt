@@ -5,7 +5,7 @@ use Rattle.index_shard.specs.Tables.{ShardContent}
 use Rattle.delete_mask.specs.Masks.{is_dead}
 use Rattle.live_version.specs.Contents.{SlotContent, dead_of}
 
--- whether the address is in none of the dead ranges: 5 is alive beside 2 to 4, and 4 is not
+-- whether the address is in none of the dead ranges: with 2 to 4 dead, 5 is alive, and 4 is not
 abbrev pub is_alive : List SlotRange → ℕ → Bool
 is_alive mask p = not (is_dead mask p)
 

@@ -6,7 +6,7 @@ use Rattle.index_shard.specs.Tables.{ShardContent}
 use Rattle.live_version.specs.Contents.{SlotContent, VersionContent, files_of, live_of}
 use Rattle.live_version.specs.Changes.{HasTokens}
 
--- what is kept of a file beside its words
+-- what is kept of a file besides its words
 abbrev pub entry_of : File → FileEntry
 entry_of file = record { id = file.id; base = file.base; len = width_of file.tokens; name = file.name }
 

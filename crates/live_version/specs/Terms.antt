@@ -10,7 +10,7 @@ use Rattle.live_version.specs.Contents.{SlotContent}
 abbrev pub terms_of : List SlotContent → List (List ℕ)
 terms_of slots = flat_map (λ slot. map (λ (entry : TermEntry). entry.term) slot.shard.table) slots
 
--- those of the terms that are at least low, or above it where strict: of be, not and or from "not" on these are not and or, and above it or alone
+-- the terms that are at least low, or above it if strict: of be, not and or, with "not" as low, not and or, and if strict or alone
 abbrev pub terms_from : List (List ℕ) → List ℕ → Bool → List (List ℕ)
 terms_from terms low strict = filter (λ term. comes_from strict (slice_cmp nat_cmp term low)) terms
 

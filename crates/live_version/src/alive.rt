@@ -7,8 +7,8 @@ use crate::slot::Slot;
 use index_shard::Direction;
 
 impl Slot {
-    /// The least address from `k` on that holds the term and is not dead. A dead range is passed as a whole, and without surviving files
-    /// nothing is looked up.
+    /// The least address at or after `k` that holds the term and is not dead. A dead range is passed as a whole, and without surviving
+    /// files nothing is looked up.
     pub(crate) fn next<T: LookUp>(
         &self,
         term: &T,

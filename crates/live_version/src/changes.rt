@@ -3,7 +3,8 @@ ghost use Rattle.std.specs.List.{AllByRecursion};
 ghost use Rattle.std.specs.Option.{option_to_list};
 ghost use Rattle.gcl_model.specs.Limits.{address_end, most_slots, version_end};
 ghost use Rattle.live_version.specs.Contents.{files_of, ranges_of};
-ghost use Rattle.live_version.specs.Changes.{empty_version, opened, version_with_file, file_with_id, version_without_file, slots_at, version_with_slot, whole_range, LiesInside, IsSameLive, AreSettledAlone, JoinsTail, KillsFile};
+ghost use Rattle.live_version.specs.Changes.{empty_version, opened, version_with_file, file_with_id, version_without_file, slots_at};
+ghost use Rattle.live_version.specs.Changes.{version_with_slot, whole_range, LiesInside, IsSameLive, AreSettledAlone, JoinsTail, KillsFile};
 ghost use Rattle.address_space.specs.Runs.{range_of};
 ghost use Rattle.live_version.specs.StandsFor.{AddsFile, DeletesFile, Keeps, Opens};
 
@@ -104,7 +105,7 @@ impl Version {
         Ok(slots)
     }
 
-    /// The version with one slot, or none, in place of `count` slots from place `at` on.
+    /// The version with one slot, or none, in place of `count` slots starting at place `at`.
     pub fn with_slot(
         &self,
         at: usize,

@@ -17,8 +17,8 @@ use posting_access::rank;
 use posting_code::Postings;
 
 impl Version {
-    /// How many surviving words have the token: of each slot it takes the length of the term's list, less what each dead range holds of it.
-    /// It is no look-up and takes no memory. Where `to be or not to be` is deleted and `be` is not, `be` stands once.
+    /// How many surviving words have the token: for each slot the length of the term's list, less what each dead range holds of it.
+    /// It is no look-up and takes no memory. If `to be or not to be` is deleted and `be` is not, `be` occurs once.
     pub fn count_of_term(&self, token: &[u8]) -> u64
         ensures places { result ≡ length (places (live_of self.now.slots) token.now) }
         ensures members { result ≡ length (concordance (version_text self.now) (term token.now)) }

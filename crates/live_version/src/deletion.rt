@@ -5,7 +5,7 @@ use crate::slot::Slot;
 use address_space::FileId;
 use std::alloc::{AllocError, Global};
 
-/// The slot without the file of this id: it is the same one where it has none, and else its index is shared.
+/// The slot without the file of this id: the same one if it has no such file, and otherwise one that shares its index.
 pub(crate) fn slot_without(alloc: Global, slot: &Slot, id: FileId) -> Result<Slot, AllocError>
     ensures { IfOk result (λ left. left ≡ slot_without slot.now (file_with_id id.0 slot.now.files)) }
 {

@@ -10,7 +10,7 @@ pub fn a_version_has_the_text()
     ensures { HasTextOf }
 {}
 
-/// A file with an id survives in the version exactly where it does in the collection.
+/// A file with an id survives in the version exactly if it does in the collection.
 pub fn a_version_has_the_files()
     ensures { HasFilesOf }
 {}
@@ -20,7 +20,7 @@ pub fn words_are_of_files()
     ensures { WordsAreOfFiles }
 {}
 
-/// The token of each live word is a term of the slots, so whoever goes through the terms misses no word.
+/// The token of each live word is a term of the slots, so going through the terms misses no word.
 pub fn words_are_of_terms()
     ensures { WordsAreOfTerms }
 {}

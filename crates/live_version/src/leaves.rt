@@ -36,8 +36,8 @@ impl Leaves for Version {
 }
 
 impl Version {
-    /// The least address from `k` on that holds the term. The slots that end before `k` are left out by halving; no clause says so, since a
-    /// look-up in each of the slots is within the bound, too.
+    /// The least address at or after `k` that holds the term. The slots that end before `k` are left out by halving; no clause says so,
+    /// since a look-up in each of the slots is within the bound, too.
     pub fn next_of<T: LookUp>(&self, term: &T, k: u64, counter: &mut T::Counter) -> Option<u64>
         requires { AreKnown (T.knows term.now) self.now.slots }
         ensures answer { result ≡ next_place (live_of self.now.slots) (T.term term.now) k }
@@ -56,7 +56,7 @@ impl Version {
         None
     }
 
-    /// The greatest address up to `k` that holds the term, from the last slot on that begins at `k` or before.
+    /// The greatest address up to `k` that holds the term, looked for backward from the last slot that begins at `k` or before.
     pub fn previous_of<T: LookUp>(&self, term: &T, k: u64, counter: &mut T::Counter) -> Option<u64>
         requires { AreKnown (T.knows term.now) self.now.slots }
         ensures answer { result ≡ previous_place (live_of self.now.slots) (T.term term.now) k }

@@ -7,10 +7,10 @@
 //! The layers above make each version from the one before it, by adding or deleting a file or by putting one slot in
 //! place of several: it then stands for the collection after that step. They use a version as `Leaves`: a look-up is one
 //! among its words, passes a dead range as a whole, and makes at most 32 posting look-ups and one for each deletion. They
-//! read slots and files, and ask how many slots at the end become one. Where the file at 0 to 7 is deleted, the next
-//! `</file!>` from 0 on is that of the file at 8 to 9.
+//! read slots and files, and ask how many slots at the end are merged into one. If the file at 0 to 7 is deleted, the
+//! next `</file!>` at or after 0 is that of the file at 8 to 9.
 //!
-//! The search itself goes over `LookUp`: one term, in whatever way it is found in the slots' indexes, and a counter
+//! The search itself is generic over `LookUp`: one term, in whatever way it is found in the slots' indexes, and a counter
 //! that only the caller can make.
 #![tactic(auto)]
 

@@ -6,8 +6,8 @@ use gcl_model::{Ledger, Steps};
 use index_shard::{Direction, Shard};
 use std::marker::PhantomData;
 
-/// One term, as it is looked up in the indexes of a version's slots. Code that goes over this trait can make no counter of its own, so
-/// each of its look-ups is counted on the one that it was lent.
+/// One term, as it is looked up in the indexes of a version's slots. Code that is generic over this trait can make no counter of its
+/// own, so each of its look-ups is counted on the one that it was lent.
 pub trait LookUp {
     ghost use Rattle.std.specs.Prelude.{ℕ, List};
     ghost use Rattle.index_shard.specs.Tables.{ShardContent};
@@ -18,7 +18,7 @@ pub trait LookUp {
     /// The term.
     ghost term: { Self → List ℕ };
 
-    /// Which index it may be asked of as that of the slot with a number: whoever has found the term there before knows only this one.
+    /// Which index it may be looked up in as that of the slot with a number: a term that was found there before knows only this one.
     ghost knows: { Self → ℕ → ShardContent → Type 0 };
 
     /// How many look-ups were counted.
@@ -39,7 +39,7 @@ pub trait LookUp {
         ensures shard { IsShard shard.now };
 }
 
-/// A term that is looked for by its bytes, in any index.
+/// A term that is looked up by its bytes, in any index.
 #[derive(Drop)]
 pub(crate) struct ByBytes<'a, L: Ledger> {
     bytes: &'a [u8],

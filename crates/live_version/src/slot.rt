@@ -18,7 +18,7 @@ pub struct Slot {
     parts: Arc<SlotParts>,
 }
 
-/// A deletion changes all but the index, which is shared on.
+/// A deletion changes all except the index, which stays shared.
 #[derive(Drop)]
 pub(crate) struct SlotParts {
     shard: Arc<Shard>,
@@ -37,7 +37,7 @@ impl Model for Slot {
 }
 
 impl Slot {
-    /// A slot of which nothing is dead.
+    /// A slot without dead addresses.
     pub fn new(
         alloc: Global,
         range: Range,
@@ -55,7 +55,7 @@ impl Slot {
         Ok(slot)
     }
 
-    /// A slot of which nothing is dead, of records that are shared.
+    /// A slot without dead addresses, of records that are shared.
     pub fn of_records(
         alloc: Global,
         range: Range,
@@ -75,7 +75,7 @@ impl Slot {
         Ok(Slot { range, parts })
     }
 
-    /// The addresses that the slot is about.
+    /// The addresses that the slot covers.
     pub fn range(&self) -> Range
         ensures value { result ≡ self.now.range }
         ensures slot { IsSlot self.now }
@@ -144,7 +144,7 @@ impl Slot {
     }
 }
 
-/// Any call of an index says that it is one.
+/// Any call on an index shows that it is one.
 pub(crate) fn known(shard: &Shard)
     ensures { IsShard shard.now }
 {

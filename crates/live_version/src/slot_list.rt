@@ -10,7 +10,7 @@ use address_space::{FileRecord, FileRun};
 use index_shard::Shard;
 use std::alloc::{AllocError, Global};
 
-/// The slots once more, after those that are there. Their parts are shared.
+/// Appends the slots. Their parts are shared.
 pub(crate) fn push_copies(into: &mut Vec<Slot>, slots: &[Slot]) -> Result<(), AllocError>
     ensures { OnOk result (into.new.items ≡ into.old.items ++ slots.now) }
 {
@@ -20,14 +20,14 @@ pub(crate) fn push_copies(into: &mut Vec<Slot>, slots: &[Slot]) -> Result<(), Al
     Ok(())
 }
 
-/// The slot, if there is one, after those that are there.
+/// Appends the slot, if there is one.
 pub(crate) fn push_option(into: &mut Vec<Slot>, slot: Option<Slot>) -> Result<(), AllocError>
     ensures ok { OnOk result (into.new.items ≡ into.old.items ++ option_to_list slot) }
     ensures slot { IfSome slot IsSlot }
     ensures run { IfSome slot (λ s. IsFileRun s.files) }
 {
     if let Some(slot) = slot {
-        // any call of the records tells that they are a run
+        // any call on the records shows that they are a run
         let _count = slot.records().len();
         into.push(slot)?;
     }

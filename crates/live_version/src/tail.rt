@@ -7,8 +7,8 @@ use crate::version::Version;
 use address_space::Range;
 
 impl Version {
-    /// How many slots at the end become one after an add, that of the added file counted: 1 where none do. The last two become one as long
-    /// as four times the width of the last is at least that of the one before it. It takes no memory.
+    /// How many slots at the end are merged into one after an add, including that of the added file: 1 if none are. The last two are
+    /// merged while four times the width of the last is at least that of the one before it. It takes no memory.
     pub fn tail(&self) -> usize
         requires { 1 ≤ length self.now.slots }
         ensures value { result ≡ tail_count (ranges_of self.now.slots) }
@@ -27,7 +27,7 @@ impl Version {
     }
 }
 
-/// Whether a slot and the addresses from `first` to `last` after it become one.
+/// Whether a slot and the addresses from `first` to `last` after it are merged into one.
 fn is_joined(before: Range, first: u64, last: u64) -> bool
     requires ordered { first ≤ last }
     requires in_range { last < address_end }

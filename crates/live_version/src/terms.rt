@@ -22,7 +22,7 @@ impl Version {
     }
 }
 
-/// The lesser of two terms, where there are two.
+/// The lesser of two terms, if there are two.
 pub fn earlier_term<'a>(first: Option<&'a [u8]>, second: Option<&'a [u8]>) -> Option<&'a [u8]>
     ensures first { IsNoLater (option_map (λ term. term.now) result) (option_map (λ term. term.now) first.entry) }
     ensures second { IsNoLater (option_map (λ term. term.now) result) (option_map (λ term. term.now) second.entry) }

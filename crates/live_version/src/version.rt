@@ -30,17 +30,21 @@ impl Model for Version {
 
     ghost Value = { VersionContent };
 
-    ghost view = { λ v. version_content v.numbers.number v.numbers.edition v.numbers.first v.numbers.next v.numbers.next_id v.numbers.dels v.slots.items };
+    ghost view = { λ v. version_content v.numbers.number v.numbers.edition v.numbers.first v.numbers.next v.numbers.next_id v.numbers.dels
+        v.slots.items };
 
     ghost invariant = { λ v.
-        IsVersion (version_content v.numbers.number v.numbers.edition v.numbers.first v.numbers.next v.numbers.next_id v.numbers.dels v.slots.items) };
+        IsVersion (version_content v.numbers.number v.numbers.edition v.numbers.first v.numbers.next v.numbers.next_id v.numbers.dels
+        v.slots.items) };
 }
 
 impl Version {
     /// The version with these numbers and slots.
     pub(crate) fn of(numbers: Numbers, slots: Vec<Slot>) -> Self
-        requires { IsVersion (version_content numbers.number numbers.edition numbers.first numbers.next numbers.next_id numbers.dels slots.items) }
-        ensures { result ≡ version_content numbers.number numbers.edition numbers.first numbers.next numbers.next_id numbers.dels slots.items }
+        requires { IsVersion (version_content numbers.number numbers.edition numbers.first numbers.next numbers.next_id numbers.dels
+            slots.items) }
+        ensures { result ≡ version_content numbers.number numbers.edition numbers.first numbers.next numbers.next_id numbers.dels
+            slots.items }
     {
         Version { numbers, slots }
     }

@@ -42,12 +42,12 @@ pub whole : (seen history : List VersionContent) (v w : VersionContent) → IsLa
 whole seen history v w hs ls hh lh same p =
     let n = latest-number seen v hs ls in let m = latest-number history w hh lh in prefix_whole seen history p (omega arith)
 
--- where each operation puts its own value in place of all, the last one decides
+-- if each operation puts its own value in place of all, the last one decides
 pub fold-last : {S O : Type 0} (f : O → S) (s : S) (ops : List O) (op : O) → fold (λ _ o. f o) s (ops ++ op ∷ []) ≡ f op
 fold-last f s [] op = refl
 fold-last f s (o ∷ os) op = fold-last f (f o) os op
 
--- two histories that one list begins with, where the second ends with the version that the first may be added: the second is the first and that version
+-- one history begins another: if the other ends with the version that may be added to the first, it is the first and that version
 pub grown : (history longer : List VersionContent) (v : VersionContent) → IsLawful (history ++ v ∷ []) → EndsWith longer v → IsPrefix history longer → longer ≡ history ++ v ∷ []
 grown history longer v lawful ends p =
     let n = latest-number_at history v lawful in
@@ -58,7 +58,7 @@ grown history longer v lawful ends p =
     let same : history ≡ ends.1.0 = prefix_whole history ends.1.0 (prefix_shorter history ends.1.0 longer p q (omega arith)) (omega arith) in
     ends-before ∙ ap (λ l. l ++ v ∷ []) (sym same)
 
--- the same, where one of the two begins the other
+-- the same, if one of the two begins the other
 pub grown-either : (history longer : List VersionContent) (v : VersionContent) (b : Bool) → IsLawful (history ++ v ∷ []) → EndsWith longer v → (IsTrue b → IsPrefix history longer) → (b ≡ false → IsPrefix longer history)
     → longer ≡ history ++ v ∷ []
 grown-either history longer v true lawful ends covers begins = grown history longer v lawful ends (covers refl)

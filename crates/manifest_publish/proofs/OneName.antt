@@ -1,19 +1,19 @@
 -- Two slots of one name, in an earlier and in a later version of one history, have the same files and live words.
-use Rattle.std.proofs.Common.{◌≡◌, ◌⊎◌, ⊎_elim, ℕ, zero, suc, ◌+◌, ◌-◌, ◌<◌, ◌≤◌, Bool, true, false, cond, List, [], ◌∷◌, ◌++◌, length, map, filter, take, Some, slice_get, refl, sym, ap, ◌∙◌, subst, arith, append-nil, length-append, inl, inr}
+use Rattle.std.proofs.Common.{◌≡◌, ◌⊎◌, ⊎_elim, ℕ, zero, suc, ◌+◌, ◌-◌, ◌<◌, ◌≤◌, Bool, true, false, cond, List, [], ◌∷◌, ◌++◌, length, map, filter, Some, slice_get, refl, sym, ap, ◌∙◌, subst, arith, append-nil, length-append, inl, inr}
 use Rattle.std.specs.List.{AllByRecursion, flat_map}
 use Rattle.std.proofs.lemmas.Bool.{cases_lt}
 use Rattle.std.proofs.lemmas.List.{length-map, nil_from_length}
 use Rattle.std.proofs.lemmas.List.Elements.{filter-append}
 use Rattle.std.proofs.lemmas.Grind.{flat_map-append}
 use mathlib.Core.List.{IsPrefix}
-use Rattle.gcl_model.specs.Collections.{Collection, File, file_start, file_end, width_of, with_boundaries, words_from, words_of}
+use Rattle.gcl_model.specs.Collections.{Collection, File, file_end, width_of, with_boundaries, words_from, words_of}
 use Rattle.gcl_model.specs.Slots.{SlotRange, AreRangesWithin}
 use Rattle.gcl_model.specs.Texts.{Word}
-use Rattle.gcl_model.proofs.Lists.{all_append, all_weaker, all_kept, filter_gone, filter_kept, filter-map}
+use Rattle.gcl_model.proofs.Lists.{all_append, all_weaker, all_kept, filter_gone, filter-map}
 use Rattle.address_space.specs.Runs.{FileEntry}
 use Rattle.delete_mask.specs.Masks.{is_within}
 use Rattle.delete_mask.proofs.MaskLemmas.{is_within-inside, is_within-before, is_within-behind}
-use Rattle.live_version.specs.Contents.{SlotContent, VersionContent, IsSlot, IsVersion, LiesIn, files_of, live_of, live_words, ranges_of}
+use Rattle.live_version.specs.Contents.{SlotContent, VersionContent, IsSlot, IsVersion, LiesIn, files_of, live_words, ranges_of}
 use Rattle.live_version.specs.StandsFor.{StandsFor, entry_of}
 use Rattle.live_version.proofs.PartLaws.{slots_are_parts}
 use Rattle.live_version.proofs.WordLemmas.{no_live_words}
@@ -136,7 +136,7 @@ words_of_those range [] all = refl
 words_of_those range (file ∷ files) all =
     filter-append (in_range range) (words_of_file file) (flat_map words_of_file files) ∙ by_place range file files all.0 (words_of_those range files all.1)
 
--- where no fewer of the left ones pass a test, all that pass it are left
+-- if no fewer of the left ones pass a test, all that pass it are left
 filter-less : {X : Type 0} (p left : X → Bool) (xs : List X) → length (filter p (filter left xs)) ≤ length (filter p xs)
 filter-less p left [] = omega arith
 filter-less p left (x ∷ xs) = by_case (left x) (p x) refl (filter-less p left xs)
@@ -218,7 +218,7 @@ slot_is [] a s are at = absurd (cc at)
 slot_is (slot ∷ slots) zero s are at = let same : slot ≡ s = cc at in subst IsSlot same are.0
 slot_is (slot ∷ slots) (suc a) s are at = slot_is slots a s are.1 at
 
--- where no id was given, a slot has no files
+-- if no id was given, a slot has no files
 none_given : (v : VersionContent) (c : Collection) (a : ℕ) (s : SlotContent) → IsVersion v → StandsFor v c → c.next_id ≡ 0 → slice_get v.slots a ≡ Some s → s.files ≡ []
 none_given v c a s is stands none at =
     let used = is.used in

@@ -9,14 +9,14 @@ use Rattle.manifest_publish.specs.Histories.{Follow, IsLawful}
 use Rattle.manifest_publish.proofs.Stands.{opening-stands}
 
 module _ {A : Type 0} where
-  -- what stands at a place of a beginning stands there in the whole
+  -- what is at a place of a beginning is there in the whole
   pub prefix_get : (xs ys : List A) (i : ℕ) (x : A) → IsPrefix xs ys → slice_get xs i ≡ Some x → slice_get ys i ≡ Some x
   prefix_get [] ys i x p e = absurd (cc e)
   prefix_get (w ∷ xs) [] i x p e = absurd (cc (p.1))
   prefix_get (w ∷ xs) (y ∷ ys) zero x p e = let same : w ≡ y = cc (p.1) in ap Some (sym same) ∙ e
   prefix_get (w ∷ xs) (y ∷ ys) (suc i) x p e = prefix_get xs ys i x (p.0, cc (p.1)) e
 
-  -- what stands in the whole stands in a beginning that is long enough
+  -- what is in the whole is in a beginning that is long enough
   pub prefix_within : (xs ys : List A) (i : ℕ) (x : A) → IsPrefix xs ys → slice_get ys i ≡ Some x → i < length xs → slice_get xs i ≡ Some x
   prefix_within [] ys i x p e le = absurd (omega arith)
   prefix_within (w ∷ xs) [] i x p e le = absurd (cc (p.1))
@@ -48,7 +48,7 @@ each-stands [] i v h e = absurd (cc e)
 each-stands (x ∷ xs) zero v h e = let same : x ≡ v = cc e in subst Stands (sym h.0 ∙ same) (empty_from x.first, opening-stands x.first)
 each-stands (x ∷ xs) (suc i) v h e = follow-stands_at x xs i v h.1 e
 
--- of two beginnings of one history, a version of the one whose number lies below the other's length stands there in the other too
+-- of two beginnings of one history, a version of the one whose number lies below the other's length is there in the other too
 pub version-shared : (one other history : List VersionContent) (i : ℕ) (v : VersionContent) → IsLawful history → IsPrefix one history → IsPrefix other history
     → slice_get one i ≡ Some v → v.number < length other → slice_get other v.number ≡ Some v
 version-shared one other history i v h p q e less =

@@ -13,14 +13,14 @@ snoc-some [] x e = absurd (cc e)
 snoc-some (y ∷ ys) x e = absurd (cc e)
 
 module _ (seen due kept : Account) (told : List (List VersionContent)) (learnt : Bool) (t : IsTracked seen due kept told learnt) where
-  -- what begins with all that is due begins with all that was seen and told
+  -- what begins with all that is due begins with all that was seen and learnt
   pub goes_on : (history : List VersionContent) → IsPrefix due.history history → GoesOn (reader_content seen.publisher seen.history told kept.history) history
   goes_on history p = (
     prefix_trans seen.history due.history history t.seen_due p,
     all_weaker (λ l. IsPrefix l due.history) (λ l. IsPrefix l history) (λ l q. prefix_trans l due.history history q p) told t.told_due,
   )
 
-  -- one more was told of, and what is due has grown by it
+  -- one more was learnt, and what is due has grown by it
   pub tracked-learnt : (more longer : Account) → longer.publisher ≡ due.publisher → IsPrefix due.history longer.history → IsPrefix more.history longer.history
       → IsTracked seen longer kept (told ++ more.history ∷ []) true
   tracked-learnt more longer same p q = record {
@@ -35,7 +35,7 @@ module _ (seen due kept : Account) (told : List (List VersionContent)) (learnt :
   pub may_enter : (found : Account) → HasAll due found → MayEnter (reader_content seen.publisher seen.history told kept.history) found
   may_enter found all = (all.0 ∙ t.publishers.0, all.1, goes_on found.history all.2)
 
-  -- what was reached is now what is seen and due, and nothing is told
+  -- what was reached is now what is seen and due, and nothing is learnt since
   pub tracked-reached : (found mark again : Account) (told' : List (List VersionContent)) → MayEnter (reader_content seen.publisher seen.history told kept.history) found
       → mark ≡ found → again ≡ mark → told' ≡ [] → IsTracked mark again kept told' false
   tracked-reached found mark again told' may is same none = record {

@@ -1,9 +1,9 @@
 -- What a later version of one history has of an earlier one's files: some of them, and others behind.
-use Rattle.std.proofs.Common.{◌≡◌, ◌⊎◌, ℕ, zero, suc, ◌+◌, ◌<◌, ◌≤◌, Bool, true, false, not, ◌&&◌, ◌==◌, cond, List, [], ◌∷◌, ◌++◌, length, filter, refl, sym, ap, ◌∙◌, subst, arith, append_assoc, append-nil, inl, inr}
+use Rattle.std.proofs.Common.{◌≡◌, ◌⊎◌, ℕ, ◌+◌, ◌<◌, ◌≤◌, Bool, true, not, ◌&&◌, ◌==◌, List, [], ◌∷◌, ◌++◌, filter, refl, sym, ap, ◌∙◌, subst, arith, append_assoc, append-nil, inl, inr}
 use Rattle.std.specs.List.{AllByRecursion}
 use Rattle.std.proofs.lemmas.List.{same_from_push}
 use Rattle.std.proofs.lemmas.List.Elements.{filter-append}
-use Rattle.gcl_model.specs.Collections.{Collection, File, width_of, with_file, without_file, has_file}
+use Rattle.gcl_model.specs.Collections.{Collection, File, with_file, without_file}
 use Rattle.gcl_model.specs.Steps.{IsStep}
 use Rattle.gcl_model.proofs.Lists.{all_append, all_kept, filter_all, filter_twice}
 use Rattle.live_version.specs.Contents.{VersionContent}

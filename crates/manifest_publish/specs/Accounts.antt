@@ -59,11 +59,11 @@ with_pass publisher history = reader_content publisher history [] history
 abbrev pub BeginWith : List (List VersionContent) → List VersionContent → Type 0
 BeginWith told history = AllByRecursion (λ list. IsPrefix list history) told
 
--- the history begins with all that the reader has seen and was told of
+-- the history begins with all that the reader has seen and learnt
 abbrev pub GoesOn : ReaderContent → List VersionContent → Type 0
 GoesOn r history = IsPrefix r.seen history × BeginWith r.told history
 
--- a lawful history of the reader's publisher that goes on all that the reader has seen and was told of
+-- a lawful history of the reader's publisher that continues all that the reader has seen and learnt
 abbrev pub MayEnter : ReaderContent → Account → Type 0
 MayEnter r found = (found.publisher ≡ r.publisher) × IsLawful found.history × GoesOn r found.history
 
@@ -75,6 +75,6 @@ IsOwed r = (r.told ≢ []) ⊎ (r.seen ≢ r.kept)
 abbrev pub reached : ReaderContent → Account → ReaderContent
 reached r found = reader_content r.publisher found.history [] r.kept
 
--- an entering found no memory: nothing changed, or a version was reached that was not kept
+-- an entering ran out of memory: nothing changed, or a version was reached that was not kept
 abbrev pub IsRefused : ReaderContent → ReaderContent → Type 0
 IsRefused before after = (after ≡ before) ⊎ ((found : Account) × MayEnter before found × (after ≡ reached before found))

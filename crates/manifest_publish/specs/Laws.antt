@@ -20,7 +20,7 @@ abbrev pub EachStands : Type 0
 EachStands = (history : List VersionContent) (i : ℕ) (v : VersionContent) → IsLawful history → slice_get history i ≡ Some v
     → (c : Collection) × StandsFor v c
 
--- of two beginnings of one lawful history, a version of the one whose number lies below the length of the other stands in the
+-- of two beginnings of one lawful history, a version of the one whose number lies below the length of the other is in the
 -- other too, at its number
 abbrev pub VersionsAreShared : Type 0
 VersionsAreShared = (one other history : List VersionContent) (i : ℕ) (v : VersionContent) → IsLawful history → IsPrefix one history → IsPrefix other history

@@ -11,7 +11,7 @@ use Rattle.live_version.specs.Changes.{empty_version}
 use Rattle.manifest_publish.specs.Accounts.{Account}
 use Rattle.manifest_publish.specs.Log.{head_of}
 
--- which publisher the value is of, the version that it was to show, and, where it shows it, the history up to there
+-- which publisher the value is of, the version that it was to show, and, if it shows it, the history up to there
 pub record ShownContent : Type 0 where
   pub publisher : Book
   pub version : VersionContent
@@ -27,16 +27,16 @@ pub record NextContent : Type 0 where
   pub history : List VersionContent
   pub version : VersionContent
 
--- the first of them, or some version where there is none
+-- the first of them, or some version if there is none
 abbrev pub first_of : List VersionContent → VersionContent
 first_of [] = empty_version 0
 first_of (v ∷ vs) = v
 
--- who knows of no publisher yet
+-- one that knows of no publisher yet
 abbrev pub newcomer : Named
 newcomer = record { tracked = false; key = 0; book = record { number = 0; log_name = 0; cells_name = 0 } }
 
--- whoever knows of a publisher knows of the one whose value this is
+-- each seat that knows of a publisher knows of the one whose value this is
 abbrev pub Keeps : ShownContent → List Named → Type 0
 Keeps shown views = (seat : ℕ) (v : Named) → get_elem? views seat ≡ some v → v.tracked ≡ true → v ≡ head_of shown.publisher
 

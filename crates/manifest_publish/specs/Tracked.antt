@@ -1,4 +1,4 @@
--- What a reader keeps, so that it can tell what is due to it.
+-- What a reader keeps, so that it knows what is due to it.
 use Rattle.std.specs.Prelude.{◌≡◌, ◌≢◌, Bool, MatchBool, List, []}
 use mathlib.Core.List.{IsPrefix}
 use Rattle.live_version.specs.Contents.{VersionContent}
@@ -9,7 +9,7 @@ use Rattle.manifest_publish.specs.Accounts.{Account, BeginWith}
 abbrev pub HasAll : Account → Account → Type 0
 HasAll due found = (found.publisher ≡ due.publisher) × IsLawful found.history × IsPrefix due.history found.history
 
--- All that the reader has seen and was told of begins what is due. `learnt` says whether it was told of anything
+-- What is due begins with all that the reader has seen and learnt. `learnt` says whether it learnt anything
 pub record IsTracked (seen due kept : Account) (told : List (List VersionContent)) (learnt : Bool) : Type 0 where
   pub publishers : (due.publisher ≡ seen.publisher) × (kept.publisher ≡ seen.publisher)
   pub told_due : BeginWith told due.history

@@ -13,10 +13,10 @@ use left_right::reader::Reader;
 use std::alloc::AllocError;
 use std::marker::Model;
 
-/// The reader of left_right that a reader of versions goes by.
+/// The `left_right` reader that a reader of versions uses.
 pub type Inner = Reader<Shown, View, Published>;
 
-/// The history up to the version that was found, and a pass of it, where its copy was not refused.
+/// The history up to the version that was found, and a pass of it, if its copy was not refused.
 #[derive(Drop)]
 pub struct Found {
     mark: Mark,
@@ -35,7 +35,7 @@ impl Model for Found {
 }
 
 impl Found {
-    /// The mark, and the pass or want of memory.
+    /// The mark, and the pass, or `Err` if out of memory.
     pub fn into_parts(self) -> (Mark, Result<Pass, AllocError>)
         ensures { (result.0 ≡ self) × IfOk result.1 (λ pass. pass ≡ self) }
     {
@@ -44,7 +44,7 @@ impl Found {
     }
 }
 
-/// What is shown, if it has all that is due. That it has it is seen when it runs, since a receipt went past `left_right`.
+/// What is shown, if it has all that is due. That is checked at run time, since a receipt bypasses `left_right`.
 pub fn look(inner: &mut Inner, due: &Mark) -> Option<Found>
     requires { known inner.old.place ≡ head_of due.now.publisher }
     ensures place { known inner.new.place ≡ known inner.old.place }

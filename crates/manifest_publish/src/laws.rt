@@ -20,8 +20,8 @@ pub fn versions_are_shared()
     ensures { VersionsAreShared }
 {}
 
-/// A slot that has the range and the number of surviving files of an earlier one has the same files and words: whoever knows a
-/// slot by these numbers knows what is in it.
+/// A slot that has the range and the number of surviving files of an earlier one has the same files and words: these numbers of a
+/// slot determine what is in it.
 pub fn slots_of_one_name_are_the_same()
     ensures { SlotsKeepFiles }
 {}

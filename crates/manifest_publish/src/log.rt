@@ -134,7 +134,7 @@ impl Mark {
         other.number <= self.number
     }
 
-    /// Adds the version to the log. It gives none where another one was added first.
+    /// Adds the version to the log. Returns None if another one was added first.
     pub fn with(&self, head: &Head, version: &Version) -> Option<Mark>
         requires head { head.now ≡ head_of self.now.publisher }
         requires lawful { IsLawful (self.now.history ++ version.now ∷ []) }

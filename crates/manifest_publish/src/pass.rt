@@ -52,7 +52,7 @@ impl Pass {
         &self.mark
     }
 
-    /// Another pass of the same version. `Err` is out of memory.
+    /// Another pass of the same version. `Err` means out of memory.
     pub fn again(&self) -> Result<Pass, AllocError>
         ensures { IfOk result (λ pass. pass ≡ self.now) }
     {
@@ -72,7 +72,7 @@ impl Pass {
     }
 }
 
-/// That a version was published. A reader that learns it enters that version or a later one.
+/// Evidence that a version was published. A reader that learns it enters that version or a later one.
 #[derive(Drop)]
 pub struct Receipt {
     pub number: u64,

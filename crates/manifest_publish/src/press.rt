@@ -36,7 +36,7 @@ impl Model for Press {
 }
 
 impl Press {
-    /// Shows the opening version. It is published once, so that the writer knows whose version it shows, and can tell readers.
+    /// Shows the opening version. It is published once, so that the writer knows whose version it shows, and can inform readers.
     pub fn new<R: Wait>(
         rt: &R,
         alloc: Global,
@@ -55,7 +55,7 @@ impl Press {
         Ok(Press { feed })
     }
 
-    /// So many readers that have entered the opening version, or fewer where there was no place for one.
+    /// `readers` readers that have entered the opening version, or fewer if there was no place for one.
     pub fn readers(
         &mut self,
         mut made: Vec<Reader>,
@@ -90,7 +90,7 @@ impl Press {
         Some(Reader::begun(inner, opening, mark))
     }
 
-    /// Adds the version to the history and shows it. It gives the history up to it, where that was done.
+    /// Adds the version to the history and shows it. Returns the history up to it if that was done.
     pub fn publish<R: Wait>(self, rt: &R, next: Next) -> (Press, Option<Mark>)
         requires { next.publisher ≡ self }
         ensures kept { result.0 ≡ self }

@@ -47,7 +47,8 @@ impl Publisher {
         requires opening { IsOpening opening.value }
         requires readers { readers ≤ most_readers }
         ensures history { IfOk result (λ made. made.0.history ≡ opening.value ∷ []) }
-        ensures readers { IfOk result (λ made. AllByRecursion (λ reader. reader ≡ with_pass made.0.publisher (opening.value ∷ [])) made.1.items) }
+        ensures readers { IfOk result (λ made. AllByRecursion (λ reader. reader ≡ with_pass made.0.publisher (opening.value ∷ []))
+            made.1.items) }
         ensures few { IfOk result (λ made. length made.1.items ≤ readers) }
     {
         let made = Vec::with_capacity(alloc, readers)?;
@@ -60,7 +61,7 @@ impl Publisher {
     }
 
     /// Publishes a version that is a next one of the last. It may wait for readers that are inside an entering.
-    /// At `Err` nothing was published, and the version never becomes a member of the history.
+    /// On `Err` nothing was published, and the version never becomes a member of the history.
     pub fn publish<R: Wait>(&mut self, rt: &R, version: Arc<Version>) -> Result<Receipt, AllocError>
         requires { IsLawful (self.old.history ++ version.value ∷ []) }
         ensures history { OnOk result (self.new ≡ account self.old.publisher (self.old.history ++ version.value ∷ [])) }

@@ -1,8 +1,8 @@
-ghost use Rattle.std.specs.Prelude.{◌≡◌, ℕ, [], ◌∷◌, ◌++◌, IfOk, OnOk, IsErrOf};
+ghost use Rattle.std.specs.Prelude.{◌≡◌, ℕ, [], ◌∷◌, ◌++◌, IfOk, IsErrOf};
 ghost use mathlib.Core.List.{IsPrefix};
 ghost use Rattle.live_version.specs.Contents.{VersionContent};
 ghost use Rattle.manifest_publish.specs.Histories.{IsLawful, IsLatest};
-ghost use Rattle.manifest_publish.specs.Accounts.{account, EndsWith, ReaderContent, with_pass, MayEnter, IsOwed, reached, IsRefused};
+ghost use Rattle.manifest_publish.specs.Accounts.{account, EndsWith, ReaderContent, with_pass, MayEnter, IsOwed, IsRefused};
 ghost use Rattle.manifest_publish.specs.Log.{head_of};
 ghost use Rattle.manifest_publish.specs.Seats.{known};
 ghost use Rattle.manifest_publish.specs.declared.reader.EnterFault.TheVariants.{NoEntry, NoMemory};
@@ -40,10 +40,10 @@ pub struct Reader {
     kept: Pass,
     // The history up to the last version that it reached.
     seen: Mark,
-    // The longest of that and of those that it was told of since.
+    // The longest of that and of those that it learnt since.
     due: Mark,
     told: Told,
-    // Whether it was told of any.
+    // Whether it learnt any.
     learnt: bool,
 }
 
@@ -113,11 +113,12 @@ impl Reader {
         Ok(pass)
     }
 
-    /// The last pass again, where nothing is owed.
+    /// The last pass again, if nothing is owed.
     fn stay(&self) -> Result<Pass, EnterFault>
-        ensures pass { IfOk result (λ pass. (pass ≡ account self.now.publisher self.now.kept) × IsLawful self.now.kept × (self.now.told ≡ []) ×
-            (self.now.seen ≡ self.now.kept)) }
-        ensures no_entry { (n : ℕ) → IsErrOf result (NoEntry n) → IsOwed self.now × ((v : VersionContent) × IsLatest self.now.kept v × (n ≡ v.number)) }
+        ensures pass { IfOk result (λ pass. (pass ≡ account self.now.publisher self.now.kept) × IsLawful self.now.kept ×
+            (self.now.told ≡ []) × (self.now.seen ≡ self.now.kept)) }
+        ensures no_entry { (n : ℕ) → IsErrOf result (NoEntry n) → IsOwed self.now ×
+            ((v : VersionContent) × IsLatest self.now.kept v × (n ≡ v.number)) }
     {
         let number = self.kept.version().number();
         if self.learnt || self.seen.number() != number {
@@ -139,7 +140,7 @@ impl Reader {
     }
 }
 
-/// The longer of two histories, which the other one begins.
+/// The longer of two histories, which begins with the other one.
 fn longer(one: &Mark, other: &Mark) -> Mark
     requires { other.now.publisher ≡ one.now.publisher }
     ensures publisher { result.publisher ≡ one.now.publisher }

@@ -51,7 +51,7 @@ impl Next {
         }
     }
 
-    /// Adds the version to the history. It gives none where the copy is refused, or another version was added first.
+    /// Adds the version to the history. Returns None if the copy is refused or another version was added first.
     fn add(&self) -> Option<Pass>
         ensures { IfSome result (λ pass. pass ≡ account self.now.publisher (self.now.history ++ self.now.version ∷ [])) }
     {
@@ -61,7 +61,7 @@ impl Next {
     }
 }
 
-/// The version that readers take, with the history up to it, where it is known.
+/// The version that readers take, with the history up to it, if it is known.
 #[derive(Drop)]
 pub struct Shown {
     mark: Mark,
@@ -95,7 +95,7 @@ impl Shown {
         })
     }
 
-    /// What is shown once this was tried.
+    /// What is shown after this attempt.
     fn after(next: &Next, pass: Option<Pass>) -> Shown
         requires { IfSome pass (λ pass. (pass.publisher ≡ next.now.publisher) × IsLatest pass.history next.now.version) }
         ensures { (result.publisher ≡ next.now.publisher) × (result.version ≡ next.now.version) }
@@ -107,7 +107,7 @@ impl Shown {
         }
     }
 
-    /// The version and the history up to it, where it is shown.
+    /// The version and the history up to it, if it is shown.
     pub fn pass(&self) -> Option<&Pass>
         ensures { IfSome result (λ pass. (pass.now.publisher ≡ self.now.publisher) × IsLatest pass.now.history self.now.version) }
     {
@@ -115,7 +115,7 @@ impl Shown {
     }
 }
 
-/// Which publisher it is of is what the two copies have in common, and which version they are to show.
+/// The two copies have in common which publisher they are of, and which version they are to show.
 impl Absorb<Next> for Shown {
     type State = (Head, Version);
 
@@ -182,7 +182,7 @@ impl Outcome<Shown, View> for Begins {
     ghost then = { λ v x y w. w ≡ head_of y.publisher };
 }
 
-/// What is told of: which publisher it is.
+/// What a note says: which publisher it is.
 pub struct Notes;
 
 impl Split<View> for Notes {

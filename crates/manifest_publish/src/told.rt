@@ -28,7 +28,7 @@ impl<E> Rule<E, ()> for Loose {
     ghost moves = { λ ask before after answer. Unit {0} };
 }
 
-/// The histories that a reader was told of.
+/// The histories that a reader has learnt.
 #[derive(Drop)]
 pub struct Told {
     lists: Seen<LinkedList<Version>, (), Loose>,

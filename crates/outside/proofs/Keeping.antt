@@ -12,7 +12,7 @@ content_or : (b : Bool) (name bytes : List ℕ) (rest : Option (List ℕ × List
 content_or true name bytes rest = refl
 content_or false name bytes rest = refl
 
--- the same, with no bytes where nothing is found
+-- the same, with no bytes if nothing is found
 sure_content_or : (b : Bool) (name bytes : List ℕ) (rest : Option (List ℕ × List ℕ)) →
     Some (unwrap_or (option_map (λ entry. entry.1) (cond b (Some (name, bytes)) rest)) []) ≡ cond b (Some bytes) (Some (unwrap_or (option_map (λ entry. entry.1) rest) []))
 sure_content_or true name bytes rest = refl

@@ -22,7 +22,7 @@ files_plan f = f.calls
 abbrev pub sure_entries : SureFiles → List (List ℕ × List ℕ)
 sure_entries f = f.held.items
 
--- how many calls were made after one more; the count stands still at its type's end
+-- how many calls were made after one more; the count stays at its type's end
 abbrev pub calls_after : FailList → ℕ
 calls_after plan = min (plan.calls + 1) (2 ^ 64 - 1)
 
@@ -30,7 +30,7 @@ calls_after plan = min (plan.calls + 1) (2 ^ 64 - 1)
 abbrev pub IsDue : FailList → Type 0
 IsDue plan = Contains plan.fails.items (calls_after plan)
 
--- one call more was made, and the same ones are to fail
+-- one more call was made, and the same ones are to fail
 pub record IsOneCallLater (before after : FailList) : Type 0 where
   pub calls : after.calls ≡ calls_after before
   pub fails : after.fails ≡ before.fails

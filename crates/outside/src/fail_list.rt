@@ -23,7 +23,7 @@ impl FailList {
         }
     }
 
-    /// Counts a call, and answers `Failed` exactly where its number is among those that are to fail.
+    /// Counts a call, and answers `Failed` exactly if its number is among those that are to fail.
     pub fn call(&mut self) -> Result<(), Failed>
         ensures called { self.new.calls ≡ min (self.old.calls + 1) (2 ^ 64 - 1) }
         ensures fault { IsErr result ↔ Contains self.old.fails.items self.new.calls }

@@ -18,7 +18,7 @@ pub enum Loaded {
 
 /// Contents by name.
 pub trait Files {
-    /// The content under each name, None where that is not known.
+    /// The content under each name, or None if that is not known.
     ghost held: { Self → Option Contents };
 
     /// How often the files have failed.
@@ -101,7 +101,7 @@ impl MemFiles {
         }
     }
 
-    /// The content under a name, None exactly where it isn't held.
+    /// The content under a name, or None exactly if it isn't held.
     pub fn content(&self, name: &[u8]) -> Option<&[u8]>
         ensures { IfSome (⟦<MemFiles as Files>⟧.held self.now) (λ contents. option_copied result ≡ contents name.now) }
     {
@@ -142,7 +142,8 @@ impl Files for MemFiles {
         ensures planned { IsErrOf result FileError.Failed → IsDue (files_plan self.old) ⊎
             IfSome (⟦<MemFiles as Files>⟧.held self.old) (λ contents. contents name.now ≡ None) }
         ensures due { IsDue (files_plan self.old) → IsErrOf result FileError.Failed }
-        ensures missing { IfSome (⟦<MemFiles as Files>⟧.held self.old) (λ contents. contents name.now ≡ None → IsErrOf result FileError.Failed) }
+        ensures missing { IfSome (⟦<MemFiles as Files>⟧.held self.old)
+            (λ contents. contents name.now ≡ None → IsErrOf result FileError.Failed) }
         ensures called { IsOneCallLater (files_plan self.old) (files_plan self.new) }
     {
         out.clear();
@@ -196,7 +197,7 @@ impl SureFiles {
         }
     }
 
-    /// The content under a name, None exactly where it isn't held.
+    /// The content under a name, or None exactly if it isn't held.
     pub fn content(&self, name: &[u8]) -> Option<&[u8]>
         ensures { option_copied result ≡ content_of (sure_entries self.now) name.now }
     {

@@ -1,4 +1,4 @@
-/// Is told of the queries and the publications of a run, and may hold the caller for a while. It tells nothing.
+/// Is notified of the queries and the publications of a run, and may hold the caller for a while. It returns nothing.
 pub trait Gate {
     /// Query `n` of the run, counted from 1, is about to begin.
     fn before_query(&self, n: u64);

@@ -7,13 +7,13 @@ use std::alloc::Global;
 
 /// Takes bytes.
 pub trait Sink {
-    /// The bytes that were taken so far, None where they are not known.
+    /// The bytes that were taken so far, or None if they are not known.
     ghost written: { Self → Option (List ℕ) };
 
     /// How often the sink has failed.
     ghost faults: { Self → ℕ };
 
-    /// Takes bytes from the front of a piece, at least one where it has one.
+    /// Takes bytes from the front of a piece, at least one if it has one.
     fn write(&mut self, piece: &[u8]) -> Result<usize, WriteError>
         ensures bound { IfOk result (λ n. n ≤ length piece.now) }
         ensures some { IfOk result (λ n. 0 < length piece.now → 0 < n) }

@@ -9,7 +9,7 @@ use std::alloc::Global;
 
 /// Hands out bytes, to its end.
 pub trait Source {
-    /// The bytes that are left, None where they are not known.
+    /// The bytes that are left, or None if they are not known.
     ghost left: { Self → Option (List ℕ) };
 
     /// How often the source has failed.
@@ -93,7 +93,7 @@ impl Source for SureSource {
     }
 }
 
-/// Moves the bytes from a place on to the front of `into`, as many as there are or fit.
+/// Moves the bytes starting at a place to the front of `into`, as many as there are and fit.
 fn take_front(bytes: &Bytes, at: &mut usize, into: &mut [u8]) -> usize
     ensures bound { result ≤ length into.new }
     ensures bytes { drop at.old bytes.now ≡ take result into.new ++ drop at.new bytes.now }

@@ -1,7 +1,7 @@
 use crate::gate::Gate;
 use std::sync::atomic::{AtomicBool, AtomicU64, Ordering};
 
-/// How often a call looks at its flag before it goes on all the same.
+/// How often a call looks at its flag before it goes on anyway.
 const LOOKS: u64 = 1 << 28;
 
 /// Lets a publication and the second query of a run take turns: a publication is held until query 2 asks to begin, and query 2 until a
@@ -16,7 +16,7 @@ pub struct TurnGate {
 }
 
 impl TurnGate {
-    /// A gate that was told of nothing. It takes no memory.
+    /// A gate that was notified of nothing. It takes no memory.
     pub fn new() -> TurnGate {
         TurnGate {
             asked: AtomicBool::new(false),
@@ -32,7 +32,7 @@ impl TurnGate {
         self.ran_out.load(Ordering::SeqCst)
     }
 
-    /// The version that was told last for query 1 or 2, 0 before one was told. There is none for other queries: 0.
+    /// The version that was reported last for query 1 or 2, or 0 before one was. There is none for other queries: 0.
     pub fn answered_on(&self, n: u64) -> u64 {
         match n {
             1 => self.first_version.load(Ordering::SeqCst),

@@ -15,7 +15,7 @@ front_read None b out more most p is = (is, tt)
 front_read (Some bytes) None out more most p is = absurd p
 front_read (Some bytes) (Some left) out more most p is = (is, record { rest = more ++ left; is = ap (λ l. Some l) (p ∙ append_assoc out more left) })
 
--- the last piece is cut where the content is long
+-- the last piece is cut if the content is long
 pub cut_read : (a b c : Option (List ℕ)) (front piece out : List ℕ) (k count most : ℕ) → Consumes a b front → Consumes b c (take count piece) → k ≤ count → count ≤ length piece →
     length front + k ≡ most + 1 → out ≡ front ++ take k piece → Loads {E = FileFault} (content_left a) [] most (Ok Long) out
 cut_read a b c front piece out k count most p q le bound size is =

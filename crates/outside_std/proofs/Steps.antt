@@ -53,12 +53,12 @@ pub text_stored : (a b c d : Option (List Step)) (text : List ℕ) → Adds a b 
 text_stored a b c d text kept filled synced =
     record { pieces = filled.pieces; whole = filled.whole; is = Adds-trans a b d [] (written filled.pieces ++ Syncs ∷ []) kept (Adds-trans b c d (written filled.pieces) (Syncs ∷ []) filled.is synced) }
 
--- the same, where the sync failed
+-- the same, if the sync failed
 pub text_unsynced : (a b c d : Option (List Step)) (text : List ℕ) → Adds a b [] → Fills b c text → Adds c d [] → FillsSome a d
 text_unsynced a b c d text kept filled same =
     record { pieces = filled.pieces; is = Adds-trans a b d [] (written filled.pieces) kept (Adds-kept b c d (written filled.pieces) filled.is same) }
 
--- the same, where the text was not written whole
+-- the same, if the text was not written whole
 pub text_cut : (a b c : Option (List Step)) → Adds a b [] → FillsSome b c → FillsSome a c
 text_cut a b c kept some = record { pieces = some.pieces; is = Adds-trans a b c [] (written some.pieces) kept some.is }
 

@@ -4,7 +4,7 @@ use Rattle.std.specs.List.{concat}
 use Rattle.outside_std.specs.declared.step.Step.{Step}
 use Rattle.outside_std.specs.declared.step.Step.TheVariants.{Creates, Writes, Syncs, Renames, Removes, SyncsFolder}
 
--- where the steps of a disk are known, these came after those of before
+-- if the steps of a disk are known, these came after the earlier ones
 abbrev pub Adds : Option (List Step) → Option (List Step) → List Step → Type 0
 Adds None now more = ⊤
 Adds (Some before) None more = ⊥

@@ -6,10 +6,10 @@ use crate::cause::{FileCause, FileFault};
 use crate::disk::Disk;
 use std::alloc::{AllocError, Global};
 
-/// How many names beside a path are tried. One that a killed program left behind is never written over.
+/// How many names next to a path are tried. One that a killed program left behind is never written over.
 const TRIES: u32 = 1_000_000;
 
-/// The name number `n` in the folder of a path. It is short, so that nearly each path that can be kept has one.
+/// The name number `n` in the folder of a path. It is short, so that nearly every path that can be kept has one.
 fn name_beside(alloc: Global, path: &str, n: u32) -> Result<String, AllocError> {
     match path.rsplit_once('/') {
         Some((folder, _)) => format!(in alloc; "{folder}/.gclq-{n}.new"),
@@ -17,7 +17,7 @@ fn name_beside(alloc: Global, path: &str, n: u32) -> Result<String, AllocError> 
     }
 }
 
-/// A new file in the folder of a path, and its name. No file that is there is opened.
+/// A new file in the folder of a path, and its name. No existing file is opened.
 pub fn create_beside<D: Disk>(
     alloc: Global,
     disk: &mut D,

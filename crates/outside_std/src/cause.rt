@@ -7,7 +7,7 @@ use std::io::{Error, ErrorKind};
 /// Why a file was not read or saved.
 #[derive(Clone, Copy, Debug, PartialEq, Eq)]
 pub enum FileCause {
-    /// The name is no UTF-8.
+    /// The name is not UTF-8.
     NotText,
     /// There is no such file, or no such folder.
     NotThere,
@@ -15,15 +15,15 @@ pub enum FileCause {
     NotAllowed,
     /// It is a folder.
     Folder,
-    /// It is no file, as a device or a pipe: nothing can be saved there.
+    /// It is not a file but, say, a device or a pipe: nothing can be saved there.
     NotAFile,
-    /// Symbolic links lead on without an end.
+    /// Symbolic links lead on without end.
     Links,
     /// The disk has no room left.
     Full,
-    /// The name, or one beside it, is longer than the system takes.
+    /// The name, or one next to it, is longer than the system accepts.
     LongName,
-    /// Each name that was tried beside it is taken by what a killed save left.
+    /// Each name that was tried next to it is taken by what a killed save left.
     Leftovers,
     /// Anything else.
     Other,
@@ -50,7 +50,7 @@ impl From<Error> for FileCause {
 pub enum FileFault {
     /// There was no memory for a name.
     NoMemory,
-    /// The disk failed so.
+    /// The disk failed with this cause.
     Failed(FileCause),
 }
 

@@ -16,13 +16,13 @@ pub trait Disk {
     /// A file that is open for writing.
     type File: Drop;
 
-    /// The content under each name, None where that is not known, which is so of a real one.
+    /// The content under each name, or None if that is not known, as for a real one.
     ghost held: { Self → Option Contents };
 
-    /// The steps that it took so far, None where they are not known, which is so of a real one.
+    /// The steps that it took so far, or None if they are not known, as for a real one.
     ghost steps: { Self → Option (List Step) };
 
-    /// Opens what is under a name, from its first byte on.
+    /// Opens what is under a name, starting at its first byte.
     fn open(&self, name: &str) -> Result<Self::Opened, FileCause>
         ensures { IfOk result (λ file. Opens (held self.now) name.now (Self.Opened.remaining file)) };
 
@@ -31,7 +31,7 @@ pub trait Disk {
         ensures ok { OnOk result (Adds (steps self.old) (steps self.new) (Step.Creates name.now ∷ [])) }
         ensures err { OnErr result (Adds (steps self.old) (steps self.new) []) };
 
-    /// Gives the file these permission bits, whatever the process leaves out of those of new files.
+    /// Gives the file these permission bits, even those that the process leaves out of new files.
     fn allow(&mut self, file: &mut Self::File, mode: u32) -> Result<(), FileCause>
         ensures same { Adds (steps self.old) (steps self.new) [] };
 
@@ -46,7 +46,7 @@ pub trait Disk {
         ensures ok { OnOk result (Adds (steps self.old) (steps self.new) (Step.Syncs ∷ [])) }
         ensures err { OnErr result (Adds (steps self.old) (steps self.new) []) };
 
-    /// Gives what has one name another, in place of what has that.
+    /// Gives what has one name another, replacing what has that.
     fn rename(&mut self, from: &str, to: &str) -> Result<(), FileCause>
         ensures ok { OnOk result (Adds (steps self.old) (steps self.new) (Step.Renames from.now to.now ∷ [])) }
         ensures err { OnErr result (Adds (steps self.old) (steps self.new) []) };

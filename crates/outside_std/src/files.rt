@@ -35,7 +35,7 @@ struct Fault {
     cause: FileCause,
 }
 
-/// The file system. A name is a path, from where the program runs.
+/// The file system. A name is a path, relative to where the program runs.
 #[derive(Drop)]
 pub struct StdFiles<'a, R> {
     rt: &'a R,
@@ -59,7 +59,7 @@ impl<'a, R: rt::Files + AllocGlobal> StdFiles<'a, R> {
         }
     }
 
-    /// The name at which the files failed last, for a message; nothing where they never did.
+    /// The name at which the files failed last, for a message; nothing if they never did.
     pub fn last_fault(&self) -> &[u8] {
         match &self.last {
             Some(
@@ -72,7 +72,7 @@ impl<'a, R: rt::Files + AllocGlobal> StdFiles<'a, R> {
         }
     }
 
-    /// The call that failed last, for a message; None where none did.
+    /// The call that failed last, for a message; None if none did.
     pub fn last_call(&self) -> Option<FileCall> {
         match &self.last {
             Some(fault) => Some(fault.call),
@@ -80,7 +80,7 @@ impl<'a, R: rt::Files + AllocGlobal> StdFiles<'a, R> {
         }
     }
 
-    /// Why that call failed, for a message; None where none did.
+    /// Why that call failed, for a message; None if none did.
     pub fn last_cause(&self) -> Option<FileCause> {
         match &self.last {
             Some(fault) => Some(fault.cause),
@@ -115,7 +115,7 @@ impl<'a, R: rt::Files + AllocGlobal> StdFiles<'a, R> {
         }
     }
 
-    /// Room for what is read at a time, which is taken once.
+    /// Room for what is read at a time, which is allocated once.
     fn take_piece(&mut self) -> Result<(), AllocError>
         ensures room { OnOk result (0 < length self.new.piece.items) }
         ensures faults { self.new.faults ≡ self.old.faults }

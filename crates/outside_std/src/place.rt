@@ -10,7 +10,7 @@ const LINKS_MOST: u32 = 40;
 /// Which bits of a file's mode are kept: what its owner, its group and all others may do.
 const MODE_MASK: u32 = 0o777;
 
-/// Where a link leads: its text, from the folder that it stands in.
+/// Where a link leads: its text, relative to the folder that it is in.
 fn target_of(alloc: Global, link: &str, text: &str) -> Result<String, AllocError> {
     match link.rsplit_once('/') {
         Some((folder, _)) if !text.starts_with('/') => format!(in alloc; "{folder}/{text}"),
@@ -18,7 +18,7 @@ fn target_of(alloc: Global, link: &str, text: &str) -> Result<String, AllocError
     }
 }
 
-/// The path that a symbolic link leads to, None where the path is no link.
+/// The path that a symbolic link leads to, or None if no link can be read there.
 fn next_place<R: rt::Files + AllocGlobal>(
     rt: &R,
     place: &str,
@@ -33,7 +33,7 @@ fn next_place<R: rt::Files + AllocGlobal>(
     }
 }
 
-/// The path behind all symbolic links, the same one where it is none. Nothing needs to be there.
+/// The path behind all symbolic links, or the same one if it is none. Nothing needs to be there.
 pub fn followed<R: rt::Files + AllocGlobal>(rt: &R, path: &str) -> Result<String, FileFault> {
     let mut place = String::from_str(rt.alloc(), path)?;
     for _ in 0..LINKS_MOST {
@@ -45,8 +45,8 @@ pub fn followed<R: rt::Files + AllocGlobal>(rt: &R, path: &str) -> Result<String
     Err(FileFault::Failed(FileCause::Links))
 }
 
-/// The permission bits of the file at a path, None where nothing is there. A folder, a device or a pipe is no place
-/// for a file: a rename would put one there instead.
+/// The permission bits of the file at a path, or None if the system shows nothing there. A folder, a device or a pipe is no
+/// place for a file: a rename would put one there instead.
 pub fn mode_at<R: rt::Files>(rt: &R, path: &str) -> Result<Option<u32>, FileCause> {
     match fs::metadata(rt, path) {
         Ok(there) if there.is_file() => Ok(Some(there.permissions().mode() & MODE_MASK)),

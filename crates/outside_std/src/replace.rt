@@ -49,7 +49,7 @@ fn store<D: Disk>(
     disk.sync(file)
 }
 
-/// The error of a save that failed so, of whose new file nothing is left.
+/// Removes the new file of a save that failed, and gives the error of the save.
 fn given_up<D: Disk>(disk: &mut D, beside: &str, cause: FileCause) -> FileFault
     ensures { Adds (D.steps disk.old) (D.steps disk.new) (Removes beside.now ∷ []) }
 {
@@ -58,7 +58,7 @@ fn given_up<D: Disk>(disk: &mut D, beside: &str, cause: FileCause) -> FileFault
 }
 
 /// Writes the bytes to a file of their own, which then takes the path. Until that step the path has its old content.
-/// Some error after it says that a loss of power may bring the old content back.
+/// Some error after it means that a loss of power may bring the old content back.
 pub fn replace<D: Disk>(
     alloc: Global,
     disk: &mut D,
@@ -73,7 +73,7 @@ pub fn replace<D: Disk>(
     take_path(disk, &mut file, beside.as_str(), path, mode, bytes)
 }
 
-/// The same from where the new file was created.
+/// The same, starting after the new file was created.
 fn take_path<D: Disk>(
     disk: &mut D,
     file: &mut D::File,

@@ -8,7 +8,7 @@ use std::io;
 use std::io::{ErrorKind, Write};
 use std::rt::Clock;
 
-/// A sink over a writer. Its bytes are known where the writer's are, which is so of no real one. It never wants memory.
+/// A sink over a writer. Its bytes are known if the writer's are, which is so of no real one. It never needs memory.
 #[derive(Drop)]
 pub struct StdSink<'a, R, W> {
     clock: &'a R,
@@ -18,7 +18,7 @@ pub struct StdSink<'a, R, W> {
 }
 
 impl<'a, R: Clock, W: Write> StdSink<'a, R, W> {
-    /// Writes to `inner`, and naps by `clock` where that takes nothing yet. It takes no memory.
+    /// Writes to `inner`, and naps by `clock` when that takes nothing yet. It takes no memory.
     pub fn new(clock: &'a R, inner: W) -> Self
         ensures written { ⟦<StdSink<'a, R, W> as Sink>⟧.written result ≡ W.contents inner }
         ensures faults { ⟦<StdSink<'a, R, W> as Sink>⟧.faults result ≡ 0 }
@@ -31,13 +31,13 @@ impl<'a, R: Clock, W: Write> StdSink<'a, R, W> {
         }
     }
 
-    /// Whether the last fault was that nobody reads any more, as of a pipe into `head`.
+    /// Whether the last fault was that nobody reads any more, as with a pipe into `head`.
     pub fn reader_is_gone(&self) -> bool {
         self.gone
     }
 }
 
-/// One write, made again where a signal interrupted it.
+/// One write, made again if a signal interrupted it.
 pub fn write_again<W: Write>(inner: &mut W, piece: &[u8]) -> io::Result<usize>
     ensures bound { IfOk result (λ n. n ≤ length piece.now) }
     ensures bytes { WriteAppends (W.contents inner.old) (W.contents inner.new) result piece.now }
@@ -51,7 +51,7 @@ pub fn write_again<W: Write>(inner: &mut W, piece: &[u8]) -> io::Result<usize>
     inner.write(piece)
 }
 
-/// One write, made again as long as the writer would have to wait.
+/// One write, made again while the writer would have to wait.
 fn write_waiting<R: Clock, W: Write>(clock: &R, inner: &mut W, piece: &[u8]) -> io::Result<usize>
     ensures bound { IfOk result (λ n. n ≤ length piece.now) }
     ensures bytes { WriteAppends (W.contents inner.old) (W.contents inner.new) result piece.now }
@@ -73,9 +73,12 @@ impl<'a, R: Clock, W: Write> Sink for StdSink<'a, R, W> {
     fn write(&mut self, piece: &[u8]) -> Result<usize, WriteError>
         ensures bound { IfOk result (λ n. n ≤ length piece.now) }
         ensures some { IfOk result (λ n. 0 < length piece.now → 0 < n) }
-        ensures bytes { WriteAppends (⟦<StdSink<'a, R, W> as Sink>⟧.written self.old) (⟦<StdSink<'a, R, W> as Sink>⟧.written self.new) result piece.now }
-        ensures cause { HasWriteCause (⟦<StdSink<'a, R, W> as Sink>⟧.faults self.old) (⟦<StdSink<'a, R, W> as Sink>⟧.faults self.new) result }
-        ensures counts { CountsWriteFault (⟦<StdSink<'a, R, W> as Sink>⟧.faults self.old) (⟦<StdSink<'a, R, W> as Sink>⟧.faults self.new) result }
+        ensures bytes { WriteAppends (⟦<StdSink<'a, R, W> as Sink>⟧.written self.old) (⟦<StdSink<'a, R, W> as Sink>⟧.written self.new)
+            result piece.now }
+        ensures cause { HasWriteCause (⟦<StdSink<'a, R, W> as Sink>⟧.faults self.old)
+            (⟦<StdSink<'a, R, W> as Sink>⟧.faults self.new) result }
+        ensures counts { CountsWriteFault (⟦<StdSink<'a, R, W> as Sink>⟧.faults self.old)
+            (⟦<StdSink<'a, R, W> as Sink>⟧.faults self.new) result }
         ensures never { ¬ IsErrOf result WriteError.NoMemory }
     {
         let gone = match write_waiting(self.clock, &mut self.inner, piece) {

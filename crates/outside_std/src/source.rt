@@ -8,7 +8,7 @@ use std::io;
 use std::io::{ErrorKind, Read};
 use std::rt::Clock;
 
-/// A source over a reader. Its bytes are known where the reader's are, which is so of no real one.
+/// A source over a reader. Its bytes are known if the reader's are, which is so of no real one.
 #[derive(Drop)]
 pub struct StdSource<'a, C, R> {
     clock: &'a C,
@@ -17,7 +17,7 @@ pub struct StdSource<'a, C, R> {
 }
 
 impl<'a, C: Clock, R: Read> StdSource<'a, C, R> {
-    /// Reads from `inner`, and naps by `clock` where that has nothing yet. It takes no memory.
+    /// Reads from `inner`, and naps by `clock` when that has nothing yet. It takes no memory.
     pub fn new(clock: &'a C, inner: R) -> Self
         ensures left { ⟦<StdSource<'a, C, R> as Source>⟧.left result ≡ R.remaining inner }
         ensures faults { ⟦<StdSource<'a, C, R> as Source>⟧.faults result ≡ 0 }
@@ -30,7 +30,7 @@ impl<'a, C: Clock, R: Read> StdSource<'a, C, R> {
     }
 }
 
-/// One read, made again where a signal interrupted it.
+/// One read, made again if a signal interrupted it.
 pub fn read_again<R: Read>(inner: &mut R, into: &mut [u8]) -> io::Result<usize>
     ensures bound { ReadsAtMost result into.new }
     ensures bytes { ReadConsumes (R.remaining inner.old) (R.remaining inner.new) result into.new }
@@ -44,7 +44,7 @@ pub fn read_again<R: Read>(inner: &mut R, into: &mut [u8]) -> io::Result<usize>
     inner.read(into)
 }
 
-/// One read, made again as long as the reader would have to wait.
+/// One read, made again while the reader would have to wait.
 fn read_waiting<C: Clock, R: Read>(clock: &C, inner: &mut R, into: &mut [u8]) -> io::Result<usize>
     ensures bound { ReadsAtMost result into.new }
     ensures bytes { ReadConsumes (R.remaining inner.old) (R.remaining inner.new) result into.new }

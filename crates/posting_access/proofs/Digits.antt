@@ -31,7 +31,7 @@ halved_once whole left next before now later h is some half =
 pub digits_of_blocks : (n blocks before now : ℕ) → blocks ≡ (n + 63) / 64 → RisesByDigits blocks before now → RisesByDigits n before now
 digits_of_blocks n blocks before now is r = let few = r.few in record { digits = r.digits; few = omega (arith, few, is); most = r.most; rises = r.rises }
 
--- where there are two blocks there is room for one probe more
+-- if there are two blocks, there is room for one more probe
 pub digits_of_one_more : (n blocks before now later : ℕ) → blocks ≡ (n + 63) / 64 → 64 < n → RisesByDigits blocks before now → later ≡ now + 1 → RisesByDigits n before later
 digits_of_one_more n blocks before now later is many r later_is =
     let few = r.few in

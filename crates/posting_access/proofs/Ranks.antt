@@ -13,7 +13,7 @@ use Rattle.posting_access.proofs.Searches.{IsNear}
 pub few_below : (xs : List ℕ) (k : ℕ) → count_below xs k ≤ length xs
 few_below xs k = let counted = length-filter (λ p. ltb p k) xs in let most = count_by-le-length (λ p. ltb p k) xs in omega (arith, counted, most)
 
--- none of what rises from k on is below it
+-- none of what rises starting at k is below it
 none_below : (low end : ℕ) (xs : List ℕ) (k : ℕ) → RiseWithin low end xs → k ≤ low → count_below xs k ≡ 0
 none_below low end [] k r le = refl
 none_below low end (x ∷ xs) k r le =
@@ -32,7 +32,7 @@ all_before low end (x ∷ xs) (suc n) k r lt le =
     let rest = all_before (x + 1) end xs n k r.2 (omega (arith, lt)) le in
     rw e (omega (arith, rest))
 
--- no member is below k from one on that is past it
+-- no member is below k starting at one that is past it
 none_behind : (low end : ℕ) (xs : List ℕ) (n k : ℕ) → RiseWithin low end xs → (n < length xs → k < get_or xs n 0) → count_below (drop n xs) k ≡ 0
 none_behind low end [] zero k r after = refl
 none_behind low end [] (suc n) k r after = refl
@@ -41,11 +41,11 @@ none_behind low end (x ∷ xs) zero k r after =
     none_below x end (x ∷ xs) k (omega arith, r.1, r.2) (omega (arith, lt))
 none_behind low end (x ∷ xs) (suc n) k r after = none_behind (x + 1) end xs n k r.2 (λ lt. after (omega (arith, lt)))
 
--- where no block begins at or before k, no member is below it
+-- if no block begins at or before k, no member is below it
 pub rank_first : (xs : List ℕ) (k : ℕ) → IsNear xs k 0 → count_below xs k ≡ 0
 rank_first xs k i = none_behind 0 (2 ^ 56) xs 0 k i.rising (λ lt. i.after (omega (arith, lt)))
 
--- else the blocks before the last of those are below k, and so many of that one
+-- else the blocks before the last of those are below k, and this many of that one
 pub rank_near : (xs : List ℕ) (k last near : ℕ) → IsNear xs k near → near ≡ last + 1 → count_below xs k ≡ 64 * last + count_below (block_of xs last) k
 rank_near xs k last near i is =
     let within = i.within in

@@ -24,14 +24,14 @@ least_skips low end (x ∷ xs) (suc n) k r lt le =
     let e : leb k x ≡ false = lt-leb k x (omega arith) in
     rw e (least_skips (x + 1) end xs n k r.2 (omega arith) le)
 
--- where a member past k comes first, it is the answer
+-- if a member past k comes first, it is the answer
 least_beyond : (xs : List ℕ) (n k : ℕ) → (n < length xs → k < get_or xs n 0) → least_from (drop n xs) k ≡ slice_get xs n
 least_beyond [] zero k after = refl
 least_beyond [] (suc n) k after = refl
 least_beyond (x ∷ xs) zero k after = let lt = after (omega arith) in let e : leb k x ≡ true = le-leb k x (omega arith) in rw e refl
 least_beyond (x ∷ xs) (suc n) k after = least_beyond xs n k (λ lt. after (omega arith))
 
--- where every member is greater than k there is none up to k
+-- if every member is greater than k, there is none up to k
 pub greatest_none : (low end : ℕ) (xs : List ℕ) (k : ℕ) → RiseWithin low end xs → k < low → greatest_to xs k ≡ None
 greatest_none low end [] k r lt = refl
 greatest_none low end (x ∷ xs) k r lt =
@@ -106,7 +106,7 @@ least_found xs k last near x i is some e = sym (least_near xs k last near i is s
 pub least_not_found : (xs : List ℕ) (k last near : ℕ) → IsNear xs k near → last ≡ near - 1 → 0 < length xs → None ≡ least_from (block_of xs last) k → slice_get xs (64 * near) ≡ least_from xs k
 least_not_found xs k last near i is some e = sym (least_near xs k last near i is some ∙ ap (λ o. option_or o (slice_get xs (64 * near))) (sym e))
 
--- where the next block was asked, there are two
+-- if the next block was asked, there are two
 pub block_behind : (xs : List ℕ) (k near : ℕ) (r : Option ℕ) → IsNear xs k near → 0 < length xs → None ≡ least_from (block_of xs (near - 1)) k → r ≡ slice_get xs (64 * near) → 0 < length (option_to_list r) → 64 < length xs
 block_behind xs k zero r i some e is has = absurd (none-some _ (e ∙ ap (λ o. o) (first_found xs k i some)))
   where

@@ -2,7 +2,7 @@
 use Rattle.std.specs.Prelude.{ℕ, ◌+◌, ◌*◌, ◌^◌, ◌≤◌, nat_le, nat_lt, List, length, filter, find, Option}
 use Rattle.gcl_model.specs.Access.{find_last}
 
--- the least member at or after k: of 2, 5, 9 from 3 on it is 5, and from 10 on there is none
+-- the least member at or after k: of 2, 5, 9 at or after 3 it is 5, and at or after 10 there is none
 abbrev pub least_from : List ℕ → ℕ → Option ℕ
 least_from addresses k = find (λ p. nat_le k p) addresses
 

@@ -3,7 +3,7 @@ ghost use Rattle.posting_access.specs.Search.{RisesByDigits};
 
 use gcl_model::{Ledger, Steps};
 
-/// A test of the places before a length. Nothing is said of how it holds.
+/// A test of the places before a length. Nothing is assumed about which places pass.
 pub trait Test {
     ghost use Rattle.std.specs.Prelude.{ℕ, Bool};
 
@@ -18,7 +18,7 @@ pub trait Test {
         ensures { result ≡ passes self.now i };
 }
 
-/// A place from `from` to `upto` that fails, or the end, where the one before it passes, or it is the first. Each test of
+/// A place from `from` to `upto` that fails or is the end, and whose predecessor passes unless it is the first. Each test of
 /// a place is a probe.
 pub fn border<T: Test, L: Ledger>(
     test: &T,

@@ -77,7 +77,7 @@ fn blocks_up_to<L: Ledger>(list: &Postings<'_>, k: u64, probes: &mut Steps<L>) -
     border(&BlocksUpTo { list, k }, 0, list.block_count(), probes)
 }
 
-/// The least address of a block from `k` on.
+/// The least address of a block at or after `k`.
 fn least_in_block(list: &Postings<'_>, block: usize, k: u64) -> Option<u64>
     requires { block < blocks_of list.now }
     ensures { result ≡ least_from (block_of list.now block) k }
@@ -112,7 +112,7 @@ fn rank_in_block(list: &Postings<'_>, block: usize, k: u64) -> usize
     begin_below(&members[..count], k)
 }
 
-/// How many addresses stand before the first one that is not below `k`.
+/// How many addresses come before the first one that is not below `k`.
 fn begin_below(addresses: &[u64], k: u64) -> usize
     ensures { result ≡ prefix_len (λ p. nat_lt p k) addresses.now }
 {

@@ -24,7 +24,7 @@ option_or-assoc (Some x) b c = refl
 below_in-cons : (k x : ℕ) (xs : List ℕ) → below_in k (x ∷ xs) ≡ option_or (below_in k xs) (cond (ltb x k) (Some x) None)
 below_in-cons k x xs = ap (find (λ p. ltb p k)) (reverse-append (x ∷ []) xs) ∙ find-append (λ p. ltb p k) (reverse xs) (x ∷ [])
 
--- nothing that rises from k on is below it
+-- nothing that rises starting at k is below it
 none_below : (k low end : ℕ) (xs : List ℕ) → RiseWithin low end xs → k ≤ low → below_in k xs ≡ None
 none_below k low end [] r le = refl
 none_below k low end (x ∷ xs) r le =
@@ -32,7 +32,7 @@ none_below k low end (x ∷ xs) r le =
     let e : ltb x k ≡ false = le-ltb x k (omega (arith, a)) in
     below_in-cons k x xs ∙ ap (λ o. option_or o (cond (ltb x k) (Some x) None)) (none_below k (x + 1) end xs r.2 (omega (arith, a))) ∙ rw e refl
 
--- a walk that stands at a member, with some after it
+-- a walk that is at a member, with some after it
 pub record IsAround (packed : List ℕ) (first at behind k value after left : ℕ) (below : Option ℕ) : Type 0 where
   pub can : CanUnpack packed value after
   pub enough : left ≤ length (members_behind packed value after)
@@ -60,7 +60,7 @@ rise_ahead low end (z ∷ zs) y ys r =
     let ahead = rise_ahead (z + 1) end zs y ys r.2 in
     omega (arith, here, ahead)
 
--- what stands in front of a member below k is below it too
+-- what is in front of a member below k is below it too
 none_in_front : (k low end : ℕ) (zs : List ℕ) (y : ℕ) (ys : List ℕ) → RiseWithin low end (zs ++ y ∷ ys) → y < k → from_in k zs ≡ None
 none_in_front k low end [] y ys r lt = refl
 none_in_front k low end (z ∷ zs) y ys r lt =

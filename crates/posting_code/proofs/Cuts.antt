@@ -70,11 +70,11 @@ rise_to_last low end (x ∷ z ∷ xs) r =
     let below = rest.1 in
     (r.0, omega (arith, above, below), rest)
 
--- where the last is below a number, all are
+-- if the last is below a number, all are
 pub all_below : (k : ℕ) (xs : List ℕ) → ArePostings xs → last_of xs < k → RiseWithin 0 k xs
 all_below k xs r lt = rise_wider 0 0 (last_of xs + 1) k xs (rise_to_last 0 (2 ^ 56) xs r) (omega arith) (omega (arith, lt))
 
--- all bytes from a place on
+-- all bytes starting at a place
 take_rest : (bytes : List ℕ) (n : ℕ) → take (length bytes - n) (drop n bytes) ≡ drop n bytes
 take_rest bytes n = let long = length-drop n bytes in take_all (length bytes - n) (drop n bytes) (omega (arith, long))
 
@@ -88,13 +88,13 @@ can_lend list first last count packed rising few counted first_is last_is packed
     let both = short_of list first last count packed rising few counted first_is last_is packed_is in
     record { is = both.0; parts = both.1 }
 
--- the last of what is left from a member on
+-- the last of what is left starting at a member
 last_of-drop : (n : ℕ) (xs : List ℕ) → n < length xs → last_of (drop n xs) ≡ last_of xs
 last_of-drop n xs lt =
     let long = length-drop n xs in
     sym (ap last_of (sym (take-append-drop n xs)) ∙ last_of-append (take n xs) (drop n xs) (omega (arith, long, lt)))
 
--- the members from one on, which are few
+-- the members starting at one, which are few
 pub lend_rest : (list packed : List ℕ) (place last count : ℕ) (head : Head) → ArePostings list → StandsAt list packed place head → last ≡ last_of list → count ≡ length list - place → count ≤ 64 →
     CanLend (drop place list) head.first last count (drop head.at packed)
 lend_rest list packed place last count head rising stands last_is counted few =
@@ -118,7 +118,7 @@ lend_stretch list packed place steps count from to rising stands end counted few
     can_lend (take count (drop place list)) from.first to.first count (take (to.at - from.at) (drop from.at packed)) (take_rises 0 (2 ^ 56) (drop place list) count (rise_drop 0 (2 ^ 56) list place rising))
     (omega (arith, counted_is, few)) counted_is (sym (ap (λ l. get_or l 0 0) mine)) (sym s.last ∙ ap last_of (sym mine)) (s.bytes ∙ ap packed_of (sym mine))
 
--- the first member stands at the front of the bytes
+-- the first member is at the front of the bytes
 pub first_stands : (list : List ℕ) (count first : ℕ) (packed : List ℕ) (heads : List Head) → kept count first packed ≡ list → IsKept count first packed heads → 0 < length list → StandsAt list packed 0 record { first = first; at = 0 }
 first_stands list count first packed heads is k some = block_stands_at list count first packed packed heads heads 0 record { first = first; at = 0 } is k (omega (arith, some)) refl refl refl
 
@@ -237,7 +237,7 @@ lend_whole list last count first packed heads is k few =
       };
     }
 
--- from a first member on that is no less than a number, all are
+-- starting at a first member that is no less than a number, all are
 pub from_first : (k : ℕ) (list : List ℕ) (count first : ℕ) (packed : List ℕ) (heads : List Head) → kept count first packed ≡ list → IsKept count first packed heads → k ≤ first → RiseWithin k (2 ^ 56) list
 from_first k list zero first packed heads is parts le = subst (RiseWithin k (2 ^ 56)) is tt
 from_first k list (suc n) first packed heads is parts le = subst (RiseWithin k (2 ^ 56)) is (le, parts.rising.1, parts.rising.2)
@@ -254,7 +254,7 @@ walk_on list count first packed heads is parts some =
     let long = ap length at.is in
     (at.can, omega (arith, counted, long))
 
--- where the last of all members is below a number, all are
+-- if the last of all members is below a number, all are
 pub walked_below : (k : ℕ) (list : List ℕ) (count first : ℕ) (packed : List ℕ) (heads : List Head) → kept count first packed ≡ list → IsKept count first packed heads → (count ≡ 0 → ⊥) →
     last_of (first ∷ take (count - 1) (members_behind packed first 0)) < k → RiseWithin 0 k list
 walked_below k list count first packed heads is parts some below =

@@ -62,7 +62,7 @@ rises_from end before ms zero l rs r is =
 rises_from end before [] (suc steps) l rs r is = let none = length-drop steps (drop 1 (before ∷ [])) in let long : length (drop steps (drop 1 (before ∷ []))) ≡ suc (length rs) = ap length is in absurd (omega (arith, none, long))
 rises_from end before (m ∷ ms) (suc steps) l rs r is = rises_from end m ms steps l rs r.2 is
 
--- the member before the one that stands so many steps and one after the first
+-- the member before the one that is `steps` and one after the first
 pub record IsBefore (packed : List ℕ) (steps : ℕ) (first next : Head) (member at : ℕ) : Type 0 where
   pub below : member < next.first
   pub step : IsStep packed first.at at next.at

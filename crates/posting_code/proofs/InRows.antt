@@ -1,4 +1,4 @@
--- Lists that stand in rows: more at the ends of the rows, one list more, and the heads of a list that comes behind others.
+-- Lists in rows: more at the ends of the rows, one list more, and the heads of a list that comes behind others.
 use Rattle.std.proofs.Common.{◌≡◌, ℕ, ◌+◌, ◌-◌, ◌*◌, ◌/◌, ◌^◌, ◌<◌, ◌≤◌, List, [], ◌∷◌, ◌++◌, length, length-drop, length-append, take, drop, get_or, refl, sym, ap, ◌∙◌, subst, arith, le_refl}
 use Rattle.std.specs.Prelude.{Result, Ok, Err, OnErr}
 use Rattle.std.specs.List.{AllByRecursion}
@@ -34,7 +34,7 @@ still_begins row longer longest begins begins' =
 pub begins_pushed : {X : Type 0} (row longer longest more : List X) → take (length row) longer ≡ row → longest ≡ longer ++ more → take (length row) longest ≡ row
 begins_pushed row longer longest more begins is = still_begins row longer longest begins (ap (take (length longer)) is ∙ take-append_seam longer more)
 
--- what stands in a row stays there when more is added at the end
+-- what is in a row stays there when more is added at the end
 part_stays : {X : Type 0} (row longer : List X) (start end : ℕ) → take (length row) longer ≡ row → start ≤ end → end ≤ length row → take (end - start) (drop start longer) ≡ take (end - start) (drop start row)
 part_stays row longer start end begins le within =
     let more = drop (length row) longer in
@@ -196,7 +196,7 @@ pub heads_still : (before list : List ℕ) (heads : List Head) → length list �
 heads_still before [] heads none has = subst (λ l. HasHeads l heads) (sym (append-nil before)) has
 heads_still before (x ∷ xs) heads none has = absurd (omega (arith, none))
 
--- where a head is put the row is long enough
+-- if a head is put, the row is long enough
 pub head_fits : (before list : List ℕ) (count shift at : ℕ) → ComesBehind before list count shift → at ≤ length (packed_of list) → shift + at < 2 ^ 63
 head_fits before list count shift at behind within =
     let shifted = behind.shifted in

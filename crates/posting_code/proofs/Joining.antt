@@ -1,4 +1,4 @@
--- Two lists that are made one.
+-- Two lists that are joined.
 use Rattle.std.proofs.Common.{◌≡◌, ℕ, zero, suc, ◌+◌, ◌-◌, ◌*◌, ◌/◌, ◌%◌, ◌<◌, ◌≤◌, List, [], ◌∷◌, ◌++◌, length, length-drop, drop, drop-drop, get_or, append_assoc, length-append, inl, inr, refl, sym, ap, ◌∙◌, subst, arith}
 use Rattle.std.proofs.lemmas.Bool.{cases_lt}
 use Rattle.std.proofs.Math.Seq.{drop-append-add}
@@ -14,7 +14,7 @@ packed_from-append : (before : ℕ) (ps qs : List ℕ) → packed_from before (p
 packed_from-append before [] qs = refl
 packed_from-append before (p ∷ ps) qs = ap (λ bs. spelling (p - before) ++ bs) (packed_from-append p ps qs) ∙ sym (append_assoc (spelling (p - before)) (packed_from p ps) (packed_from (last_of (p ∷ ps)) qs))
 
--- the differences of two lists that are made one
+-- the differences of two lists that are joined
 pub packed_of-append : (xs ys : List ℕ) → 0 < length xs → packed_of (xs ++ ys) ≡ packed_of xs ++ packed_from (last_of xs) ys
 packed_of-append [] ys some = absurd (omega (arith, some))
 packed_of-append (x ∷ xs) ys some = packed_from-append x xs ys
@@ -75,7 +75,7 @@ head_behind xs ys front place next head is at h =
           ∙ ap (packed_from head.first) (sym (ap (λ n. drop n (xs ++ ys)) step ∙ drop-append-add xs ys (place + 1)));
     }
 
--- where a member stands that can be read on from
+-- the head of a member from which reading can go on
 pub is_head : (list packed : List ℕ) (place : ℕ) (head : Head) → packed ≡ packed_of list → drop place list ≡ head.first ∷ members_behind packed head.first head.at → place < length list →
     head.at ≤ length packed → CanUnpack packed head.first head.at → IsHead list (packed_of list) place head
 is_head list packed place head same is lt within can =
@@ -87,7 +87,7 @@ is_head list packed place head same is lt within can =
       rest = can.spelled ∙ ap (λ l. packed_from head.first (drop 1 l)) (sym split);
     }
 
--- a head stands within the bytes
+-- a head is within the bytes
 pub head_within : (count first : ℕ) (packed : List ℕ) (heads : List Head) (block : ℕ) → IsKept count first packed heads → block ≤ length heads → (head_at first heads block).at ≤ length packed
 head_within count first packed heads zero k le = omega arith
 head_within count first packed heads (suc b) k le = (k.blocks b (record { first = first; at = 0 }) (omega (arith, le))).within
@@ -118,7 +118,7 @@ enough_behind list packed place head lt stands =
     let parts = ap length stands.is in
     omega (arith, long, parts, lt)
 
--- and so many after it the member stands
+-- and the member is this many after it
 pub walked_head : (list packed bytes : List ℕ) (place : ℕ) (head found : Head) → place < length list → packed ≡ packed_of list → bytes ≡ packed → StandsAt list bytes (64 * (place / 64)) head →
     drop (place % 64) (head.first ∷ members_behind bytes head.first head.at) ≡ found.first ∷ members_behind bytes found.first found.at → CanUnpack bytes found.first found.at → found.at ≤ length bytes →
     IsHead list (packed_of list) place found

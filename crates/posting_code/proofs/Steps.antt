@@ -83,7 +83,7 @@ pub nothing_more : (front list : List ℕ) → length list ≡ 0 → front ≡ f
 nothing_more front [] none = sym (append-nil front)
 nothing_more front (x ∷ xs) none = absurd (omega (arith, none))
 
--- what stood first still does, behind two pieces more
+-- what was first still is, with two pieces more behind it
 pub begins_with : (old step mid bytes new : List ℕ) → mid ≡ old ++ step → new ≡ mid ++ bytes → take (length old) new ≡ old
 begins_with old step mid bytes new mid_is new_is =
     ap (take (length old)) (new_is ∙ ap (λ bs. bs ++ bytes) mid_is ∙ append_assoc old step bytes) ∙ take-append_seam old (step ++ bytes)

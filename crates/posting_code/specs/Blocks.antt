@@ -1,4 +1,4 @@
--- Where a list's blocks stand, for this crate alone: a list of one block keeps no heads.
+-- Where a list's blocks begin, for this crate alone: a list of one block keeps no heads.
 use Rattle.std.specs.Prelude.{◌≡◌, ℕ, List, []}
 use Rattle.posting_code.specs.declared.head.Head.{Head}
 use Rattle.posting_code.specs.declared.blocks.Blocks.{Blocks}
@@ -14,7 +14,7 @@ abbrev pub first_in : Blocks → ℕ
 first_in (One count first) = first
 first_in (Many many) = many.value.first
 
--- the heads of the blocks from the second on
+-- the heads of the blocks after the first
 abbrev pub heads_in : Blocks → List Head
 heads_in (One count first) = []
 heads_in (Many many) = many.value.heads.items

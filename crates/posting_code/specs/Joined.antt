@@ -8,7 +8,7 @@ abbrev pub last_in : List ℕ → Option ℕ
 last_in [] = None
 last_in (p ∷ ps) = Some (last_of (p ∷ ps))
 
--- the packed difference between two lists: nothing where no list is before
+-- the packed difference between two lists: nothing if no list is before
 abbrev pub step_from : Option ℕ → ℕ → List ℕ
 step_from None first = []
 step_from (Some last) first = spelling (first - last)

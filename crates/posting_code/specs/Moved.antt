@@ -14,15 +14,15 @@ moved by addresses = map (λ p. p + by) addresses
 abbrev pub can_move : ℕ → ℕ → ℕ → Bool
 can_move count last by = nat_lt 0 count && (nat_lt by (2 ^ 56) && nat_lt last (2 ^ 56 - by))
 
--- the same list moved up, as long as all of it stays below 2^56: of one that would pass it nothing is left
+-- the same list moved up, if all of it stays below 2^56: otherwise nothing is left
 abbrev pub moved_below_end : ℕ → List ℕ → List ℕ
 moved_below_end by addresses = if can_move (length addresses) (last_of addresses) by then moved by addresses else []
 
--- an address moved up as far as numbers go
+-- an address moved up, at most to 2^64 - 1
 abbrev pub moved_address : ℕ → ℕ → ℕ
 moved_address by p = min (p + by) (2 ^ 64 - 1)
 
--- a block's place whose first member is moved up; the rest of this file is for this crate alone
+-- a head whose first member is moved up; the rest of this file is for this crate alone
 abbrev pub moved_head : ℕ → Head → Head
 moved_head by head = record head { first = moved_address by head.first }
 

@@ -10,7 +10,7 @@ abbrev pub value_of : List ℕ → ℕ
 value_of [] = 0
 value_of (b ∷ bs) = b % 128 + 128 * value_of bs
 
--- the top bit stands on every byte but the last: on the first of ac 02 alone
+-- every byte except the last has the top bit: of ac 02 the first alone
 abbrev pub EndsAtLast : List ℕ → Type 0
 EndsAtLast [] = ⊥
 EndsAtLast (b ∷ []) = b < 128
@@ -30,7 +30,7 @@ pub record IsSpelling (bytes : List ℕ) (n : ℕ) : Type 0 where
   pub value : value_of bytes ≡ n
   pub small : n < 2 ^ 56
 
--- the bytes of a number that has at most `most` of them: the last 7 bits, and what is left behind them
+-- the bytes of a number that has at most `most` of them: the low 7 bits, then the bytes of what is left
 abbrev pub spelling_within : ℕ → ℕ → List ℕ
 spelling_within zero n = []
 spelling_within (suc most) n = if nat_lt n 128 then n ∷ [] else (128 + n % 128) ∷ spelling_within most (n / 128)
@@ -39,7 +39,7 @@ spelling_within (suc most) n = if nat_lt n 128 then n ∷ [] else (128 + n % 128
 abbrev pub spelling : ℕ → List ℕ
 spelling n = spelling_within 8 n
 
--- the number's spelling stands in the bytes from place `at` to just before `after`
+-- the number's spelling is in the bytes from place `at` to just before `after`
 pub record IsNumberAt (bytes : List ℕ) (at value after : ℕ) : Type 0 where
   pub small : value < 2 ^ 56
   pub spelled : drop at bytes ≡ spelling value ++ drop after bytes

@@ -25,23 +25,23 @@ abbrev pub packed_from : ℕ → List ℕ → List ℕ
 packed_from before [] = []
 packed_from before (p ∷ ps) = spelling (p - before) ++ packed_from p ps
 
--- those of a whole list, whose first member is kept apart
+-- those of a whole list, whose first member is stored separately
 abbrev pub packed_of : List ℕ → List ℕ
 packed_of [] = []
 packed_of (p ∷ ps) = packed_from p ps
 
--- from the place on stand the differences of some rising members after `before`
+-- starting at the place are the differences of some rising members after `before`
 pub record CanUnpack (packed : List ℕ) (before at : ℕ) : Type 0 where
   pub rising : RiseWithin (before + 1) (2 ^ 56) (members_behind packed before at)
   pub spelled : drop at packed ≡ packed_from before (members_behind packed before at)
 
--- a member that can be read on from, after those before it
+-- the head is that of the member at a place of the list, and the members after it can be read
 pub record StandsAt (list packed : List ℕ) (place : ℕ) (head : Head) : Type 0 where
   pub can : CanUnpack packed head.first head.at
   pub within : head.at ≤ length packed
   pub is : drop place list ≡ head.first ∷ members_behind packed head.first head.at
 
--- where the block stands whose first member has the place in the list
+-- the head of the block whose first member is at the place in the list
 pub record IsHead (list packed : List ℕ) (place : ℕ) (head : Head) : Type 0 where
   pub first : head.first ≡ get_or list place 0
   pub within : head.at ≤ length packed
@@ -55,22 +55,22 @@ pub record IsKept (count first : ℕ) (packed : List ℕ) (heads : List Head) : 
   pub marked : length heads ≡ (count + 63) / 64 - 1
   pub blocks : (b : ℕ) (d : Head) → b < length heads → IsHead (kept count first packed) packed (64 * (b + 1)) (get_or heads b d)
 
--- the last member, and 0 of none
+-- the last member, or 0 if there is none
 abbrev pub last_of : List ℕ → ℕ
 last_of [] = 0
 last_of (p ∷ []) = p
 last_of (p ∷ q ∷ qs) = last_of (q ∷ qs)
 
--- the same, and the last member stands beside them
+-- the same, and the last member is stored next to them
 pub record IsKeptTo (last count first : ℕ) (packed : List ℕ) (heads : List Head) : Type 0 where
   pub parts : IsKept count first packed heads
   pub end : last ≡ last_of (kept count first packed)
 
--- where a block stands: the first from the beginning on, and each later one by its head
+-- where a block begins: the first at the beginning, and each later one by its head
 abbrev pub head_at : ℕ → List Head → ℕ → Head
 head_at first heads zero = record { first = first; at = 0 }
 head_at first heads (suc b) = get_or heads b (record { first = first; at = 0 })
 
--- the heads where a member comes after `count` others: one more where it begins a block
+-- the heads after one more member than `count`: one more if it begins a block
 abbrev pub heads_behind : ℕ → List Head → Head → List Head
 heads_behind count heads head = if (count % 64) == 0 then heads ++ head ∷ [] else heads

@@ -14,6 +14,6 @@ ArePostings addresses = RiseWithin 0 (2 ^ 56) addresses
 abbrev pub blocks_of : List ℕ → ℕ
 blocks_of addresses = (length addresses + 63) / 64
 
--- the members of block b: those from place 64 b on, at most 64
+-- the members of block b: those starting at place 64 b, at most 64
 abbrev pub block_of : List ℕ → ℕ → List ℕ
 block_of addresses b = take 64 (drop (64 * b) addresses)

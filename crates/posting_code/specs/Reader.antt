@@ -16,7 +16,7 @@ abbrev pub behind_value : ℕ → ℕ → ℕ → Option Read
 behind_value b zero size = None
 behind_value b (suc v) size = Some (read (b - 128 + 128 * suc v) (size + 1))
 
--- the same, where none may have been read
+-- the same, if anything was read
 abbrev pub behind : ℕ → Option Read → Option Read
 behind b None = None
 behind b (Some r) = behind_value b r.value r.size

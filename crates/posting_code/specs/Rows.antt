@@ -1,4 +1,4 @@
--- How lists stand in rows, for this crate alone: the packed differences of all of them in one row, and where their blocks stand in another one.
+-- How lists are stored in rows, for this crate alone: the packed differences of all in one row, the heads of their blocks in another.
 use Rattle.std.specs.Prelude.{◌≡◌, ℕ, ◌+◌, ◌-◌, ◌*◌, ◌/◌, ◌<◌, ◌≤◌, List, ◌++◌, length, map, take, drop, get_or}
 use Rattle.std.specs.List.{AllByRecursion}
 use Rattle.posting_code.specs.Postings.{ArePostings}
@@ -30,7 +30,7 @@ pub record IsPartIn (packed : List ℕ) (heads : List Head) (part : RowPart) : T
   pub headed : (part.heads_start ≤ part.heads_end) × (part.heads_end ≤ length heads)
   pub whole : IsKeptTo part.last part.count part.first (between packed part.start part.end) (heads_between heads part.heads_start part.heads_end)
 
--- a list of its own has nothing of them
+-- a list with memory of its own has nothing of them
 abbrev pub IsListIn : List ℕ → List Head → RowList → Type 0
 IsListIn packed heads (Shared part) = IsPartIn packed heads part
 IsListIn packed heads (Own list) = Unit {0}
@@ -38,12 +38,12 @@ IsListIn packed heads (Own list) = Unit {0}
 abbrev pub AreListsIn : List ℕ → List Head → List RowList → Type 0
 AreListsIn packed heads lists = AllByRecursion (IsListIn packed heads) lists
 
--- the heads are those of all blocks of the list from the second on
+-- the heads are those of all blocks of the list after the first
 pub record HasHeads (list : List ℕ) (heads : List Head) : Type 0 where
   pub marked : length heads ≡ (length list + 63) / 64 - 1
   pub blocks : (b : ℕ) (d : Head) → b < length heads → IsHead list (packed_of list) (64 * (b + 1)) (get_or heads b d)
 
--- a list comes after so many members, and its packed differences after so many bytes
+-- a list comes after `count` members, and its packed differences after `shift` bytes
 pub record ComesBehind (before list : List ℕ) (count shift : ℕ) : Type 0 where
   pub rising : ArePostings (before ++ list)
   pub counted : count ≡ length before

@@ -1,4 +1,4 @@
--- Lists whose packed differences are taken over from bytes in which they stand.
+-- Lists whose packed differences are taken from bytes that have them already.
 use Rattle.std.specs.Prelude.{◌≡◌, ℕ, ◌-◌, ◌<◌, List, ◌++◌, length, take}
 use Rattle.posting_code.specs.Packed.{IsKeptTo}
 use Rattle.posting_code.specs.declared.head.Head.{Head}
@@ -8,7 +8,7 @@ pub record TakenList : Type 0 where
   pub list : List ℕ
   pub rest : List ℕ
 
--- some bytes without those that are left of them at the end: of 1, 2, 3, 4 with 3, 4 left they are 1, 2
+-- some bytes without the rest at their end: of 1, 2, 3, 4 with the rest 3, 4 they are 1, 2
 abbrev pub front_of : List ℕ → List ℕ → List ℕ
 front_of bytes rest = take (length bytes - length rest) bytes
 

@@ -8,23 +8,23 @@ use crate::moving::move_address;
 use crate::posting_list::BLOCK;
 use std::alloc::{AllocError, Global};
 
-/// The number of members, the first of them, and where the blocks stand.
+/// The number of members, the first member, and where the blocks begin.
 // Most lists have one block. They keep no heads, and take no memory for them.
 pub(crate) enum Blocks {
     One { count: u8, first: u64 },
     Many(Box<ManyBlocks>),
 }
 
-/// The same where there are two blocks or more.
+/// The same if there are two blocks or more.
 #[derive(Drop)]
 pub(crate) struct ManyBlocks {
     count: usize,
     first: u64,
-    // of the blocks from the second on
+    // of the blocks after the first
     heads: Vec<Head>,
 }
 
-// Written out, so that whoever lets a list go makes one call and does not tell the two cases apart.
+// Written out, so that the code that drops a list makes one call and does not distinguish the two cases.
 impl Drop for Blocks {
     fn drop(self) {
         match self {
@@ -35,7 +35,7 @@ impl Drop for Blocks {
 }
 
 impl Blocks {
-    /// The blocks of so many members.
+    /// The blocks of `count` members.
     pub(crate) fn of(
         alloc: Global,
         count: usize,
@@ -71,7 +71,7 @@ impl Blocks {
         }
     }
 
-    /// The first member, and anything where there is none.
+    /// The first member, or an arbitrary number if there is none.
     #[inline(always)]
     pub(crate) fn first(&self) -> u64
         ensures { result ≡ first_in self.now }
@@ -82,7 +82,7 @@ impl Blocks {
         }
     }
 
-    /// The heads of the blocks from the second on.
+    /// The heads of the blocks after the first.
     #[inline(always)]
     pub(crate) fn heads(&self) -> &[Head]
         ensures { result.now ≡ heads_in self.now }
@@ -93,12 +93,13 @@ impl Blocks {
         }
     }
 
-    /// Counts one member more, which has this head where it begins a block.
+    /// Counts one more member, which has this head if it begins a block.
     pub(crate) fn push(&mut self, alloc: Global, head: Head) -> Result<(), AllocError>
         requires some { 0 < count_in self.old }
         requires marked { length (heads_in self.old) ≡ (count_in self.old + 63) / 64 - 1 }
         requires small { count_in self.old ≤ 2 ^ 56 }
-        ensures ok { OnOk result (AreBlocks self.new (count_in self.old + 1) (first_in self.old) (heads_behind (count_in self.old) (heads_in self.old) head)) }
+        ensures ok { OnOk result (AreBlocks self.new (count_in self.old + 1) (first_in self.old)
+            (heads_behind (count_in self.old) (heads_in self.old) head)) }
         ensures err { OnErr result (AreBlocks self.new (count_in self.old) (first_in self.old) (heads_in self.old)) }
     {
         match self {
@@ -134,7 +135,7 @@ impl Blocks {
         }
     }
 
-    /// Takes all members away, and keeps the memory of the heads.
+    /// Removes all members, and keeps the memory of the heads.
     pub(crate) fn clear(&mut self)
         ensures { AreBlocks self.new 0 (first_in self.old) [] }
     {
@@ -146,7 +147,7 @@ impl Blocks {
 }
 
 impl ManyBlocks {
-    /// Counts one member more, which has this head where it begins a block.
+    /// Counts one more member, which has this head if it begins a block.
     fn push(&mut self, head: Head) -> Result<(), AllocError>
         requires { self.old.count ≤ 2 ^ 56 }
         ensures count { OnOk result (self.new.count ≡ self.old.count + 1) }
@@ -170,7 +171,7 @@ impl ManyBlocks {
         move_heads(&mut self.heads, by);
     }
 
-    /// Takes all members away, and keeps the memory of the heads.
+    /// Removes all members, and keeps the memory of the heads.
     fn clear(&mut self)
         ensures count { self.new.count ≡ 0 }
         ensures first { self.new.first ≡ self.old.first }
@@ -181,7 +182,7 @@ impl ManyBlocks {
     }
 }
 
-/// A whole block, and one member with this head after it.
+/// A full block, and one member with this head after it.
 fn two_blocks(alloc: Global, first: u64, head: Head) -> Result<Box<ManyBlocks>, AllocError>
     ensures count { IfOk result (λ many. many.value.count ≡ 65) }
     ensures first { IfOk result (λ many. many.value.first ≡ first) }

@@ -5,14 +5,14 @@ ghost use Rattle.posting_code.specs.Packed.{head_at, heads_behind};
 use crate::moving::move_address;
 use std::alloc::AllocError;
 
-/// Where a block stands: its first member, and the place of the packed differences after it.
+/// Where a block begins: its first member, and the place of the packed differences after it.
 #[derive(Clone, Copy, Debug)]
 pub(crate) struct Head {
     pub(crate) first: u64,
     pub(crate) at: usize,
 }
 
-/// Where a block stands in a list that begins with `first`.
+/// The head of a block in a list that begins with `first`.
 #[inline(always)]
 pub(crate) fn head_of(first: u64, heads: &[Head], block: usize) -> Head
     requires { block ≤ length heads.now }
@@ -24,7 +24,7 @@ pub(crate) fn head_of(first: u64, heads: &[Head], block: usize) -> Head
     heads[block - 1]
 }
 
-/// Puts a head after the others where the member after `count` others begins a block.
+/// Appends a head if the member after `count` others begins a block.
 pub(crate) fn push_head(heads: &mut Vec<Head>, count: usize, head: Head) -> Result<(), AllocError>
     ensures ok { OnOk result (heads.new.items ≡ heads_behind count heads.old.items head) }
     ensures err { OnErr result (heads.new.items ≡ heads.old.items) }
@@ -35,7 +35,7 @@ pub(crate) fn push_head(heads: &mut Vec<Head>, count: usize, head: Head) -> Resu
     Ok(())
 }
 
-/// Moves the first members of some blocks up. A place that no list has may be anything, so none is tested.
+/// Moves the first members of some blocks up. A head that belongs to no list may have any number, so none is tested.
 pub(crate) fn move_heads(heads: &mut [Head], by: u64)
     ensures { heads.new ≡ moved_heads by heads.old }
 {

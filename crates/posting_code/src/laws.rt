@@ -5,7 +5,7 @@ pub fn each_number_has_one_spelling()
     ensures { SpellingIsTheOnlyOne }
 {}
 
-/// No spelling of a number is a front part of another's: what begins with one reads back in one way.
+/// No spelling of a number is a prefix of another's: what begins with one can be read in one way only.
 pub fn no_spelling_begins_another()
     ensures { NoSpellingBeginsAnother }
 {}

@@ -1,17 +1,17 @@
-//! Posting lists: the addresses at which one term stands; and packed numbers, in which they are kept.
+//! Posting lists: the addresses at which one term occurs; and the packed numbers in which they are stored.
 //!
-//! Contracts see a `PostingList` as a list of addresses that rises strictly and stays below 2^56. It is lent as
-//! `Postings`, and read in blocks of 64: block `b` has the members from place `64 b` on. That only a block's first
-//! address is a fixed number, and each other member the packed difference from the one before, is seen by no contract.
-//! `PostingRows` is seen as a list of such lists: those that are put together of others share their memory.
+//! Contracts see a `PostingList` as a strictly rising list of addresses below 2^56. It is lent as `Postings`, and read
+//! in blocks of 64: block `b` has the members starting at place `64 b`. No contract sees that only a block's first
+//! address is a number of fixed size, and each other member the packed difference from the one before. `PostingRows` is
+//! seen as a list of such lists: those joined from others share their memory.
 //!
-//! The layer above asks for the first address of a block, reads a block where that one decides, or goes through it as
-//! far as an answer. Of the 70 addresses `0, 2, .. 138` block 1 begins with 128 and has 6 members.
+//! The layer above asks for the first address of a block, reads a block if that one decides, or goes through it up to
+//! the answer. Of the 70 addresses `0, 2, .. 138` block 1 begins with 128 and has 6 members.
 //!
-//! A packed number has 7 bits a byte, the lowest first: 300 is `ac 02`. It is written in one way only, and what begins
-//! with the spelling of one number begins with that of no other.
+//! A packed number has 7 bits a byte, the lowest first: 300 is `ac 02`. It has only one spelling, and what begins with
+//! the spelling of one number begins with that of no other.
 //!
-//! The plain program is the slice that a list was made from, cut by `chunks`: the tests run every reader beside it.
+//! The plain program is the slice that a list was made from, cut by `chunks`: the tests run every reader alongside it.
 #![tactic(auto)]
 
 mod blocks;

@@ -30,7 +30,7 @@ impl PostingMaker {
         }
     }
 
-    /// Puts an address after the others.
+    /// Appends an address.
     pub fn push(&mut self, address: u64) -> Result<(), AllocError>
         requires { ArePostings (self.old ++ address ∷ []) }
         ensures ok { OnOk result (self.new ≡ self.old ++ address ∷ []) }
@@ -53,7 +53,7 @@ impl PostingMaker {
         self.list.as_postings()
     }
 
-    /// Takes all addresses away. Much of the memory is kept for those to come.
+    /// Removes all addresses. Much of the memory is kept for later ones.
     pub fn clear(&mut self)
         ensures { self.new ≡ [] }
     {
@@ -67,8 +67,8 @@ impl PostingMaker {
         self.list.copy()
     }
 
-    /// The list of the addresses so far, of which none are left here, even after an Err.
-    // A short list is copied, so that its memory is there for those to come. A longer one is handed over.
+    /// Takes the list of the addresses so far: none are left here, even after an Err.
+    // A short list is copied, so that its memory is there for later addresses. A longer one is handed over.
     pub fn take(&mut self) -> Result<PostingList, AllocError>
         ensures value { IfOk result (λ list. list ≡ self.old) }
         ensures empty { self.new ≡ [] }
@@ -82,7 +82,7 @@ impl PostingMaker {
         Ok(mem::replace(&mut self.list, PostingList::new(alloc)))
     }
 
-    /// The same of a maker that is done with.
+    /// The same, of a maker that is no longer needed.
     pub fn finish(self) -> PostingList
         ensures { result ≡ self }
     {

@@ -4,14 +4,14 @@ ghost use Rattle.posting_code.specs.Moved.{can_move, moved_address};
 
 use crate::posting_list::ADDRESS_END;
 
-/// Whether there are members, and the last one stays below the end where it is moved up.
+/// Whether there are members, and the last one stays below the end when it is moved up.
 pub(crate) fn can_move(count: usize, last: u64, by: u64) -> bool
     ensures { result ≡ can_move count last by }
 {
     count > 0 && by < ADDRESS_END && last < ADDRESS_END - by
 }
 
-/// An address moved up, as far as numbers go.
+/// An address moved up, at most to the greatest `u64`.
 pub(crate) fn move_address(address: u64, by: u64) -> u64
     ensures { result ≡ moved_address by address }
 {

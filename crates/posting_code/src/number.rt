@@ -35,7 +35,7 @@ pub fn put_number(out: &mut Vec<u8>, n: u64) -> Result<(), AllocError>
     }
 }
 
-/// Appends the bytes of a spelling one by one. Where memory ends, those so far stay.
+/// Appends the bytes of a spelling one by one. If an allocation fails, those so far stay.
 fn put_bytes(out: &mut Vec<u8>, n: u64) -> Result<(), AllocError>
     requires { n < 2 ^ 56 }
     ensures ok { OnOk result (out.new.items ≡ out.old.items ++ spelling n) }

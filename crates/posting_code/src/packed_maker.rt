@@ -10,17 +10,17 @@ use crate::posting_list::{PostingList, Postings};
 use std::alloc::{AllocError, Global};
 use std::marker::Model;
 
-/// A list whose packed differences stand in some bytes already. It is gone through member by member, and nothing is packed again.
+/// A list whose packed differences are in some bytes already. It is read member by member, and nothing is packed again.
 #[derive(Drop)]
 pub struct PackedMaker<'a> {
-    // from the difference after the first member on
+    // starting at the difference after the first member
     bytes: &'a [u8],
-    // those of them behind the last member
+    // the part of them behind the last member
     rest: &'a [u8],
     first: u64,
     last: u64,
     count: usize,
-    // of the blocks from the second on
+    // of the blocks after the first
     heads: Vec<Head>,
 }
 
@@ -36,7 +36,7 @@ impl<'a> Model for PackedMaker<'a> {
 }
 
 impl<'a> PackedMaker<'a> {
-    /// The first member alone, with what stands behind it. It takes no memory.
+    /// The first member alone, and the bytes behind it. It takes no memory.
     pub fn new(alloc: Global, first: u64, bytes: &'a [u8]) -> Self
         requires { first < 2 ^ 56 }
         ensures list { result.list ≡ first ∷ [] }
@@ -52,7 +52,7 @@ impl<'a> PackedMaker<'a> {
         }
     }
 
-    /// Takes the next member, whose packed difference stands in front of this rest.
+    /// Takes the next member, whose packed difference comes right before this rest.
     #[inline(always)]
     pub fn pass(&mut self, address: u64, rest: &'a [u8]) -> Result<(), AllocError>
         requires rising { ArePostings (self.old.list ++ address ∷ []) }
@@ -70,7 +70,7 @@ impl<'a> PackedMaker<'a> {
         Ok(())
     }
 
-    /// What stands behind the last member.
+    /// The bytes behind the last member.
     #[inline(always)]
     pub fn rest(&self) -> &'a [u8]
         ensures { result.now ≡ self.now.rest }
@@ -86,7 +86,7 @@ impl<'a> PackedMaker<'a> {
         self.count
     }
 
-    /// The list, where it is one block. It is lent as it lies in the bytes.
+    /// The list, if it is one block. It is lent as it lies in the bytes.
     pub fn as_block(&self) -> Postings<'a>
         requires { length self.now.list ≤ 64 }
         ensures { result ≡ self.now.list }
@@ -107,7 +107,7 @@ impl<'a> PackedMaker<'a> {
     }
 }
 
-/// The bytes before those that are left of them.
+/// The bytes before the rest of them.
 fn before_rest<'a>(bytes: &'a [u8], rest: &[u8]) -> &'a [u8]
     requires { length rest.now ≤ length bytes.now }
     ensures { result.now ≡ front_of bytes.now rest.now }

@@ -1,4 +1,5 @@
-ghost use Rattle.std.specs.Prelude.{◌≡◌, ◌+◌, ◌*◌, ◌^◌, ◌<◌, ◌≤◌, ◌++◌, ◌∷◌, [], length, get_or, slice_index, take, drop, reverse, find, nat_lt, nat_le, IfOk, OnOk, OnErr};
+ghost use Rattle.std.specs.Prelude.{◌≡◌, ◌+◌, ◌*◌, ◌^◌, ◌<◌, ◌≤◌, ◌++◌, ◌∷◌, [], length, get_or};
+ghost use Rattle.std.specs.Prelude.{slice_index, take, drop, reverse, find, nat_lt, nat_le, IfOk, OnOk, OnErr};
 ghost use Rattle.posting_code.specs.Postings.{ArePostings, RiseWithin, blocks_of, block_of};
 ghost use Rattle.posting_code.specs.Packed.{IsHead, IsKeptTo, kept, last_of, packed_of};
 ghost use Rattle.posting_code.specs.Cuts.{IsCut};
@@ -20,13 +21,13 @@ pub const ADDRESS_END: u64 = NUMBER_END;
 pub const BLOCK: usize = 64;
 
 /// The addresses of one term.
-// The first address of the whole list stands apart, so that a list of one needs no memory beside itself. The differences
-// of all members stand in one row, so that a list grows at its end, and a block is read from its head on. The last member
-// is kept too: what is added needs its difference from it.
+// The first address of the whole list is stored separately, so that a list of one needs no further memory. The differences
+// of all members are in one row, so that a list grows at its end, and a block is read starting at its head. The last member
+// is kept too: an added member is stored as the difference from it.
 #[derive(Drop)]
 pub struct PostingList {
     packed: Vec<u8>,
-    // 0 where there is no member
+    // 0 if there is no member
     last: u64,
     blocks: Blocks,
 }
@@ -55,7 +56,7 @@ impl PostingList {
         }
     }
 
-    /// A list by all that it is kept by.
+    /// A list of all its parts.
     pub(crate) fn of_parts(packed: Vec<u8>, last: u64, blocks: Blocks) -> Self
         requires { IsKeptTo last (count_in blocks) (first_in blocks) packed.items (heads_in blocks) }
         ensures { result ≡ kept (count_in blocks) (first_in blocks) packed.items }
@@ -67,7 +68,7 @@ impl PostingList {
         }
     }
 
-    /// Puts an address after the last one.
+    /// Appends an address.
     pub(crate) fn push_behind(&mut self, address: u64) -> Result<(), AllocError>
         requires { ArePostings (self.old ++ address ∷ []) }
         ensures ok { OnOk result (self.new ≡ self.old ++ address ∷ []) }
@@ -115,7 +116,7 @@ impl PostingList {
         })
     }
 
-    /// Takes all members away, and keeps their memory.
+    /// Removes all members, and keeps their memory.
     pub(crate) fn clear(&mut self)
         ensures { self.new ≡ [] }
     {
@@ -124,7 +125,7 @@ impl PostingList {
         self.blocks.clear();
     }
 
-    /// Moves all members up, which stay as they are packed. Where the last one would pass the end, none is left.
+    /// Moves all members up without repacking them. If the last one would pass the end, none is left.
     pub(crate) fn move_up(&mut self, by: u64)
         ensures { self.new ≡ moved_below_end by self.old }
     {
@@ -160,14 +161,14 @@ impl PostingList {
 }
 
 /// The addresses of one term, lent to be read.
-// Readers see where the parts stand, and not who owns them.
+// Readers see where the parts are, and not who owns them.
 #[derive(Drop)]
 pub struct Postings<'a> {
     packed: &'a [u8],
-    // of the blocks from the second on
+    // of the blocks after the first
     heads: &'a [Head],
     first: u64,
-    // 0 where there is no member
+    // 0 if there is no member
     last: u64,
     count: usize,
 }
@@ -198,7 +199,7 @@ impl<'a> Postings<'a> {
         }
     }
 
-    /// A list by all that it is kept by.
+    /// A list of all its parts.
     pub(crate) fn of_parts(
         packed: &'a [u8],
         heads: &'a [Head],
@@ -232,21 +233,21 @@ impl<'a> Postings<'a> {
         self.packed
     }
 
-    /// The first member, and anything where there is none.
+    /// The first member, or an arbitrary number if there is none.
     pub fn first(&self) -> u64
         ensures { 0 < length self.now → result ≡ get_or self.now 0 0 }
     {
         self.first
     }
 
-    /// The last member, and 0 where there is none.
+    /// The last member, or 0 if there is none.
     pub fn last(&self) -> u64
         ensures { result ≡ last_of self.now }
     {
         self.last
     }
 
-    /// Where a member stands.
+    /// Where a member is.
     pub(crate) fn head(&self, place: usize) -> Head
         requires { place < length self.now }
         ensures { IsHead self.now (packed_of self.now) place result }
@@ -280,7 +281,7 @@ impl<'a> Postings<'a> {
         head_of(self.first, self.heads, block).first
     }
 
-    /// Puts the members of a block at the front of `into`, and gives their number. It says nothing of the rest of `into`.
+    /// Writes the members of a block to the front of `into`, and returns their number. It says nothing of the rest of `into`.
     pub fn read_block(&self, block: usize, into: &mut [u64; 64]) -> usize
         requires { block < blocks_of self.now }
         ensures count { result ≡ length (block_of self.now block) }
@@ -294,7 +295,7 @@ impl<'a> Postings<'a> {
         count
     }
 
-    /// A block by itself, which is lent as it is packed.
+    /// A block by itself, lent as it is packed.
     pub fn block(&self, block: usize) -> Postings<'a>
         requires { block < blocks_of self.now }
         ensures value { result ≡ block_of self.now block }
@@ -311,7 +312,7 @@ impl<'a> Postings<'a> {
         Postings::of_block(&self.packed[head.at..end.at], head.first, end.first, BLOCK)
     }
 
-    /// The members of a list of one block that are below `k`, and those from `k` on. Both are lent as they are packed.
+    /// The members of a list of one block below `k`, and those at or after `k`. Both are lent as they are packed.
     pub fn split(&self, k: u64) -> (Postings<'a>, Postings<'a>)
         requires { length self.now ≤ 64 }
         ensures whole { self.now ≡ result.0 ++ result.1 }
@@ -373,7 +374,7 @@ impl<'a> Postings<'a> {
         Postings::of_block(self.packed, self.first, self.last, self.count)
     }
 
-    /// The greatest member of a block before `k`, and the least from `k` on. It reads no further than the second.
+    /// The greatest member of a block before `k`, and the least at or after `k`. It reads no further than the second.
     pub fn around(&self, block: usize, k: u64) -> (Option<u64>, Option<u64>)
         requires { block < blocks_of self.now }
         ensures below { result.0 ≡ find (λ p. nat_lt p k) (reverse (block_of self.now block)) }

@@ -1,6 +1,6 @@
 //! How much room is kept.
 
-/// What lists in rows take: so many lists, so many bytes of packed differences, and so many blocks from the second on of each.
+/// The room of lists in rows: the numbers of lists, of bytes of packed differences, and of blocks after the first of each list.
 #[derive(Clone, Copy)]
 pub struct RowsRoom {
     pub lists: usize,
@@ -16,7 +16,7 @@ impl RowsRoom {
         heads: 0,
     };
 
-    /// The room of both, as far as numbers go.
+    /// The room of both, each number at most the greatest `usize`.
     pub fn and(self, other: RowsRoom) -> RowsRoom {
         RowsRoom {
             lists: self.lists.saturating_add(other.lists),
@@ -26,7 +26,7 @@ impl RowsRoom {
     }
 }
 
-/// Whether so much more room than there are members is worth giving back: to do so takes as long as to ask for it.
+/// Whether the room beyond the members is worth giving back: that takes as long as asking for it.
 pub(crate) fn is_roomy(room: usize, count: usize) -> bool {
     room.saturating_sub(count) > count / 8
 }

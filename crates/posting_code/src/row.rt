@@ -8,8 +8,8 @@ use crate::number::put_number;
 use crate::posting_list::Postings;
 use std::alloc::AllocError;
 
-/// Puts the packed differences of some lists after other bytes, as those of one list. None is unpacked. After an Err some of them may
-/// stand there.
+/// Appends the packed differences of some lists, as those of one list. None is unpacked. After an Err some of them may have been
+/// appended.
 pub fn put_joined(packed: &mut Vec<u8>, lists: &[Postings<'_>]) -> Result<(), AllocError>
     requires { ArePostings (concat lists.now) }
     ensures ok { OnOk result (packed.new.items ≡ packed.old.items ++ packed_of (concat lists.now)) }
@@ -27,7 +27,7 @@ pub fn put_joined(packed: &mut Vec<u8>, lists: &[Postings<'_>]) -> Result<(), Al
     Ok(())
 }
 
-/// Puts the packed differences of one list more after those of others, of which the last member is given, and gives the last of all.
+/// Appends the packed differences of one more list to those of others, whose last member is given, and returns the last of all.
 pub(crate) fn put_next(
     packed: &mut Vec<u8>,
     last: Option<u64>,
@@ -35,7 +35,8 @@ pub(crate) fn put_next(
 ) -> Result<Option<u64>, AllocError>
     requires { (front : List ℕ) × (last ≡ last_in front) × ArePostings (front ++ list.now) }
     ensures last { (front : List ℕ) → last ≡ last_in front → IfOk result (λ now. now ≡ last_in (front ++ list.now)) }
-    ensures put { (front base : List ℕ) → last ≡ last_in front → packed.old.items ≡ base ++ packed_of front → IfOk result (λ now. packed.new.items ≡ base ++ packed_of (front ++ list.now)) }
+    ensures put { (front base : List ℕ) → last ≡ last_in front → packed.old.items ≡ base ++ packed_of front →
+        IfOk result (λ now. packed.new.items ≡ base ++ packed_of (front ++ list.now)) }
     ensures before { take (length packed.old.items) packed.new.items ≡ packed.old.items }
 {
     let count = list.len();
@@ -48,7 +49,7 @@ pub(crate) fn put_next(
     Ok(Some(list.last()))
 }
 
-/// Puts the difference from the last member of a list to the first of the next one, if there is a list before.
+/// Appends the difference from the last member of a list to the first of the next one, if there is a list before.
 fn put_step(packed: &mut Vec<u8>, last: Option<u64>, first: u64) -> Result<(), AllocError>
     requires above { IfSome last (λ last. last < first) }
     requires small { first < 2 ^ 56 }

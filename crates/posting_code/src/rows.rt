@@ -1,4 +1,5 @@
-ghost use Rattle.std.specs.Prelude.{◌≡◌, ◌+◌, ◌-◌, ◌*◌, ◌/◌, ◌<◌, ◌≤◌, ◌++◌, ◌∷◌, [], List, ℕ, length, map, take, drop, get_or, OnErr, OnOk};
+ghost use Rattle.std.specs.Prelude.{◌≡◌, ◌+◌, ◌-◌, ◌*◌, ◌/◌, ◌<◌, ◌≤◌, ◌++◌, ◌∷◌, []};
+ghost use Rattle.std.specs.Prelude.{List, ℕ, length, map, take, drop, get_or, OnErr, OnOk};
 ghost use Rattle.std.specs.List.{concat};
 ghost use Rattle.posting_code.specs.Moved.{moved_below_end, moved_part, moved_row};
 ghost use Rattle.posting_code.specs.Packed.{kept, last_of, packed_of};
@@ -13,13 +14,13 @@ use crate::row::put_next;
 use std::alloc::{AllocError, Global};
 use std::marker::Model;
 
-/// Lists of addresses, by their places in the order in which they were put. Those that are put together of others share their memory.
-// The packed differences of all of these stand in one row, and where their blocks stand in another one: so a thousand lists that a merge
-// makes take three pieces of memory. A list that is there keeps its own, since to copy it would take as much again.
+/// Lists of addresses, by their places in the order in which they were added. Those joined from others share their memory.
+// The packed differences of all of these are in one row, and the heads of their blocks in another: so a thousand lists that a merge
+// makes take three pieces of memory. A list that exists already keeps its own, since copying it would take as much again.
 #[derive(Drop)]
 pub struct PostingRows {
     packed: Vec<u8>,
-    // of the blocks from the second on of each list
+    // of the blocks after the first of each list
     heads: Vec<Head>,
     lists: Vec<RowList>,
 }
@@ -31,7 +32,7 @@ pub(crate) enum RowList {
     Own(PostingList),
 }
 
-/// A list by its ends, its length, and where it stands in the rows.
+/// A list by its ends, its length, and where it is in the rows.
 #[derive(Clone, Copy)]
 pub(crate) struct RowPart {
     pub(crate) first: u64,
@@ -85,7 +86,7 @@ impl PostingRows {
         }
     }
 
-    /// Puts a list after the others, which keeps its memory.
+    /// Appends a list, which keeps its memory.
     pub fn push(&mut self, list: PostingList) -> Result<(), AllocError>
         ensures ok { OnOk result (self.new ≡ self.old ++ list ∷ []) }
         ensures err { OnErr result (self.new ≡ self.old) }
@@ -94,7 +95,7 @@ impl PostingRows {
         Ok(())
     }
 
-    /// Puts the members of some lists after the other lists, as one list with these ends and of so many members. None is unpacked.
+    /// Appends the members of some lists as one list with these ends and `count` members. None is unpacked.
     pub fn push_joined(
         &mut self,
         lists: &[Postings<'_>],
@@ -125,7 +126,7 @@ impl PostingRows {
         Ok(())
     }
 
-    /// Moves the members of all lists up, which stay as they are packed. Of a list whose last member would pass the end none is left.
+    /// Moves the members of all lists up without repacking them. Of a list whose last member would pass the end none is left.
     pub fn move_up(&mut self, by: u64)
         ensures { self.new ≡ map (moved_below_end by) self.old }
     {
@@ -133,7 +134,7 @@ impl PostingRows {
         move_lists(&mut self.lists, by);
     }
 
-    /// What they take, or would take if all of them were put together of others.
+    /// The room they take, or would take if all of them were joined from others.
     pub fn room(&self) -> RowsRoom {
         let shared = RowsRoom {
             lists: self.lists.len(),
@@ -143,7 +144,7 @@ impl PostingRows {
         shared.and(own_room(&self.lists))
     }
 
-    /// Makes room for so much more.
+    /// Reserves this much more room.
     pub fn reserve(&mut self, room: RowsRoom) -> Result<(), AllocError>
         ensures { self.new ≡ self.old }
     {
@@ -153,7 +154,7 @@ impl PostingRows {
         Ok(())
     }
 
-    /// Gives back the memory that growing took and no list needs, where that is much.
+    /// Gives back the memory that growing took and no list needs, if that is much.
     pub fn fit(&mut self)
         ensures { self.new ≡ self.old }
     {
@@ -163,7 +164,7 @@ impl PostingRows {
     }
 }
 
-/// Gives back the memory of a row that growing took and no member needs, where that is much.
+/// Gives back the memory of a row that growing took and no member needs, if that is much.
 #[inline]
 fn fit_row<T: Drop>(row: &mut Vec<T>)
     ensures { row.new.items ≡ row.old.items }
@@ -185,7 +186,7 @@ fn own_room(lists: &[RowList]) -> RowsRoom {
     room
 }
 
-/// Moves the members of some lists up, of which those in the rows have their heads moved already.
+/// Moves the members of some lists up. The heads of those in the rows are moved already.
 fn move_lists(lists: &mut [RowList], by: u64)
     ensures { lists.new ≡ map (moved_row by) lists.old }
 {
@@ -207,7 +208,7 @@ impl RowList {
 }
 
 impl RowPart {
-    /// The same part with its ends moved up, or without members where the last one would pass the end.
+    /// The same part with its ends moved up, or without members if the last one would pass the end.
     fn moved(self, by: u64) -> RowPart
         ensures { result ≡ moved_part by self }
     {
@@ -243,8 +244,8 @@ impl RowPart {
     }
 }
 
-/// Puts the packed differences of some lists after other bytes, as those of one list, and where its blocks stand after other heads. After
-/// an Err some of them may stand there.
+/// Appends the packed differences of some lists to `packed`, as those of one list, and the heads of its blocks to `heads`. After an Err
+/// some of them may have been appended.
 fn put_lists(
     packed: &mut Vec<u8>,
     heads: &mut Vec<Head>,
@@ -268,7 +269,7 @@ fn put_lists(
     Ok(())
 }
 
-/// Puts after other heads where the blocks stand that begin in a list which comes behind `front` members of its own list, and its packed
+/// Appends the heads of the blocks that begin in `list`. It comes behind `front` members of the list that it is part of, and its packed
 /// differences behind `shift` bytes of theirs.
 fn put_heads(
     heads: &mut Vec<Head>,
@@ -297,7 +298,7 @@ fn put_heads(
     Ok(())
 }
 
-/// How many members after so many others come before the next block begins. The first block of all has no head.
+/// How many members after `front` others come before the next block begins. The first block of all has no head.
 fn until_block(front: usize) -> usize
     ensures { front + result ≡ 64 * ((front + 63) / 64 - 1 + 1) }
 {

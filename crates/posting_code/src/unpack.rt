@@ -1,4 +1,5 @@
-ghost use Rattle.std.specs.Prelude.{ℕ, ◌≡◌, ◌+◌, ◌<◌, ◌≤◌, ◌^◌, ◌∷◌, ◌++◌, length, get_or, take, drop, reverse, find, nat_lt, nat_le, IfSome, IsNone, IsTrue};
+ghost use Rattle.std.specs.Prelude.{ℕ, ◌≡◌, ◌+◌, ◌<◌, ◌≤◌, ◌∷◌, ◌++◌, length, get_or};
+ghost use Rattle.std.specs.Prelude.{take, drop, reverse, find, nat_lt, nat_le, IfSome, IsNone, IsTrue};
 ghost use Rattle.posting_code.specs.Ends.{IsStep};
 ghost use Rattle.posting_code.specs.Packed.{CanUnpack, StandsAt, last_of, members_behind};
 ghost use Rattle.posting_code.specs.Cuts.{IsCut};
@@ -6,7 +7,7 @@ ghost use Rattle.posting_code.specs.Cuts.{IsCut};
 use crate::head::Head;
 use crate::number::{Number, get_number};
 
-/// The byte at a place, and 0 where there is none.
+/// The byte at a place, or 0 if there is none.
 #[inline(always)]
 fn byte_at(packed: &[u8], at: usize) -> u8
     ensures { result ≡ get_or packed.now at 0 }
@@ -33,8 +34,8 @@ fn next_member(packed: &[u8], before: u64, at: usize) -> Number
     }
 }
 
-/// The same, where differences of one byte and of two stand in no order.
-// A branch between them would be guessed wrong time and again. So both are read alike, and only longer ones by a branch.
+/// The same, for differences of one byte and of two mixed in no order.
+// A branch between them would often be mispredicted. So both are read the same way, and only longer ones by a branch.
 #[inline(always)]
 fn mixed_member(packed: &[u8], before: u64, at: usize) -> Number
     requires can { CanUnpack packed.now before at }
@@ -58,7 +59,7 @@ fn mixed_member(packed: &[u8], before: u64, at: usize) -> Number
 }
 
 /// How many differences of one byte are taken in one go.
-// In the lists that are long nearly all differences have one byte, and the 63 of a whole block are nine such runs.
+// In long lists nearly all differences have one byte, and the 63 of a full block are nine such runs.
 const RUN: usize = 7;
 
 /// Whether the next differences have one byte each. Each byte is looked at, so that no branch depends on one alone.
@@ -74,7 +75,7 @@ fn are_short(packed: &[u8], at: usize) -> bool
     all < 128
 }
 
-/// Puts the next members from a place on, where their differences have one byte each, and gives the last of them.
+/// Writes the next seven members, whose differences have one byte each, starting at a place, and returns the last of them.
 #[inline(always)]
 fn put_run(packed: &[u8], before: u64, at: usize, into: &mut [u64], place: usize) -> u64
     requires can { CanUnpack packed.now before at }
@@ -94,13 +95,14 @@ fn put_run(packed: &[u8], before: u64, at: usize, into: &mut [u64], place: usize
     member
 }
 
-/// Puts so many of the next members from a place on, and gives the last of them and the place after its difference.
+/// Writes the next `count` members starting at a place, and returns the last of them and the place after its difference.
 fn put_each(packed: &[u8], before: Number, into: &mut [u64], place: usize, count: usize) -> Number
     requires can { CanUnpack packed.now before.value before.after }
     requires enough { count ≤ length (members_behind packed.now before.value before.after) }
     requires room { place + count ≤ length into.old }
     ensures long { length into.new ≡ length into.old }
-    ensures members { take (place + count) into.new ≡ take place into.old ++ take count (members_behind packed.now before.value before.after) }
+    ensures members { take (place + count) into.new ≡ take place into.old ++
+        take count (members_behind packed.now before.value before.after) }
     ensures rest { drop count (members_behind packed.now before.value before.after) ≡ members_behind packed.now result.value result.after }
     ensures can { CanUnpack packed.now result.value result.after }
 {
@@ -112,7 +114,8 @@ fn put_each(packed: &[u8], before: Number, into: &mut [u64], place: usize, count
     member
 }
 
-/// Puts the next seven members from a place on, whatever their differences, and gives the last of them and the place after its difference.
+/// Writes the next seven members starting at a place, whatever their differences, and returns the last of them and the place after its
+/// difference.
 #[inline(always)]
 fn put_seven(packed: &[u8], before: Number, into: &mut [u64], place: usize) -> Number
     requires can { CanUnpack packed.now before.value before.after }
@@ -154,7 +157,7 @@ pub(crate) fn unpack(packed: &[u8], first: u64, at: usize, into: &mut [u64])
     put_each(packed, member, into, place, left);
 }
 
-/// The last member of a run after a member, where each difference is one byte.
+/// The last member of a run after a member, if each difference is one byte.
 #[inline(always)]
 fn pass_run(packed: &[u8], before: u64, at: usize) -> u64
     requires can { CanUnpack packed.now before at }
@@ -170,11 +173,12 @@ fn pass_run(packed: &[u8], before: u64, at: usize) -> u64
     member
 }
 
-/// The place of the member that stands so many after another one, by a look at each.
+/// The place of the member that comes `steps` after another one, by a look at each.
 fn pass_each(packed: &[u8], head: Head, steps: usize) -> Head
     requires can { CanUnpack packed.now head.first head.at }
     requires enough { steps ≤ length (members_behind packed.now head.first head.at) }
-    ensures rest { drop steps (head.first ∷ members_behind packed.now head.first head.at) ≡ result.first ∷ members_behind packed.now result.first result.at }
+    ensures rest { drop steps (head.first ∷ members_behind packed.now head.first head.at)
+        ≡ result.first ∷ members_behind packed.now result.first result.at }
     ensures can { CanUnpack packed.now result.first result.at }
     ensures within { head.at ≤ length packed.now → result.at ≤ length packed.now }
 {
@@ -190,12 +194,13 @@ fn pass_each(packed: &[u8], head: Head, steps: usize) -> Head
     member
 }
 
-/// The place of the member that stands seven after another one.
+/// The place of the member that comes seven after another one.
 #[inline(always)]
 fn pass_seven(packed: &[u8], head: Head) -> Head
     requires can { CanUnpack packed.now head.first head.at }
     requires enough { 7 ≤ length (members_behind packed.now head.first head.at) }
-    ensures rest { drop 7 (head.first ∷ members_behind packed.now head.first head.at) ≡ result.first ∷ members_behind packed.now result.first result.at }
+    ensures rest { drop 7 (head.first ∷ members_behind packed.now head.first head.at)
+        ≡ result.first ∷ members_behind packed.now result.first result.at }
     ensures can { CanUnpack packed.now result.first result.at }
     ensures within { head.at ≤ length packed.now → result.at ≤ length packed.now }
 {
@@ -209,12 +214,13 @@ fn pass_seven(packed: &[u8], head: Head) -> Head
     pass_each(packed, head, RUN)
 }
 
-/// The place of the member that stands so many after another one.
+/// The place of the member that comes `steps` after another one.
 pub(crate) fn walk(packed: &[u8], head: Head, steps: usize) -> Head
     requires can { CanUnpack packed.now head.first head.at }
     requires within { head.at ≤ length packed.now }
     requires enough { steps ≤ length (members_behind packed.now head.first head.at) }
-    ensures rest { drop steps (head.first ∷ members_behind packed.now head.first head.at) ≡ result.first ∷ members_behind packed.now result.first result.at }
+    ensures rest { drop steps (head.first ∷ members_behind packed.now head.first head.at)
+        ≡ result.first ∷ members_behind packed.now result.first result.at }
     ensures can { CanUnpack packed.now result.first result.at }
     ensures within { result.at ≤ length packed.now }
 {
@@ -227,7 +233,7 @@ pub(crate) fn walk(packed: &[u8], head: Head, steps: usize) -> Head
     pass_each(packed, member, left)
 }
 
-/// Where the spelling begins that ends before a place, at `from` or later: the byte in front of it ends another one.
+/// Where the spelling that ends before a place begins, at `from` or later: the byte in front of it ends another one.
 #[inline(always)]
 fn start_of(packed: &[u8], from: usize, end: usize) -> usize
     requires within { end ≤ length packed.now }
@@ -259,19 +265,20 @@ pub(crate) fn member_before(packed: &[u8], first: Head, next: Head) -> Head
     }
 }
 
-/// A member, and how many steps after the first it stands.
+/// A member, and how many steps it is after the first.
 #[derive(Clone, Copy)]
 struct Stop {
     steps: usize,
     member: Head,
 }
 
-/// The first member, or one further on that is below `k`, at most `behind` steps on. It goes by runs, as long as they end below.
+/// The first member, or a later one below `k`, at most `behind` steps after it. It goes by runs while they end below `k`.
 #[inline(always)]
 fn leap_below(packed: &[u8], first: Head, behind: usize, k: u64) -> Stop
     requires can { CanUnpack packed.now first.first first.at }
     requires enough { behind ≤ length (members_behind packed.now first.first first.at) }
-    ensures rest { drop result.steps (first.first ∷ members_behind packed.now first.first first.at) ≡ result.member.first ∷ members_behind packed.now result.member.first result.member.at }
+    ensures rest { drop result.steps (first.first ∷ members_behind packed.now first.first first.at)
+        ≡ result.member.first ∷ members_behind packed.now result.member.first result.member.at }
     ensures can { CanUnpack packed.now result.member.first result.member.at }
     ensures within { first.at ≤ length packed.now → result.member.at ≤ length packed.now }
     ensures few { result.steps ≤ behind }
@@ -294,7 +301,7 @@ fn leap_below(packed: &[u8], first: Head, behind: usize, k: u64) -> Stop
     stop
 }
 
-/// A place between two members: the steps from the first to the last before it, and where that one and the one after it stand.
+/// A place between two members: the steps from the first to the last before it, and where that one and the one after it are.
 #[derive(Clone, Copy)]
 pub(crate) struct Cut {
     pub(crate) steps: usize,
@@ -302,7 +309,7 @@ pub(crate) struct Cut {
     pub(crate) behind: Head,
 }
 
-/// Where the members from `k` on begin among the first, which is below it, and some after it. None where all of them are below.
+/// Where the members at or after `k` begin among the first, which is below it, and `behind` after it. None if all are below.
 pub(crate) fn cut_before(packed: &[u8], first: Head, behind: usize, k: u64) -> Option<Cut>
     requires can { CanUnpack packed.now first.first first.at }
     requires within { first.at ≤ length packed.now }
@@ -333,7 +340,7 @@ pub(crate) fn cut_before(packed: &[u8], first: Head, behind: usize, k: u64) -> O
     None
 }
 
-/// Of the first member and some after it the greatest before `k`, and the least from `k` on.
+/// The greatest before `k` and the least at or after `k`, of the first member and `behind` after it.
 pub(crate) fn around_in(
     packed: &[u8],
     first: u64,

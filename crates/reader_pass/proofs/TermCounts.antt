@@ -43,7 +43,7 @@ least_point (d ∷ list) p all = and_from _ _ (here (is_nested d (point p)) refl
         let one = all.0 in
         and_from _ _ (eq-eqb d.start p (omega (arith, from, upto, one))) (eq-eqb d.end p (omega (arith, from, upto, one)))
 
--- where single addresses alone pass a test, the least that pass are all that do
+-- if single addresses alone pass a test, the least that pass are all that do
 module _ (text : Text) (test : Extent → Bool) (fails : (p q : ℕ) → p < q → test (extent p q) ≡ false) where
   points : AllByRecursion IsPoint (extents_where text test)
   points =
@@ -68,7 +68,7 @@ module _ (text : Text) (test : Extent → Bool) (fails : (p q : ℕ) → p < q �
   minimal_points ordered =
       points_pass (is_minimal text test) (λ p. test (point p)) text.next longer_not_minimal point_is_minimal (text.next - text.first) text.first (omega (arith, ordered))
 
--- whether one of the tokens stands at the address
+-- whether one of the tokens is at the address
 abbrev pub any_stands : List Word → List (List ℕ) → ℕ → Bool
 any_stands words tokens p = list_any (λ token. has_address (places words token) p) tokens
 
@@ -108,7 +108,7 @@ lists_of_terms text (token ∷ tokens) sound =
     ap (λ list. list ∷ operands text (forms_from (map term tokens))) (term_members text token sound)
     ∙ ap (λ lists. map point (places text.words token) ∷ lists) (lists_of_terms text tokens sound)
 
--- the addresses of the text at which one of the tokens stands
+-- the addresses of the text at which one of the tokens is
 abbrev pub stands_in : Text → List (List ℕ) → List ℕ
 stands_in text tokens = filter (any_stands text.words tokens) (range_with_len text.first (text.next - text.first))
 
@@ -122,7 +122,7 @@ one_count text tokens sound =
     ∙ length-map (filter (λ p. any_contains lists (point p)) addresses) point
     ∙ ap length (filter_agree (λ p. any_contains lists (point p)) (any_stands text.words tokens) (any_at text.words tokens) addresses)
 
--- an address holds a token where it is one of its places
+-- an address holds a token if it is one of its places
 holds_place : (words : List Word) (token : List ℕ) (p : ℕ) → holds words token p ≡ has_address (places words token) p
 holds_place [] token p = refl
 holds_place (w ∷ ws) token p = here (bytes_eq w.token token) (holds_place ws token p)
@@ -161,7 +161,7 @@ either s t both joined apart (x ∷ xs) = here (s x) (t x) (both x) (joined x) (
     here false false true is apart all first second rest = absurd (true≢false is)
     here false false false is apart all first second rest = rest
 
--- a token that is none of them stands nowhere where they do
+-- a token that is none of them is nowhere where they are
 stands_apart : (text : Text) (tokens : List (List ℕ)) (token : List ℕ) → IsText text → list_any (λ other. bytes_eq other token) tokens ≡ false →
     (p : ℕ) → has_address (places text.words token) p ≡ true → any_stands text.words tokens p ≡ false
 stands_apart text [] token sound new p has = refl
@@ -174,7 +174,7 @@ stands_apart text (other ∷ tokens) token sound new p has =
           rw none (stands_apart text tokens token sound (rw e at new) p has)
     ]
 
--- and one of them stands nowhere else
+-- and one of them is nowhere else
 stands_again : (text : Text) (tokens : List (List ℕ)) (token : List ℕ) → list_any (λ other. bytes_eq other token) tokens ≡ true →
     (p : ℕ) → (any_stands text.words tokens p || has_address (places text.words token) p) ≡ any_stands text.words tokens p
 stands_again text [] token old p = absurd (true≢false (sym old))
@@ -239,7 +239,7 @@ few_stand text tokens sound =
     let within = sound.in_range in
     omega (arith, counted, most, all, within)
 
--- a term is among terms where its token is among theirs
+-- a term is among terms if its token is among theirs
 pub among_terms : (tokens : List (List ℕ)) (token : List ℕ) → list_any (is_the_term token) (map term tokens) ≡ list_any (λ other. bytes_eq other token) tokens
 among_terms [] token = refl
 among_terms (other ∷ tokens) token = ap (λ b. bytes_eq other token || b) (among_terms tokens token)

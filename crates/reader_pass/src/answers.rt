@@ -16,7 +16,7 @@ use manifest_publish::Pass;
 use std::alloc::{AllocError, Global};
 use std::marker::Brand;
 
-/// The first `most` members of the expression's list over the version of the pass, or all where there are fewer.
+/// The first `most` members of the expression's list over the version of the pass, or all if there are fewer.
 pub fn pass_list<S: Ledger>(
     alloc: Global,
     pass: &Pass,
@@ -36,7 +36,7 @@ pub fn pass_list<S: Ledger>(
     pass_list_from(alloc, pass, expr, 0, most, steps)
 }
 
-/// The first `most` of those members that start at or after `k`, or all of these where there are fewer.
+/// The first `most` of those members that start at or after `k`, or all of these if there are fewer.
 pub fn pass_list_from<S: Ledger>(
     alloc: Global,
     pass: &Pass,
@@ -61,7 +61,8 @@ pub fn pass_list_from<S: Ledger>(
 /// How many members the expression's list over the version of the pass has. It takes no memory.
 pub fn pass_count<S: Ledger>(pass: &Pass, expr: &Expr, steps: &mut Steps<S>) -> u64
     requires well_formed { IsWellFormed (form_of expr.now) }
-    ensures version { (v : VersionContent) → IsLatest pass.now.history v → result ≡ length (concordance (version_text v) (form_of expr.now)) }
+    ensures version { (v : VersionContent) → IsLatest pass.now.history v →
+        result ≡ length (concordance (version_text v) (form_of expr.now)) }
     ensures collection { (v : VersionContent) (c : Collection) → IsLatest pass.now.history v → StandsFor v c →
         result ≡ length (concordance (text_of c) (form_of expr.now)) }
     ensures cost { (v : VersionContent) → IsLatest pass.now.history v →
@@ -70,8 +71,8 @@ pub fn pass_count<S: Ledger>(pass: &Pass, expr: &Expr, steps: &mut Steps<S>) -> 
     count(expr, pass.version(), steps)
 }
 
-/// How many members there are, where the lengths of lists tell it without a look-up: of a term, of one of a few terms, and of what a prefix
-/// term stands for. It takes no memory, and looks at each term once. None says nothing.
+/// How many members there are, if the lengths of lists show it without a look-up: of a term, of one of a few terms, and of what a prefix
+/// term stands for. It takes no memory, and counts each term at most twice. None says nothing about the number.
 pub fn pass_listed_count(pass: &Pass, expr: &Expr) -> Option<u64>
     ensures version { (v : VersionContent) → IsLatest pass.now.history v →
         IfSome result (λ count. count ≡ length (concordance (version_text v) (form_of expr.now))) }

@@ -15,10 +15,10 @@ use live_version::Version;
 use std::cmp::Ordering;
 use std::marker::Brand;
 
-/// Of so many operands it is looked whether a term comes again, each time among all before it.
+/// Up to this many operands, each term is searched for among all before it, to see whether it comes again.
 const FEW: usize = 16;
 
-/// The number of members. That of a term, and of one of several terms, is known by the lengths of lists, without a look-up.
+/// The number of members. That of a term, and of one of several terms, is known from the lengths of lists, without a look-up.
 pub(crate) fn count<S: Ledger>(expr: &Expr, version: &Version, steps: &mut Steps<S>) -> u64
     requires well_formed { IsWellFormed (form_of expr.now) }
     ensures value { result ≡ length (concordance (version_text version.now) (form_of expr.now)) }
@@ -30,7 +30,7 @@ pub(crate) fn count<S: Ledger>(expr: &Expr, version: &Version, steps: &mut Steps
     }
 }
 
-/// The number of members, where it is known by the lengths of lists: of a tree of terms that rise from left to right, as the words of a
+/// The number of members, if it is known from the lengths of lists: of a tree of terms that rise from left to right, as the words of a
 /// prefix do, and of one of a few terms.
 pub(crate) fn listed_count(version: &Version, expr: &Expr) -> Option<u64>
     ensures { IfSome result (λ count. count ≡ length (concordance (version_text version.now) (form_of expr.now))) }
@@ -49,8 +49,9 @@ fn tree_count(version: &Version, expr: &Expr) -> Option<u64>
     Some(sum.0)
 }
 
-/// A number of members, and of those of a tree of terms, where each of its terms comes after the one before it in byte order, and the first
-/// one after `last`; and the last term. Terms that rise are different, and an address has one token, so no member is of two of them.
+/// The sum of `count` and the number of members of a tree of terms, and its last term, if each of its terms comes after the one before it
+/// in byte order, and the first one after `last`. Terms that rise are different, and an address has one token, so no member is of two of
+/// them.
 #[cycle(trees)]
 fn tree_sum<'a>(
     version: &Version,
@@ -130,12 +131,13 @@ fn few_count(version: &Version, expr: &Expr) -> Option<u64>
     }
 }
 
-/// The number of members of one of these operands, where they are terms. An address has one token, so no two different terms have a
-/// member in common; a term that comes again has no more of them.
+/// The number of members of one of these operands, if they are terms. An address has one token, so no two different terms have a
+/// member in common; a term that comes again adds none.
 fn count_of_one(version: &Version, operands: &[Expr]) -> Option<u64>
-    ensures { IfSome result (λ count. count ≡ length (concordance (version_text version.now) (one (forms_from (map form_of operands.now))))) }
+    ensures { IfSome result
+        (λ count. count ≡ length (concordance (version_text version.now) (one (forms_from (map form_of operands.now))))) }
 {
-    // any call of a version ensures that it is one
+    // any call on a version ensures that it is one
     let _ = version.slot_count();
     let mut count = 0;
     for i in 0..operands.len() {

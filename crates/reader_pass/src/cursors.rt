@@ -1,4 +1,4 @@
-//! The same questions, answered by a cursor, which leaps as long as that takes few look-ups and reads after that.
+//! The same questions, answered by a cursor, which leaps while that takes few look-ups and reads after that.
 
 ghost use Rattle.std.specs.Prelude.{◌≡◌, ℕ, ◌+◌, ◌<◌, ◌≤◌, length, IfOk, OnErr};
 ghost use Rattle.gcl_model.specs.FormOf.{form_of};
@@ -51,7 +51,7 @@ fn page_of<J: Naming, S: ledger::Ledger>(
     cursor.page(alloc, expr, &fingers, page, steps)
 }
 
-/// How many members start at `from` or later, where this many came before, by such a cursor.
+/// How many members start at `from` or later, if `given` came before, by such a cursor.
 fn number_of<J: Naming, S: ledger::Ledger>(
     cursor: &mut Cursor,
     expr: &Expr,
@@ -77,8 +77,8 @@ fn number_of<J: Naming, S: ledger::Ledger>(
 }
 
 /// The members of the page, of which the cursor has passed none, over the version of the pass. Its full pages, and one that is not full or
-/// a number after them, make no more look-ups in all than it has left when it is made, unless memory is refused. `Err` is out of memory:
-/// then the page can be asked for again, and the look-ups have no limit any more.
+/// a number after them, make no more look-ups in all than it has left when it is made, unless an allocation fails. `Err` means out of
+/// memory: then the page can be asked for again, and the look-ups have no limit any more.
 pub fn pass_page<S: ledger::Ledger>(
     alloc: Global,
     pass: &Pass,
@@ -106,7 +106,7 @@ pub fn pass_page<S: ledger::Ledger>(
     page_of::<Brand, S>(alloc, cursor, expr, pass.version(), page, steps)
 }
 
-/// How many members start at `from` or later, where this many came before. It takes no memory.
+/// How many members start at `from` or later, if `given` came before. It takes no memory.
 pub fn pass_number<S: ledger::Ledger>(
     pass: &Pass,
     cursor: &mut Cursor,

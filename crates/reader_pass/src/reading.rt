@@ -44,9 +44,9 @@ fn read_from<J: Naming, S: Ledger>(
     read_list_from(alloc, readers, expr, &fingers, k, most, steps)
 }
 
-/// The first `most` of the members that start at or after `k`, or all of these where there are fewer, by readers that have passed none of
-/// them. All pages and counts by the same readers together make no more look-ups than the expression's merge cost over the version. Where
-/// a page is full, the next one begins behind the start of its last member. Of an `Err`, out of memory, no page can go on.
+/// The first `most` of the members that start at or after `k`, or all of these if there are fewer, by readers that have passed none of
+/// them. All pages and counts by the same readers together make no more look-ups than the expression's merge cost over the version. If
+/// a page is full, the next one begins behind the start of its last member. After an `Err`, out of memory, no page can go on.
 pub fn pass_read_from<S: Ledger>(
     alloc: Global,
     pass: &Pass,

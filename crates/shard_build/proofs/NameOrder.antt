@@ -9,7 +9,7 @@ use Rattle.std.specs.Cmp.Lexicographic.{slice_cmp}
 use Rattle.std.proofs.lemmas.Cmp.{nat_list_cmp_total}
 use Rattle.std.proofs.lemmas.Map.Text.{is_eq-slice_cmp}
 
--- of two keys that differ the first is the lesser where the second is not
+-- of two keys that differ the first is the lesser if the second is not
 apart_less : (x y : List ℕ) (o : Ordering) → slice_cmp nat_cmp x y ≡ o → is_lt (slice_cmp nat_cmp y x) ≡ false → bytes_eq x y ≡ false → slice_cmp nat_cmp x y ≡ Less
 apart_less x y Less is not_less differs = is
 apart_less x y Equal is not_less differs = let same = sym differs ∙ sym (is_eq-slice_cmp x y) ∙ ap is_eq is in absurd cc

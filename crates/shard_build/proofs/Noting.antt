@@ -13,7 +13,7 @@ use Rattle.shard_build.specs.declared.seen.Seen.{Seen}
 use Rattle.shard_build.proofs.NameLists.{Entries}
 use Rattle.shard_build.proofs.SeenNames.{not_same, one, one_same, one_other, times_push}
 
--- the names from a number on are noted once where they have addresses, and those before it are not
+-- the names starting at a number are noted once if they have addresses, and those before it are not
 pub record AreFrom (es : Entries) (number : ℕ) (seen : List Seen) : Type 0 where
   pub before : (i : ℕ) → i < number → times i seen ≡ 0
   pub behind : (i : ℕ) → number ≤ i → times i seen ≡ filled (list_at es i)
@@ -89,7 +89,7 @@ some_there (p ∷ ps) some = refl
 
 -- ---- in another order
 
--- where no number has addresses, no name has
+-- if no number has addresses, no name has
 all_empty : (es : Entries) → ((i : ℕ) → filled (list_at es i) ≡ 0) → AllByRecursion (λ (e : List ℕ × List ℕ). filled e.1 ≡ 0) es
 all_empty [] none = tt
 all_empty (e ∷ es) none = (none zero, all_empty es (λ i. none (suc i)))

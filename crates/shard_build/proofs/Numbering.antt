@@ -22,7 +22,7 @@ pub some_first : {X : Type 0} (test : X → Bool) (start : ℕ) (xs : List X) �
 some_first test start [] = refl
 some_first test start (x ∷ xs) = elim (cases_Bool (test x)) [ inl h ↦ rw h refl | inr h ↦ rw h (some_first test (start + 1) xs) ]
 
--- a member at the end is the first only where no other is
+-- a member at the end is the first only if no other is
 first_pushed : {X : Type 0} (test : X → Bool) (start : ℕ) (xs : List X) (y : X) → position_from test start (xs ++ y ∷ []) ≡ option_or (position_from test start xs) (cond (test y) (Some (start + length xs)) None)
 first_pushed test start [] y = let same : start ≡ start + 0 = omega arith in ap (λ n. cond (test y) (Some n) None) same
 first_pushed test start (x ∷ xs) y =
@@ -32,7 +32,7 @@ first_pushed test start (x ∷ xs) y =
       | inr h ↦ rw h (first_pushed test (start + 1) xs y ∙ ap (λ n. option_or (position_from test (start + 1) xs) (cond (test y) (Some n) None)) counted)
     ]
 
--- what is first stands there, and none before it passes
+-- what is first is there, and none before it passes
 pub first_stands : {X : Type 0} (test : X → Bool) (xs : List X) (i : ℕ) (d : X) → position_from test 0 xs ≡ Some i → (i < length xs) × (test (get_or xs i d) ≡ true) × ((k : ℕ) → k < i → test (get_or xs k d) ≡ false)
 first_stands test xs i d is = position-Some test xs i d (position_from-zero test xs ∙ is)
 
@@ -46,7 +46,7 @@ narrower_first wide narrow xs i d within is passes =
     (λ lt. passes) in
     sym (position_from-zero narrow xs) ∙ ap (λ k. cond (nat_lt k (length xs)) (Some k) None) at ∙ ap (λ b. cond b (Some i) None) ((Decides-ltb i (length xs)).1 stands.0)
 
--- and where the one passes nothing the other does not
+-- and if the one passes nothing, the other does not
 none_narrower : {X : Type 0} (wide narrow : X → Bool) (start : ℕ) (xs : List X) → ((x : X) → narrow x ≡ true → wide x ≡ true) → position_from wide start xs ≡ None → position_from narrow start xs ≡ None
 none_narrower wide narrow start [] within none = refl
 none_narrower wide narrow start (x ∷ xs) within none =
@@ -113,7 +113,7 @@ module _ (hashed : List ℕ → ℕ) where
 
   -- ---- one more, and one less
 
-  -- the first with a hash, once one name more stands last
+  -- the first with a hash, once one more name is last
   with_last : (told : ℕ → Option ℕ) (names : List (List ℕ)) (name : List ℕ) (hash : ℕ) → told hash ≡ first_with hashed hash 0 names →
       first_with hashed hash 0 (names ++ name ∷ []) ≡ option_or (told hash) (cond (nat_eq (hashed name) hash) (Some (length names)) None)
   with_last told names name hash is =
@@ -197,7 +197,7 @@ module _ (hashed : List ℕ → ℕ) where
 
   -- ---- all anew
 
-  -- something is told of the hash of each name, and of those of the names behind a place the first of these
+  -- a place is known for the hash of each name, and for those of the names behind a place it is the first of these
   pub record TellsBehind (start : ℕ) (told : ℕ → Option ℕ) (names : List (List ℕ)) : Type 0 where
     pub each : (hash place : ℕ) → first_with hashed hash start (drop start names) ≡ Some place → told hash ≡ Some place
     pub all : TellsHashes hashed told names

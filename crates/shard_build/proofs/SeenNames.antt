@@ -15,7 +15,7 @@ use Rattle.shard_build.specs.Met.{AreNames, IsNoted, AreBytes, filled, list_at, 
 use Rattle.shard_build.specs.declared.seen.Seen.{Seen}
 use Rattle.shard_build.proofs.NameLists.{Entries, keys_set, list_set_same, list_set_other, filled_le, list_pushed, name_pushed}
 
--- 1 where it has this number, and else 0
+-- 1 if it has this number, and else 0
 abbrev pub one : ℕ → Seen → ℕ
 one number s = cond (nat_eq s.number number) 1 0
 
@@ -168,7 +168,7 @@ names_moved es seen moved permutation names = record {
   noted = recursion_from_All (IsNoted (keys_of es)) moved (All-permutation (IsNoted (keys_of es)) seen moved permutation (All-from_recursion (IsNoted (keys_of es)) seen names.noted));
 }
 
--- no lists are left where none was seen, so the last name may be forgotten
+-- no lists are left if none was seen, so the last name may be forgotten
 list_front : (fs : Entries) (e : List ℕ × List ℕ) (i : ℕ) → filled (list_at (fs ++ e ∷ []) i) ≡ 0 → filled (list_at fs i) ≡ 0
 list_front [] e i none = refl
 list_front (d ∷ fs) e zero none = none

@@ -67,7 +67,7 @@ seen_distinct names (s ∷ seen) distinct all few =
 
 -- ---- in order
 
--- two heads tell nothing that the names do not
+-- two heads show nothing that the names do not
 falling_names : (names : List (List ℕ)) (x y : Seen) → IsNoted names x → IsNoted names y → falling names x y ≡ slice_cmp nat_cmp (get_or names y.number []) (get_or names x.number [])
 falling_names names x y first second =
     let a = get_or names y.number [] in
@@ -170,7 +170,7 @@ rows_meet es (s ∷ seen) i token some is none =
       ]
     ]
 
--- where a token is found, it is the name with some number
+-- if a token is found, it is the name with some number
 found_place : (es : Entries) (token ps : List ℕ) → found es token ≡ Some ps → (i : ℕ) × (name_at es i ≡ token) × (list_at es i ≡ ps)
 found_place [] token ps is = absurd cc
 found_place (e ∷ es) token ps is =

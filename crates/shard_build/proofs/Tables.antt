@@ -44,7 +44,7 @@ not_met e (d ∷ ds) token all same =
       | inr h ↦ rw h (not_met e ds token all.1 same)
     ]
 
--- where each token's entry is its group, each entry is one
+-- if each token's entry is its group, each entry is one
 pub all_groups : (words : List Word) (es : List TermEntry) → IsStrictlySortedBy term_cmp es → ((token ps : List ℕ) → entry_of es token ≡ Some ps → group_of words token ≡ Some ps) → AllByRecursion (IsGroup words) es
 unfolding IsStrictlySortedBy
 all_groups words [] rise found = tt

@@ -1,4 +1,4 @@
--- Groups of words, computed: `to be to` from address 5 on.
+-- Groups of words, computed: `to be to` starting at address 5.
 use Rattle.std.proofs.Common.{◌≡◌, ℕ, List, [], ◌∷◌, length, codes, Some, None, refl}
 use Rattle.gcl_model.specs.Texts.{Word}
 use Rattle.gcl_model.specs.Collections.{words_from, with_boundaries, width_of}
@@ -12,7 +12,7 @@ to_be_to = codes "to" ∷ codes "be" ∷ codes "to" ∷ []
 abbrev words : List Word
 words = words_from 5 (with_boundaries to_be_to)
 
--- a token that stands twice, one that stands once, and one that stands nowhere
+-- a token that occurs twice, one that occurs once, and one that occurs nowhere
 group_of-twice : group_of words (codes "to") ≡ Some (6 ∷ 8 ∷ [])
 group_of-twice = refl
 
@@ -22,7 +22,7 @@ group_of-once = refl
 group_of-missing : group_of words (codes "or") ≡ None
 group_of-missing = refl
 
--- the boundaries stand around the tokens
+-- the boundaries are around the tokens
 group_of-start : group_of words (codes "<file!>") ≡ Some (5 ∷ [])
 group_of-start = refl
 
@@ -32,11 +32,11 @@ group_of-end = refl
 width_of-three : width_of to_be_to ≡ 5
 width_of-three = refl
 
--- between the boundaries stand the tokens
+-- between the boundaries are the tokens
 tokens_between-three : tokens_between words ≡ to_be_to
 tokens_between-three = refl
 
--- where a name's length is its hash: two names have 2, and the first of them is told; none has 3
+-- if a name's length is its hash: two names have 2, and the first of them is found; none has 3
 first_with-two : first_with length 2 0 to_be_to ≡ Some 0
 first_with-two = refl
 

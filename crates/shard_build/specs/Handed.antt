@@ -8,7 +8,7 @@ use Rattle.shard_build.specs.Groups.{table_entry}
 use Rattle.shard_build.specs.Met.{row_at}
 use Rattle.shard_build.specs.declared.seen.Seen.{Seen}
 
--- what an entry of a table is to those before it: its term comes after, its addresses lie in the range, and none stands under two terms
+-- what an entry of a table is to those before it: its term comes after, its addresses lie in the range, and none is under two terms
 pub record ComesNext (range : SlotRange) (done : List TermEntry) (e : TermEntry) : Type 0 where
   pub before : IfSome (last_entry done) (λ last. ComesBefore last.term e.term)
   pub postings : ArePostingsIn range e.addresses

@@ -1,4 +1,4 @@
--- The names that are kept from file to file, and those that stand in the file at hand.
+-- The names that are kept from file to file, and those that occur in the current file.
 use Rattle.std.specs.Prelude.{◌≡◌, ℕ, ◌+◌, ◌<◌, ◌≤◌, List, [], ◌∷◌, length, map, reverse, get_or, slice_set, nat_eq, Option, is_some}
 use Rattle.std.specs.Option.{unwrap_or}
 use Rattle.std.specs.Hash as fed
@@ -18,16 +18,16 @@ use Rattle.shard_build.specs.Groups.{group_of, unless_empty}
 use Rattle.shard_build.specs.declared.numbers.Numbers.{Numbers}
 use Rattle.shard_build.specs.declared.seen.Seen.{Seen}
 
--- the names with their lists, in the order of their numbers, and the names that were seen in the file at hand
+-- the names with their lists, in the order of their numbers, and the names that were seen in the current file
 pub record NamesContent : Type 0 where
   pub entries : List (List ℕ × List ℕ)
   pub seen : List Seen
 
--- the name with a number, and no bytes where there is none
+-- the name with a number, or no bytes if there is none
 abbrev pub name_at : List (List ℕ × List ℕ) → ℕ → List ℕ
 name_at entries number = get_or (keys_of entries) number []
 
--- the list of the name with a number, and an empty one where there is none
+-- the list of the name with a number, or an empty one if there is none
 abbrev pub list_at : List (List ℕ × List ℕ) → ℕ → List ℕ
 list_at entries number = get_or (values_of entries) number []
 
@@ -35,15 +35,15 @@ list_at entries number = get_or (values_of entries) number []
 abbrev pub with_list : List (List ℕ × List ℕ) → ℕ → List ℕ → List (List ℕ × List ℕ)
 with_list entries number list = slice_set entries number (name_at entries number, list)
 
--- the hash of a name, as a hasher that begins with this one gives it of a text
+-- the hash of a name, as a hasher that begins with this one gives it for a text
 abbrev pub hash_by : FoldHasher → List ℕ → ℕ
 hash_by initial name = folding.finish (fold folding.write initial (fed.str name))
 
--- the place of the first name with a hash, where the names begin at a place
+-- the place of the first name with a hash, if the names begin at a place
 abbrev pub first_with : (List ℕ → ℕ) → ℕ → ℕ → List (List ℕ) → Option ℕ
 first_with hashed hash start names = position_from (λ name. nat_eq (hashed name) hash) start names
 
--- the place that is told of each hash is that of the first name with it
+-- the place that is known for each hash is that of the first name with it
 abbrev pub TellsFirsts : (List ℕ → ℕ) → (ℕ → Option ℕ) → List (List ℕ) → Type 0
 TellsFirsts hashed told names = (hash : ℕ) → told hash ≡ first_with hashed hash 0 names
 
@@ -55,7 +55,7 @@ told_by numbers hash = get nat_eq numbers.places hash
 abbrev pub AreNumbersOf : Numbers → List (List ℕ) → Type 0
 AreNumbersOf numbers names = TellsFirsts (hash_by numbers.initial) (told_by numbers) names
 
--- something is told of the hashes of these names, and of no others
+-- something is known for the hashes of these names, and for no others
 abbrev pub TellsHashes : (List ℕ → ℕ) → (ℕ → Option ℕ) → List (List ℕ) → Type 0
 TellsHashes hashed told names = (hash : ℕ) → is_some (told hash) ≡ list_any (λ name. nat_eq (hashed name) hash) names
 
@@ -87,7 +87,7 @@ pub record IsNoted (names : List (List ℕ)) (s : Seen) : Type 0 where
   pub head : s.head ≡ leading 8 0 (get_or names s.number [])
   pub bytes : AreBytes (get_or names s.number [])
 
--- no name stands twice, and exactly the names with addresses were seen, each of them once
+-- no name is listed twice, and exactly the names with addresses were seen, each of them once
 pub record AreNames (n : NamesContent) : Type 0 where
   pub distinct : IsDistinct bytes_eq (keys_of n.entries)
   pub once : (number : ℕ) → times number n.seen ≡ filled (list_at n.entries number)
@@ -110,11 +110,11 @@ rows_of n = map (row_at n.entries) (reverse n.seen)
 abbrev pub falling : List (List ℕ) → Seen → Seen → Ordering
 falling names x y = ordering_then (nat_cmp y.head x.head) (slice_cmp nat_cmp (get_or names y.number []) (get_or names x.number []))
 
--- the addresses of a token in the file at hand, if it has any
+-- the addresses of a token in the current file, if it has any
 abbrev pub addresses_of : NamesContent → List ℕ → Option (List ℕ)
 addresses_of n token = unless_empty (unwrap_or (lookup (λ name. bytes_eq token name) n.entries) [])
 
--- the names have the addresses of these tokens, which stand one after the other in a range
+-- the names have the addresses of these tokens, which are one after the other in a range
 pub record HaveTokens (n : NamesContent) (range : SlotRange) (tokens : List (List ℕ)) : Type 0 where
   pub width : range.last + 1 ≡ range.first + length tokens
   pub some : range.first ≤ range.last

@@ -19,7 +19,7 @@ use word_tokens::token_count;
 /// the tokens of the text.
 #[derive(Drop)]
 pub struct TextIndex {
-    // at the addresses from 0 on
+    // at the addresses starting at 0
     shard: Shard,
 }
 

@@ -1,4 +1,4 @@
-ghost use Rattle.std.specs.Prelude.{◌≡◌, ◌+◌, ◌-◌, ◌≤◌, length, IfOk};
+ghost use Rattle.std.specs.Prelude.{◌≡◌, ◌+◌, ◌-◌, ◌≤◌, IfOk};
 ghost use Rattle.gcl_model.specs.Collections.{words_from, with_boundaries, width_of};
 ghost use Rattle.gcl_model.specs.Limits.{address_end};
 ghost use Rattle.gcl_model.specs.Slots.{slot_range};
@@ -36,7 +36,7 @@ pub fn build_from<T: Tokens>(alloc: Global, base: u64, tokens: &T) -> Result<Sha
     )
 }
 
-/// The same of the tokens of a text, which is gone through once. It takes memory for the index and for names that were not met before.
+/// The same of the tokens of a text, which is read once. It takes memory for the index and for names that were not met before.
 pub fn build_text(
     alloc: Global,
     names: &mut Names,

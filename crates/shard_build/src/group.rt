@@ -10,7 +10,7 @@ use address_space::Range;
 use gcl_model::{file_end, file_start};
 use std::alloc::{AllocError, Global};
 
-/// Puts the addresses of each token of a file after its name, where `<file!>` is at `base`: the range of the addresses.
+/// Lists the addresses of each token of a file under its name, with `<file!>` at `base`, and returns the range of the addresses.
 pub(crate) fn group_by_token<S: TokenSource>(
     alloc: Global,
     names: &mut Names,

@@ -1,15 +1,15 @@
-/// How many names of a file are sorted as quickly where a run is not looked for.
+/// Fewer names of a file than this are sorted as quickly without looking for a run.
 const FEW_NAMES: usize = 64;
 
-/// To put a name in order takes the time of so many names that are sorted.
+/// Putting a name in order takes as long as sorting this many names.
 const SORTED_NAMES: usize = 8;
 
 /// What is known of the order of the names. Nothing but speed depends on it, so no contract speaks of it.
 #[derive(Clone, Copy)]
 pub(crate) struct Hint {
-    // so many of the first were put in order
+    // how many of the first names were put in order
     ordered: usize,
-    // so many names were sorted since that were not among these
+    // how many names were sorted since that were not among these
     late: usize,
 }
 
@@ -22,7 +22,7 @@ impl Hint {
         }
     }
 
-    /// Whether so many of the names that are to be sorted are in order that it is worth the steps to go through all names.
+    /// Whether enough of the names to be sorted are in order for it to be worth going through all names.
     pub(crate) fn has_run(&mut self, names: usize, seen: usize) -> bool {
         if seen < FEW_NAMES || seen < names / 4 {
             return false;
@@ -32,13 +32,13 @@ impl Hint {
         late <= names / 2
     }
 
-    /// Whether it is time to put so many names in order.
-    // Never has this taken more time than the sorting that it saves has taken before.
+    /// Whether it is time to put this many names in order.
+    // This never takes more time than the sorting that it saves has taken before.
     pub(crate) fn is_due(&self, names: usize) -> bool {
         self.late / SORTED_NAMES > names
     }
 
-    /// So many names were put in order.
+    /// Notes that this many names were put in order.
     pub(crate) fn put(&mut self, names: usize) {
         self.ordered = names;
         self.late = 0;

@@ -16,7 +16,7 @@ use std::alloc::AllocError;
 /// Names by their numbers, each with a list of addresses.
 pub(crate) type NameLists = Vec<(Name, PostingMaker)>;
 
-/// Puts an address after those of the name with this number: whether it is the first.
+/// Appends an address to those of the name with this number, and returns whether it is the first.
 pub(crate) fn push_at(
     lists: &mut NameLists,
     number: usize,
@@ -97,7 +97,7 @@ pub(crate) fn hand_over(
 }
 
 /// Hands one name over with its addresses. None are left there, even after an Err.
-// A short list is lent to be copied once, so that no memory is asked for it. A longer one takes its memory along.
+// A short list is lent to be copied once, so that no memory is allocated for it. A longer one takes its memory along.
 fn hand_one(lists: &mut NameLists, last: Seen, maker: &mut ShardMaker) -> Result<(), AllocError>
     requires within { last.number < length lists.old.items }
     requires noted { IsNoted (keys_of lists.old.items) last }
@@ -116,7 +116,7 @@ fn hand_one(lists: &mut NameLists, last: Seen, maker: &mut ShardMaker) -> Result
     done
 }
 
-/// Puts a name with its addresses after the others.
+/// Appends a name with its addresses to the shard.
 fn lend(lists: &NameLists, last: Seen, maker: &mut ShardMaker) -> Result<(), AllocError>
     requires within { last.number < length lists.now.items }
     requires noted { IsNoted (keys_of lists.now.items) last }
@@ -129,7 +129,7 @@ fn lend(lists: &NameLists, last: Seen, maker: &mut ShardMaker) -> Result<(), All
     Ok(())
 }
 
-/// The name with this number, and no bytes where there is none.
+/// The name with this number, or no bytes if there is none.
 pub(crate) fn name_at(lists: &NameLists, number: usize) -> &[u8]
     ensures { result.now ≡ name_of lists.now.items number }
 {

@@ -1,4 +1,5 @@
-ghost use Rattle.std.specs.Prelude.{◌≡◌, ◌<◌, [], ◌∷◌, ◌++◌, List, ℕ, None, Some, length, if◌then◌else◌, bytes_eq, unwrap_or, IfOk, IfSome, OnOk};
+ghost use Rattle.std.specs.Prelude.{◌≡◌, ◌<◌, [], ◌∷◌, ◌++◌, List, ℕ, None};
+ghost use Rattle.std.specs.Prelude.{Some, length, if◌then◌else◌, bytes_eq, unwrap_or, IfOk, IfSome, OnOk};
 ghost use Rattle.std.specs.List.{IsDistinct};
 ghost use Rattle.std.specs.Map.{keys_of};
 ghost use Rattle.gcl_model.specs.Limits.{address_end};
@@ -22,13 +23,13 @@ use std::marker::Model;
 /// How many names are kept from file to file.
 const MOST_NAMES: usize = 16_384;
 
-/// How many bytes a name has, and how many its addresses take, as a guess: rows grow where it is too low.
+/// How many bytes a name has, and how many its addresses take, as a guess: rows grow if it is too low.
 const NAME_BYTES: usize = 8;
 
 const LIST_BYTES: usize = 2;
 
-/// The names that were met so far, each with a list for its addresses in the file at hand.
-// Nothing in it matters to the next file: a name that was met before takes no memory again, and numbers are sorted in place of names.
+/// The names that were met so far, each with a list for its addresses in the current file.
+// The next file's shard does not depend on it: a name that was met before takes no memory again, and numbers are sorted, not names.
 #[derive(Drop)]
 pub struct Names {
     // a name's place here is its number
@@ -54,8 +55,8 @@ impl Names {
         Names::seeded(alloc, 0)
     }
 
-    /// No names yet, whose hashes begin with a number: no answer depends on it. Where it is a run's own, no text can be
-    /// made that is slow to add. It takes no memory.
+    /// No names yet, whose hashes begin with a number: no answer depends on it. If each run has its own, no text can be made
+    /// that is slow to add. It takes no memory.
     pub fn seeded(alloc: Global, seed: u64) -> Self {
         Names {
             lists: Vec::new(alloc),
@@ -73,7 +74,7 @@ impl Names {
         self.put_in_order();
     }
 
-    /// Puts the names in the order of their bytes where it is time for that.
+    /// Puts the names in the order of their bytes when it is time for that.
     fn put_in_order(&mut self)
         requires { self.old.seen ≡ [] }
         ensures { (token : List ℕ) → addresses_of self.new token ≡ None }
@@ -86,19 +87,20 @@ impl Names {
         self.hint.put(names);
     }
 
-    /// Puts an address after those of its token.
+    /// Appends an address to those of its token.
     pub(crate) fn put(&mut self, token: &[u8], address: u64) -> Result<(), AllocError>
         requires bounded { address < address_end }
         requires behind { IfSome (addresses_of self.old token.now) (λ list. RiseWithin 0 address list) }
         ensures lists { OnOk result ((cs : List ℕ) → addresses_of self.new cs
-            ≡ (if bytes_eq token.now cs then Some (unwrap_or (addresses_of self.old cs) [] ++ address ∷ []) else addresses_of self.old cs)) }
+            ≡ (if bytes_eq token.now cs then Some (unwrap_or (addresses_of self.old cs) [] ++ address ∷ [])
+            else addresses_of self.old cs)) }
     {
         let number = self.number_of(token)?;
         self.put_at(number, address)?;
         Ok(())
     }
 
-    /// The number of a token, which is a new one where it was not met before.
+    /// The number of a token, which is a new one if it was not met before.
     fn number_of(&mut self, token: &[u8]) -> Result<usize, AllocError>
         ensures distinct { OnOk result (IsDistinct bytes_eq (keys_of self.new.entries)) }
         ensures within { IfOk result (λ number. number < length self.new.entries) }
@@ -118,8 +120,8 @@ impl Names {
         Ok(number)
     }
 
-    /// Puts an address after those of the name with this number.
-    // Only at its first address is it noted that the name was seen.
+    /// Appends an address to those of the name with this number.
+    // It notes only at the first address that the name was seen.
     fn put_at(&mut self, number: usize, address: u64) -> Result<(), AllocError>
         requires within { number < length self.old.entries }
         requires rising { ArePostings (list_at self.old.entries number ++ address ∷ []) }
@@ -136,7 +138,8 @@ impl Names {
     /// The shard of the names that were seen. No list has addresses left.
     pub(crate) fn make(&mut self, alloc: Global, range: Range) -> Result<Shard, AllocError>
         requires { (tokens : List (List ℕ)) × HaveTokens self.old range tokens }
-        ensures words { IfOk result (λ shard. (tokens : List (List ℕ)) → HaveTokens self.old range tokens → words_of shard ≡ words_from range.first tokens) }
+        ensures words { IfOk result (λ shard. (tokens : List (List ℕ)) → HaveTokens self.old range tokens →
+            words_of shard ≡ words_from range.first tokens) }
         ensures range { IfOk result (λ shard. shard.range ≡ range) }
     {
         let mut maker = roomy(alloc, range, self.seen.len())?;
@@ -157,7 +160,7 @@ impl Names {
     }
 }
 
-/// A shard that is to be made, with room for so many terms.
+/// A shard that is to be made, with room for this many terms.
 fn roomy(alloc: Global, range: Range, terms: usize) -> Result<ShardMaker, AllocError>
     ensures range { IfOk result (λ maker. maker.range ≡ range) }
     ensures table { IfOk result (λ maker. maker.table ≡ []) }

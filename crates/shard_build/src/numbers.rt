@@ -16,7 +16,7 @@ use std::hash::{BuildHasher, FoldHasher, Hasher};
 /// For each hash of a name the first place of a name with it.
 #[derive(Drop)]
 pub(crate) struct Numbers {
-    // with this the hash of each name begins
+    // the hash of each name begins with this
     initial: FoldHasher,
     places: HashMap<u64, usize, Seeded>,
 }
@@ -34,7 +34,7 @@ impl Numbers {
     }
 
     /// The hash of a name.
-    // The byte after its bytes mixes once more what they gave: the first multiplier is chosen by a name of 16 bytes.
+    // The byte after its bytes mixes their result once more: a name of 16 bytes chooses the first multiplier.
     fn hash_of(&self, name: &[u8]) -> u64
         ensures { result ≡ hash_by self.now.initial name.now }
     {
@@ -66,7 +66,7 @@ fn is_name_at(lists: &NameLists, number: usize, token: &[u8]) -> bool
     token == name_at(lists, number)
 }
 
-/// The number of a token, if it is one of the names, which are gone through: another name has its hash.
+/// The number of a token, if it is one of the names, by a search through them: another name has its hash.
 fn search_names(lists: &NameLists, token: &[u8]) -> Option<usize>
     ensures { result ≡ position_from (bytes_eq token.now) 0 (keys_of lists.now.items) }
 {
@@ -96,7 +96,7 @@ pub(crate) fn add_number(
     Ok(())
 }
 
-/// Forgets the number of a name that stood last.
+/// Forgets the number of a name that was last.
 fn forget_number(numbers: &mut Numbers, lists: &NameLists, name: &[u8])
     requires { AreNumbersOf numbers.old (keys_of lists.now.items ++ name.now ∷ []) }
     ensures { AreNumbersOf numbers.new (keys_of lists.now.items) }
@@ -145,7 +145,7 @@ pub(crate) fn number_anew(lists: &NameLists, numbers: &mut Numbers)
     }
 }
 
-/// Gives back memory beyond that for as many names.
+/// Gives back memory beyond that for this many names.
 pub(crate) fn shrink_numbers(numbers: &mut Numbers, names: usize)
     ensures initial { numbers.new.initial ≡ numbers.old.initial }
     ensures told { (hash : ℕ) → told_by numbers.new hash ≡ told_by numbers.old hash }

@@ -1,6 +1,6 @@
 //! The order of the names, and of those that were seen.
 //!
-//! The names that were met are put in byte order now and then, so that the names of the next file stand in order by their numbers but for
+//! The names that were met are put in byte order now and then, so that the names of the next file are in order by their numbers, except
 //! those that are new. A stable sort takes such a run as it is.
 ghost use Rattle.std.specs.Prelude.{◌≡◌, []};
 ghost use Rattle.std.specs.List.Sorted.{IsPermutation, IsSorted};
@@ -24,7 +24,7 @@ pub(crate) fn sort_names(lists: &mut NameLists, numbers: &mut Numbers)
 }
 
 /// The order of two names.
-// Nothing is promised of it: names in another order would be sorted as well, only slower.
+// No contract says anything about it: names in another order would be sorted as well, only slower.
 fn compare_names(x: &Name, y: &Name) -> Ordering {
     match x.head().cmp(&y.head()) {
         Ordering::Less => Ordering::Less,
@@ -33,7 +33,7 @@ fn compare_names(x: &Name, y: &Name) -> Ordering {
     }
 }
 
-/// Puts the names that were seen in the order of their bytes, the last one first. It is quick where they have a run, which are in order by their numbers.
+/// Sorts the names that were seen by their bytes, the last one first. It is quick if they have a run that is in order by their numbers.
 pub(crate) fn sort_seen(lists: &NameLists, seen: &mut Vec<Seen>, has_run: bool)
     requires { AreNames (names_of lists.now.items seen.old.items) }
     ensures names { AreNames (names_of lists.now.items seen.new.items) }
@@ -47,7 +47,7 @@ pub(crate) fn sort_seen(lists: &NameLists, seen: &mut Vec<Seen>, has_run: bool)
     }
 }
 
-/// Notes the names with addresses anew, by their numbers, the last one first. They stay as they were noted where no memory is left.
+/// Notes the names with addresses anew, by their numbers, the last one first. If an allocation fails, they stay as they were noted.
 fn note_by_number(lists: &NameLists, seen: &mut Vec<Seen>)
     requires { AreNames (names_of lists.now.items seen.old.items) }
     ensures { AreNames (names_of lists.now.items seen.new.items) }
@@ -65,7 +65,7 @@ fn note_by_number(lists: &NameLists, seen: &mut Vec<Seen>)
     }
 }
 
-/// Sorts names of which many stand in order. Without memory for it they are sorted as any others.
+/// Sorts names of which many are in order. Without memory for it they are sorted like any others.
 fn sort_with_run(lists: &NameLists, seen: &mut Vec<Seen>)
     ensures permutation { IsPermutation seen.old.items seen.new.items }
     ensures sorted { IsSorted (falling (keys_of lists.now.items)) seen.new.items }
@@ -76,7 +76,7 @@ fn sort_with_run(lists: &NameLists, seen: &mut Vec<Seen>)
     }
 }
 
-/// Sorts names in whatever order they stand.
+/// Sorts names, whatever their order.
 fn sort_without_run(lists: &NameLists, seen: &mut Vec<Seen>)
     ensures permutation { IsPermutation seen.old.items seen.new.items }
     ensures sorted { IsSorted (falling (keys_of lists.now.items)) seen.new.items }

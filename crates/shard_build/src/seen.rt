@@ -1,4 +1,4 @@
-/// A name that stands in the file at hand: its first eight bytes as a number, and its place among the names.
+/// A name that occurs in the current file: its first eight bytes as a number, and its place among the names.
 #[derive(Clone, Copy)]
 pub(crate) struct Seen {
     pub(crate) head: u64,

@@ -1,15 +1,14 @@
 -- A run of neighbouring slots: its files, its range and its live words.
 use Rattle.std.proofs.Common.{◌≡◌, ℕ, zero, suc, ◌+◌, ◌-◌, ◌<◌, ◌≤◌, true, not, List, [], ◌∷◌, ◌++◌, length, map, filter, take, drop, get_or, Option, Some, None, refl, sym, ap, ◌∙◌, subst, arith, le_refl}
 use Rattle.std.specs.List.{AllByRecursion}
-use Rattle.std.specs.Option.{IfSome}
 use Rattle.std.proofs.lemmas.Bool.{or_left, or_right}
-use Rattle.std.proofs.lemmas.List.{take-append-drop, drop_more, append_assoc, append-nil}
+use Rattle.std.proofs.lemmas.List.{take-append-drop, append-nil}
 use Rattle.std.proofs.lemmas.List.Folds.{list_any-append}
 use Rattle.std.proofs.lemmas.Grind.{flat_map-append}
 use Rattle.std.proofs.lemmas.Option.{same_Some}
 use Rattle.gcl_model.specs.Slots.{SlotRange, slot_range, joined, spanned, AreRangesWithin}
 use Rattle.gcl_model.specs.Texts.{Word, places, AreRisingBelow}
-use Rattle.address_space.specs.Runs.{FileEntry, IsFileRun, Precedes, last_file}
+use Rattle.address_space.specs.Runs.{FileEntry, IsFileRun}
 use Rattle.index_shard.specs.Tables.{ShardContent, IsShard, postings_of, words_of}
 use Rattle.delete_mask.specs.Masks.{is_dead}
 use Rattle.live_version.specs.Contents.{SlotContent, VersionContent, IsSlot, IsVersion, LiesIn, is_of_file, is_of_files, live_words, ranges_of, files_of, live_of}
@@ -195,7 +194,7 @@ pub parts_are_tables : (slots : List SlotContent) → AllByRecursion IsSlot slot
 parts_are_tables [] all = tt
 parts_are_tables (slot ∷ slots) all = ((slot.shard.range, all.0.shard.table), parts_are_tables slots all.1)
 
--- a run of slots that was lent, from a place on
+-- a run of slots that was lent, starting at a place
 pub run_lent : (v : VersionContent) (slots : List SlotContent) (at count n : ℕ) → IsVersion v → slots ≡ v.slots → n ≡ count → IsRun (take n (drop at slots))
 run_lent v slots at count n is same long = subst (λ l. IsRun (take n (drop at l))) (sym same) (subst (λ m. IsRun (take m (drop at v.slots))) (sym long) (slots_are_run v at count is))
 

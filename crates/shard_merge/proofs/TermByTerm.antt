@@ -124,7 +124,7 @@ may_push range start parts table term addresses of m next some =
       apart = subst (λ l. AllByRecursion (λ e. AreApart e.addresses l) table) mine (all_apart range start of.0 table term of.1 m.groups before);
     }
 
--- the table has all, where nothing is left
+-- the table has all, if nothing is left
 pub merged_all : (start parts : List PartContent) (table : List TermEntry) → IsMerging start parts table → ((term : List ℕ) → postings_left parts term ≡ []) →
     (term : List ℕ) → postings_of table term ≡ postings_left start term
 merged_all start parts table m none term = sym (append-nil (postings_of table term)) ∙ ap (λ l. postings_of table term ++ l) (sym (none term)) ∙ m.together term

@@ -1,4 +1,4 @@
--- The words of slots that are made one.
+-- The words of slots that are merged into one.
 use Rattle.std.specs.Prelude.{◌≡◌, ℕ, ◌+◌, List}
 use Rattle.gcl_model.specs.Slots.{SlotRange}
 use Rattle.gcl_model.specs.Texts.{Word, places, AreRisingBelow}

@@ -11,8 +11,8 @@ use posting_code::Postings;
 use slot_terms::SlotTerms;
 use std::alloc::{AllocError, Global};
 
-/// The shard of the terms that are still to come, but for those without a live posting. What is alive of a list is put after what was put
-/// before as it is packed.
+/// The shard of the terms that are still to come, except those without a live posting. The live part of a list is appended as it is
+/// packed.
 pub(crate) fn merge_terms(
     alloc: Global,
     range: Range,
@@ -32,7 +32,7 @@ pub(crate) fn merge_terms(
     Ok(maker.finish())
 }
 
-/// Puts the terms that are still to come into the shard, where it has none yet.
+/// Puts the terms that are still to come into the shard, which has none yet.
 fn push_terms(
     alloc: Global,
     maker: &mut ShardMaker,

@@ -13,7 +13,7 @@ use live_version::{Slot, Version};
 use slot_terms::SlotTerms;
 use std::alloc::{AllocError, Global};
 
-/// One slot in place of `count` slots from place `at` on. Each posting and each record is gone through once.
+/// One slot in place of `count` slots starting at place `at`. Live postings are copied as they are packed, and records are shared.
 pub fn merge(alloc: Global, version: &Version, at: usize, count: usize) -> Result<Slot, AllocError>
     requires some { 1 ≤ count }
     requires within { at + count ≤ length version.now.slots }

@@ -6,7 +6,7 @@ use file_runs::Records;
 use live_version::Slot;
 use std::alloc::{AllocError, Global};
 
-/// The records of the surviving files of all slots. What of them stands in long runs is shared, and none is copied.
+/// The records of the surviving files of all slots. Those in long runs are shared, and none is copied.
 pub(crate) fn records_of(alloc: Global, slots: &[Slot]) -> Result<Records, AllocError>
     requires { IsFileRun (files_of slots.now) }
     ensures { IfOk result (λ files. files ≡ files_of slots.now) }

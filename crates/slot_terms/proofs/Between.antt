@@ -1,4 +1,4 @@
--- What stands between the dead ranges of rising postings.
+-- What is between the dead ranges of rising postings.
 use Rattle.std.proofs.Common.{◌≡◌, ℕ, zero, suc, ◌+◌, ◌-◌, ◌^◌, ◌<◌, ◌≤◌, true, false, not, cond, List, [], ◌∷◌, ◌++◌, length, length-append, length-drop, take, drop, get_or, append_assoc, ltb, refl, sym, ap, ◌∙◌, subst, arith}
 use Rattle.std.specs.List.{prefix_len}
 use Rattle.std.proofs.lemmas.Bool.{or_from}
@@ -18,14 +18,14 @@ use Rattle.live_version.specs.LookUps.{is_alive}
 use Rattle.slot_terms.specs.Parts.{alive}
 use Rattle.slot_terms.proofs.Rising.{all_alive}
 
--- where nothing within the bounds is dead, all are alive
+-- if nothing within the bounds is dead, all are alive
 pub alive_where : (mask : List SlotRange) (low end : ℕ) (xs : List ℕ) → RiseWithin low end xs → ((p : ℕ) → low ≤ p → p < end → is_dead mask p ≡ false) → alive mask xs ≡ xs
 alive_where mask low end [] r none = refl
 alive_where mask low end (x ∷ xs) r none =
     let at = r.0 in
     rw (none x r.0 r.1) (ap (λ l. x ∷ l) (alive_where mask (x + 1) end xs r.2 (λ p le lt. none p (omega (arith, le, at)) lt)))
 
--- and where all is dead, none is
+-- and if all is dead, none is
 pub dead_where : (mask : List SlotRange) (low end : ℕ) (xs : List ℕ) → RiseWithin low end xs → ((p : ℕ) → low ≤ p → p < end → is_dead mask p ≡ true) → alive mask xs ≡ []
 dead_where mask low end [] r all = refl
 dead_where mask low end (x ∷ xs) r all =
@@ -82,7 +82,7 @@ apart_wider : (low low' end : ℕ) (ranges : List SlotRange) → low' ≤ low �
 apart_wider low low' end [] le r = tt
 apart_wider low low' end (range ∷ ranges) le r = let at = r.0 in (omega (arith, at, le), r.1, r.2, r.3)
 
--- the ranges from a place on are apart too
+-- the ranges starting at a place are apart too
 apart_drop : (low end : ℕ) (ranges : List SlotRange) (i : ℕ) → AreRangesWithin low end ranges → AreRangesWithin low end (drop i ranges)
 apart_drop low end ranges zero r = r
 apart_drop low end [] (suc i) r = tt
@@ -103,7 +103,7 @@ dead_from low end mask p q r le =
     let n = prefix_len (λ (range : SlotRange). ltb range.last p) mask in
     sym (dead_behind low p q (take n mask) (drop n mask) (AreRangesWithin-before low end mask p r) le) ∙ ap (λ m. is_dead m q) (take-append-drop n mask)
 
--- all from a place on
+-- all starting at a place
 take_rest : (ranges : List SlotRange) (n : ℕ) → take (length ranges - n) (drop n ranges) ≡ drop n ranges
 take_rest ranges n = let long = length-drop n ranges in take_all (length ranges - n) (drop n ranges) (omega (arith, long))
 
@@ -126,7 +126,7 @@ same_from mask ranges (p ∷ ps) first rising first_is same =
     let at : first ≡ p = first_is (omega arith) in
     alive_same ranges mask p (2 ^ 56) (p ∷ ps) (omega arith, rising.1, rising.2) (λ q le. same q (omega (arith, le, at)))
 
--- what was put, with what the ranges from a place on leave of the rest, is all
+-- what was put, with what the ranges starting at a place leave of the rest, is all
 pub record IsBetween (ranges : List SlotRange) (block out put rest : List ℕ) (i : ℕ) : Type 0 where
   pub all : put ++ alive (drop i ranges) rest ≡ out ++ alive ranges block
   pub few : length rest ≤ 64
@@ -173,7 +173,7 @@ between_passes ranges block out put rest live others dead after i range lt at ap
       few = was.few;
     }
 
--- where all of the rest is before the next range, all of it is left
+-- if all of the rest is before the next range, all of it is left
 pub between_apart : (ranges : List SlotRange) (block out put rest more : List ℕ) (i : ℕ) (range : SlotRange) → i < length ranges → range ≡ get_or ranges i range → AreRangesWithin 0 address_end ranges → ArePostings rest →
     last_of rest < range.first → IsBetween ranges block out put rest i → more ≡ put ++ rest → more ≡ out ++ alive ranges block
 between_apart ranges block out put rest more i range lt at apart rising below was put_is =
@@ -206,7 +206,7 @@ is_stretch (p ∷ ps) first last rising some first_is last_is =
     last_small low end (x ∷ []) r some = r.1
     last_small low end (x ∷ y ∷ xs) r some = last_small (x + 1) end (y ∷ xs) r.2 (omega arith)
 
--- where nothing in it is dead, all of them are alive
+-- if nothing in it is dead, all of them are alive
 pub apart_alive : (mask : List SlotRange) (list : List ℕ) (first last : ℕ) → ArePostings list → 0 < length list → first ≡ get_or list 0 0 → last ≡ last_of list → IsApart (slot_range first last) mask → alive mask list ≡ list
 apart_alive mask [] first last rising some first_is last_is apart = absurd (omega (arith, some))
 apart_alive mask (p ∷ ps) first last rising some first_is last_is apart =

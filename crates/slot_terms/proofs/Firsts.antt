@@ -14,7 +14,7 @@ use Rattle.slot_terms.specs.Firsts.{IsFirst, IsFirstOf}
 use Rattle.slot_terms.specs.declared.first.First.{First}
 use Rattle.slot_terms.proofs.Heads.{head_at, part_content}
 
--- what is left from the next place on is what is left without the first
+-- what is left starting at the next place is what is left without the first
 pub left_next : (es : List TermEntry) (n next : ℕ) → next ≡ n + 1 → drop next es ≡ drop 1 (drop n es)
 left_next es n zero after = absurd (omega arith)
 left_next [] zero (suc next) after = refl
@@ -31,21 +31,21 @@ past_headed part term is = ap (part_content part.mask) (sym (gone part.left is))
     gone [] h = absurd cc
     gone (e ∷ es) h = rw h refl
 
--- the first of what is left from a place on has the addresses at the place
+-- the first of what is left starting at a place has the addresses at the place
 pub addresses_from : (es : List TermEntry) (n : ℕ) → addresses_at (drop n es) 0 ≡ addresses_at es n
 addresses_from [] zero = refl
 addresses_from [] (suc n) = refl
 addresses_from (e ∷ es) zero = refl
 addresses_from (e ∷ es) (suc n) = addresses_from es n
 
--- what the index tells of the term at a place
+-- what the index shows of the term at a place
 pub first_at : (es : List TermEntry) (n : ℕ) (first : First) → option_map (leading 8 0) (slice_get (map (λ e. e.term) es) n) ≡ Some first.head → IfSome (slice_get (map (λ e. e.term) es) n) AreBytes →
     slice_get (map (λ e. e.term) es) n ≡ Some first.term.now → IsFirstOf (drop n es) (Some first)
 first_at es n first value bytes is =
     let head : leading 8 0 first.term.now ≡ first.head = cc in
     record { term = head_at es n first.term.now is; told = record { head = sym head; bytes = subst (λ o. IfSome o AreBytes) is bytes } }
 
--- where the numbers differ they tell the order
+-- if the numbers differ, they decide the order
 pub order_told : (own other : First) (o : Ordering) → IsFirst own → IsFirst other → o ≡ nat_cmp own.head other.head → (o ≡ Equal → ⊥) → o ≡ slice_cmp nat_cmp own.term.now other.term.now
 order_told own other o mine yours told differs =
     let x = slice_cmp nat_cmp own.term.now other.term.now in

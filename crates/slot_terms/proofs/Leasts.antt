@@ -1,5 +1,5 @@
--- The least of the first terms of the parts, and where it stands.
-use Rattle.std.proofs.Common.{◌≡◌, ℕ, true, false, List, [], ◌∷◌, ◌++◌, length, Some, None, Option, bytes_eq, Bool, append_assoc, inl, inr, refl, sym, ap, ◌∙◌, subst, arith}
+-- The least of the first terms of the parts, and where it is.
+use Rattle.std.proofs.Common.{◌≡◌, ℕ, true, false, List, [], ◌∷◌, ◌++◌, length, Some, None, Option, bytes_eq, append_assoc, inl, inr, refl, sym, ap, ◌∙◌, subst, arith}
 use Rattle.std.specs.declared.cmp.Ordering.TheVariants.{Less, Equal, Greater}
 use Rattle.std.specs.Ordering.{nat_cmp}
 use Rattle.std.specs.Cmp.Lexicographic.{slice_cmp}
@@ -23,7 +23,7 @@ headed : (left : List TermEntry) (term : List ℕ) → Some term ≡ head_term l
 headed [] term is = absurd cc
 headed (e ∷ es) term is = let same : e.term ≡ term = cc in (bytes_eq-Decides e.term term).1 same
 
--- and another term is where both are one
+-- and another term is if both are the same
 pub headed_as : (left : List TermEntry) (own other : List ℕ) → Some own ≡ head_term left → is_headed left other ≡ bytes_eq own other
 headed_as [] own other is = absurd cc
 headed_as (e ∷ es) own other is = let same : e.term ≡ own = cc in ap (λ t. bytes_eq t other) same
@@ -41,7 +41,7 @@ record IsBelow (term : List ℕ) (parts : List PartContent) : Type 0 where
   pub none_earlier : NoneEarlier term parts
   pub none_has : NoneHas term parts
 
--- any is where nothing is to come
+-- any term is such if nothing is to come
 below_ended : (term : List ℕ) (parts : List PartContent) → AllByRecursion (λ part. part.left ≡ []) parts → IsBelow term parts
 below_ended term [] all = record { none_earlier = tt; none_has = tt }
 below_ended term (part ∷ parts) all =
@@ -59,7 +59,7 @@ before_headed term old (e ∷ es) before later = elim later [
   | inr after ↦ after_differs term e.term (nat_list_cmp_total.trans term old e.term before after)
 ]
 
--- a term is that comes before the least
+-- a term that comes before the least is such
 below_least : (term old : List ℕ) (parts : List PartContent) → ComesBefore term old → NoneEarlier old parts → IsBelow term parts
 below_least term old [] before all = record { none_earlier = tt; none_has = tt }
 below_least term old (part ∷ parts) before all =
@@ -143,7 +143,7 @@ least_member parts least at = subst (λ ps. list_any (λ part. is_headed part.le
     among [] = or_left (is_headed at.part.left least.first.term.now) _ at.has
     among (p ∷ ps) = or_right (is_headed p.left least.first.term.now) _ (among ps)
 
--- where there is none, nothing is to come
+-- if there is none, nothing is to come
 pub none_later : (parts : List PartContent) → AllByRecursion (λ part. part.left ≡ []) parts → AllByRecursion (λ part. IsNoLater None (head_term part.left)) parts
 none_later [] all = tt
 none_later (part ∷ parts) all = (subst (λ left. IsNoLater None (head_term left)) (sym all.0) tt, none_later parts all.1)

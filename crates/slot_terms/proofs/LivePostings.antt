@@ -55,7 +55,7 @@ ends_rise (p ∷ ps) first last rising is_first is_last =
     let below = ends.0.1 in
     (omega arith, ends.1)
 
--- where nothing from the first to the last is dead, none of the postings is
+-- if nothing from the first to the last is dead, none of the postings is
 pub untouched : (mask : List SlotRange) (members : List ℕ) (first last : ℕ) → ArePostings members → slice_get members 0 ≡ Some first → slice_get members (length members - 1) ≡ Some last →
     IsApart (slot_range first last) mask → alive mask members ≡ members
 untouched mask [] first last rising is_first is_last apart = refl

@@ -143,7 +143,7 @@ member_after (part ∷ parts) term before any all =
       | inr h ↦ member_after parts term before h all.1
     ]
 
--- where no part has a first term, nothing is left
+-- if no part has a first term, nothing is left
 pub none_left : (parts : List PartContent) (term : List ℕ) → AllByRecursion (λ part. IsNoLater None (head_term part.left)) parts → postings_left parts term ≡ []
 none_left [] term all = refl
 none_left (part ∷ parts) term all =

@@ -3,7 +3,7 @@ use Rattle.std.proofs.Common.{◌≡◌, ℕ, List, [], ◌∷◌, length, refl,
 use Rattle.gcl_model.specs.Slots.{SlotRange}
 use Rattle.slot_terms.specs.Parts.{alive}
 
--- where nothing is dead, all are alive
+-- if nothing is dead, all are alive
 pub all_alive : (mask : List SlotRange) (xs : List ℕ) → 0 ≡ length mask → alive mask xs ≡ xs
 all_alive [] [] none = refl
 all_alive [] (x ∷ xs) none = ap (λ l. x ∷ l) (all_alive [] xs none)

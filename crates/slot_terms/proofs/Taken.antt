@@ -10,7 +10,7 @@ use Rattle.slot_terms.proofs.Firsts.{past_headed}
 use Rattle.slot_terms.proofs.Heads.{headed_postings, past_more, unheaded_behind, unheaded_postings, part_content}
 use Rattle.slot_terms.proofs.Loops.{flat_map_item}
 
--- of so many parts the live postings of the term were put, and they are past it
+-- of this many parts the live postings of the term were put, and they are past it
 pub record HasTaken (term : List ℕ) (parts now : List PartContent) (base out : List ℕ) (count : ℕ) : Type 0 where
   pub lists : out ≡ base ++ flat_map (λ part. alive part.mask (head_postings part.left term)) (take count parts)
   pub past_it : now ≡ map (past term) (take count parts) ++ drop count parts
@@ -35,7 +35,7 @@ rest_is parts least at =
     ap (drop (least.place + 1)) (at.parts_are ∙ sym (append_assoc at.before (at.part ∷ []) at.behind))
     ∙ drop_at (at.before ++ at.part ∷ []) at.behind (least.place + 1) (omega (arith, long, place))
 
--- the place is one of the parts, and the one that has the term stands there
+-- the place is one of the parts, and the one that has the term is there
 place_within : (parts : List PartContent) (least : Least) → IsLeastAt parts least → least.place < length parts
 place_within parts least at =
     let long = ap length at.parts_are ∙ length-append at.before (at.part ∷ at.behind) in
@@ -82,7 +82,7 @@ taken_first parts least base out d after at put is =
     taken_more term parts parts base base out least.place item after (place_within parts least at) (taken_before parts least base at) (there ∙ sym (part_there parts least item at)) (is ∙ past_headed item term headed)
     (put ∙ ap (λ l. base ++ alive item.mask l) (sym (headed_postings item.left 0 term headed)))
 
--- where the rest does not have the term all is done
+-- if the rest does not have the term, all is done
 pub taken_alone : (parts now : List PartContent) (least : Least) (base out : List ℕ) → IsLeastAt parts least → least.others ≡ 0 → HasTaken least.first.term.now parts now base out (least.place + 1) →
     HasTaken least.first.term.now parts now base out (length parts)
 taken_alone parts now least base out at alone was =
@@ -105,7 +105,7 @@ taken_alone parts now least base out at alone was =
           ∙ ap (λ l. map (past term) (take (length parts) parts) ++ l) (sym none_left);
     }
 
--- and where no part is left
+-- and if no part is left
 pub taken_all : (term : List ℕ) (parts now : List PartContent) (base out : List ℕ) (i : ℕ) → length parts ≤ i → HasTaken term parts now base out i →
     (out ≡ base ++ flat_map (λ part. alive part.mask (head_postings part.left term)) parts) × (now ≡ map (past term) parts)
 taken_all term parts now base out i long was =

@@ -1,4 +1,4 @@
--- The least of the first terms of several parts, and where it stands, for this crate alone.
+-- The least of the first terms of several parts, and where it is, for this crate alone.
 use Rattle.std.specs.Prelude.{◌≡◌, ℕ, true, false, List, ◌∷◌, ◌++◌, [], length, Option, None, Some}
 use Rattle.std.specs.List.{AllByRecursion}
 use Rattle.slot_terms.specs.Firsts.{IsFirst}
@@ -9,7 +9,7 @@ use Rattle.slot_terms.specs.declared.least.Least.{Least}
 abbrev pub NoneHas : List ℕ → List PartContent → Type 0
 NoneHas term parts = AllByRecursion (λ part. is_headed part.left term ≡ false) parts
 
--- no part has a lesser first term, one has this at the place, and none before it. None after it has it where no other part does
+-- no part has a lesser first term, the part at the place has this one, and none before it. None after it has it if `others` is 0
 pub record IsLeastAt (parts : List PartContent) (least : Least) : Type 0 where
   pub is : IsFirst least.first
   pub none_earlier : NoneEarlier least.first.term.now parts

@@ -1,4 +1,4 @@
--- Slots, gone through term by term.
+-- Slots, read term by term.
 use Rattle.std.specs.Prelude.{◌≡◌, ℕ, ◌+◌, Bool, true, false, List, [], ◌∷◌, length, filter, flat_map, bytes_eq, Option, None, Some, if◌then◌else◌}
 use Rattle.std.specs.List.{AllByRecursion, list_any}
 use Rattle.gcl_model.specs.Slots.{SlotRange}
@@ -43,17 +43,17 @@ abbrev pub is_headed : List TermEntry → List ℕ → Bool
 is_headed [] term = false
 is_headed (entry ∷ entries) term = bytes_eq entry.term term
 
--- the postings of the first entry, where it is the term's
+-- the postings of the first entry, if it is the term's
 abbrev pub head_postings : List TermEntry → List ℕ → List ℕ
 head_postings [] term = []
 head_postings (entry ∷ entries) term = if bytes_eq entry.term term then entry.addresses else []
 
--- the entries without the first one, where it is the term's
+-- the entries without the first one, if it is the term's
 abbrev pub behind : List TermEntry → List ℕ → List TermEntry
 behind [] term = []
 behind (entry ∷ entries) term = if bytes_eq entry.term term then entries else entry ∷ entries
 
--- after the term was gone through
+-- after the term was passed
 abbrev pub past : List ℕ → PartContent → PartContent
 past term part = record part { left = behind part.left term }
 

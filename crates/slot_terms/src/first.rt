@@ -40,7 +40,7 @@ impl<'a> First<'a> {
     }
 }
 
-/// The order of two terms whose first bytes make one number. Where these are all bytes of one of them, the shorter comes first.
+/// The order of two terms whose first bytes make the same number. If these are all bytes of one of them, the shorter comes first.
 #[inline]
 fn order_alike(first: &[u8], second: &[u8]) -> Ordering
     requires head { leading 8 0 first.now ≡ leading 8 0 second.now }
@@ -55,7 +55,7 @@ fn order_alike(first: &[u8], second: &[u8]) -> Ordering
 }
 
 /// The order by all bytes.
-// It stands apart, so that what is inlined stays small.
+// It is a function of its own, so that what is inlined stays small.
 #[inline(never)]
 fn order_long(first: &[u8], second: &[u8]) -> Ordering
     ensures { result ≡ slice_cmp nat_cmp first.now second.now }

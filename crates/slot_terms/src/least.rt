@@ -13,7 +13,7 @@ pub(crate) struct Least<'a> {
     pub(crate) first: First<'a>,
     // of the first part that has it
     pub(crate) place: usize,
-    // 0 where no other part has it. A number, since the bytes beside a flag are copied in pieces, and to read these as one takes long.
+    // 0 if no other part has it. A number, since the bytes next to a flag are copied in pieces, and reading these as one takes long.
     pub(crate) others: usize,
 }
 

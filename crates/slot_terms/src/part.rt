@@ -17,7 +17,7 @@ use std::alloc::AllocError;
 use std::marker::Model;
 
 /// The index and the dead ranges of a slot, and the place of the first term that is still to come.
-// That term stands here too: to compare it, no row is looked into.
+// That term is stored here too: comparing it looks into no row.
 #[derive(Drop)]
 pub(crate) struct Part<'a> {
     shard: &'a Shard,
@@ -36,7 +36,8 @@ impl<'a> Model for Part<'a> {
 
     ghost view = { λ p. record { mask = p.mask; left = drop p.next p.shard.now.table } };
 
-    ghost invariant = { λ p. (p.next ≤ length p.shard.now.table) × IsFirstOf (drop p.next p.shard.now.table) p.first × IsShard p.shard.now };
+    ghost invariant = { λ p. (p.next ≤ length p.shard.now.table) × IsFirstOf (drop p.next p.shard.now.table) p.first ×
+        IsShard p.shard.now };
 }
 
 impl<'a> Part<'a> {
@@ -52,7 +53,7 @@ impl<'a> Part<'a> {
         }
     }
 
-    /// What the slot's table takes.
+    /// The room of the slot's table.
     pub(crate) fn room(&self) -> Room {
         self.shard.room()
     }
@@ -65,14 +66,15 @@ impl<'a> Part<'a> {
         self.first
     }
 
-    /// Goes past the term, where it is the first, and puts its live postings after the lists.
+    /// Moves past the term if it is the first, and appends its live postings to the lists.
     pub(crate) fn take_list(
         &mut self,
         first: &First<'_>,
         lists: &mut Vec<Postings<'a>>,
     ) -> Result<(), AllocError>
         requires { IsFirst first.now }
-        ensures lists { OnOk result (concat lists.new.items ≡ concat lists.old.items ++ alive self.old.mask (head_postings self.old.left first.now.term.now)) }
+        ensures lists { OnOk result (concat lists.new.items ≡ concat lists.old.items ++
+            alive self.old.mask (head_postings self.old.left first.now.term.now)) }
         ensures past { OnOk result (self.new ≡ past first.now.term.now self.old) }
     {
         if self.has_first(first) {
@@ -81,11 +83,12 @@ impl<'a> Part<'a> {
         Ok(())
     }
 
-    /// Goes past the first term, and puts its live postings after the lists.
+    /// Moves past the first term, and appends its live postings to the lists.
     #[inline]
     pub(crate) fn take_first(&mut self, lists: &mut Vec<Postings<'a>>) -> Result<(), AllocError>
         requires { 0 < length self.old.left }
-        ensures lists { OnOk result (concat lists.new.items ≡ concat lists.old.items ++ alive self.old.mask (addresses_at self.old.left 0)) }
+        ensures lists { OnOk result (concat lists.new.items ≡ concat lists.old.items ++
+            alive self.old.mask (addresses_at self.old.left 0)) }
         ensures past { OnOk result (self.new ≡ record self.old { left = drop 1 self.old.left }) }
     {
         lend_live(self.shard.postings(self.next), &self.mask, lists)?;
@@ -105,7 +108,7 @@ impl<'a> Part<'a> {
         }
     }
 
-    /// Goes past the first term, if one is to come.
+    /// Moves past the first term, if there is one.
     #[inline]
     fn step(&mut self)
         ensures { self.new ≡ record self.old { left = drop 1 self.old.left } }
@@ -116,14 +119,15 @@ impl<'a> Part<'a> {
         }
     }
 
-    /// Goes past the term, where it is the first, and puts its live postings after the addresses.
+    /// Moves past the term if it is the first, and appends its live postings to the addresses.
     pub(crate) fn take(
         &mut self,
         first: &First<'_>,
         addresses: &mut Vec<u64>,
     ) -> Result<(), AllocError>
         requires { IsFirst first.now }
-        ensures addresses { OnOk result (addresses.new.items ≡ addresses.old.items ++ alive self.old.mask (head_postings self.old.left first.now.term.now)) }
+        ensures addresses { OnOk result (addresses.new.items ≡ addresses.old.items ++
+            alive self.old.mask (head_postings self.old.left first.now.term.now)) }
         ensures past { OnOk result (self.new ≡ past first.now.term.now self.old) }
     {
         if self.has_first(first) {
@@ -134,7 +138,7 @@ impl<'a> Part<'a> {
     }
 }
 
-/// The term at a place, and None at the end.
+/// The term at a place, or None at the end.
 #[inline]
 fn first_from(shard: &Shard, place: usize) -> Option<First<'_>>
     requires { place ≤ length shard.now.table }
@@ -150,7 +154,7 @@ fn first_from(shard: &Shard, place: usize) -> Option<First<'_>>
     })
 }
 
-/// Puts the live ones of the postings after the lists. They are lent, and none of them is unpacked.
+/// Appends the live postings to the lists. They are lent, and none of them is unpacked.
 fn lend_live<'a>(
     list: Postings<'a>,
     mask: &Mask,
@@ -197,7 +201,7 @@ fn ranges_from(mask: &Mask, p: u64) -> &[Range]
     &ranges[before..]
 }
 
-/// Puts the live ones of a block's postings after the lists: what stands between two dead ranges is lent as it is packed.
+/// Appends the live postings of a block to the lists: those between two dead ranges are lent as they are packed.
 fn lend_between<'a>(
     block: Postings<'a>,
     ranges: &[Range],
@@ -230,7 +234,7 @@ fn lend_between<'a>(
     Ok(())
 }
 
-/// Puts the live ones of the postings after the addresses. Each block is read once.
+/// Appends the live postings to the addresses. Each block is read once.
 fn put_live(list: &Postings<'_>, mask: &Mask, addresses: &mut Vec<u64>) -> Result<(), AllocError>
     ensures { OnOk result (addresses.new.items ≡ addresses.old.items ++ alive mask.now list.now) }
 {
@@ -242,7 +246,7 @@ fn put_live(list: &Postings<'_>, mask: &Mask, addresses: &mut Vec<u64>) -> Resul
     Ok(())
 }
 
-/// Puts the live ones of a block's postings after the addresses. Where no dead range meets the block it is put as a whole.
+/// Appends the live postings of a block to the addresses. If no dead range meets the block, it is appended as a whole.
 fn put_block(members: &[u64], mask: &Mask, addresses: &mut Vec<u64>) -> Result<(), AllocError>
     requires { ArePostings members.now }
     ensures { OnOk result (addresses.new.items ≡ addresses.old.items ++ alive mask.now members.now) }

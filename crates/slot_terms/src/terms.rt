@@ -44,7 +44,7 @@ impl<'a> SlotTerms<'a> {
         Ok(SlotTerms { parts })
     }
 
-    /// The next term, and its live postings in place of the addresses: none where all of them are dead. After an Err nothing is known of
+    /// The next term, and its live postings in place of the addresses: none if all of them are dead. After an Err nothing is known of
     /// what is still to come.
     pub fn next(&mut self, addresses: &mut Vec<u64>) -> Result<Option<&'a [u8]>, AllocError>
         requires { AllByRecursion IsPart self.old }
@@ -60,7 +60,7 @@ impl<'a> SlotTerms<'a> {
         Ok(None)
     }
 
-    /// What the tables of all slots take: as much as that of the terms that they become, or more.
+    /// The room of the tables of all slots: as much as that of the terms that they become, or more.
     pub fn room(&self) -> Room {
         let mut room = Room {
             terms: 0,
@@ -74,8 +74,8 @@ impl<'a> SlotTerms<'a> {
         room
     }
 
-    /// The next term after its first bytes as a number, and its live postings in place of the lists, slot by slot: none where all of them are
-    /// dead. They are lent, and none is unpacked. After an Err nothing is known of what is still to come.
+    /// The first bytes of the next term as a number, the term, and its live postings in place of the lists, slot by slot: none if all of
+    /// them are dead. They are lent, and none is unpacked. After an Err nothing is known of what is still to come.
     pub fn next_lists(
         &mut self,
         lists: &mut Vec<Postings<'a>>,
@@ -102,7 +102,8 @@ impl<'a> SlotTerms<'a> {
 
     fn take(&mut self, first: &First<'_>, addresses: &mut Vec<u64>) -> Result<(), AllocError>
         requires { IsFirst first.now }
-        ensures addresses { OnOk result (addresses.new.items ≡ flat_map (λ part. alive part.mask (head_postings part.left first.now.term.now)) self.old) }
+        ensures addresses { OnOk result (addresses.new.items
+            ≡ flat_map (λ part. alive part.mask (head_postings part.left first.now.term.now)) self.old) }
         ensures past { OnOk result (self.new ≡ map (past first.now.term.now) self.old) }
     {
         addresses.clear();
@@ -116,7 +117,8 @@ impl<'a> SlotTerms<'a> {
         lists: &mut Vec<Postings<'a>>,
     ) -> Result<(), AllocError>
         requires { IsLeastAt self.old least.now }
-        ensures lists { OnOk result (concat lists.new.items ≡ flat_map (λ part. alive part.mask (head_postings part.left least.now.first.term.now)) self.old) }
+        ensures lists { OnOk result (concat lists.new.items
+            ≡ flat_map (λ part. alive part.mask (head_postings part.left least.now.first.term.now)) self.old) }
         ensures past { OnOk result (self.new ≡ map (past least.now.first.term.now) self.old) }
     {
         lists.clear();
@@ -125,7 +127,7 @@ impl<'a> SlotTerms<'a> {
     }
 }
 
-/// Goes past the term in each part, and puts its live postings after the addresses.
+/// Moves past the term in each part, and appends its live postings to the addresses.
 fn take_term(
     parts: &mut [Part<'_>],
     first: &First<'_>,
@@ -142,7 +144,7 @@ fn take_term(
     Ok(())
 }
 
-/// Goes past the least term in each part that has it, and puts its live postings after the lists.
+/// Moves past the least term in each part that has it, and appends its live postings to the lists.
 fn take_term_lists<'a>(
     parts: &mut [Part<'a>],
     least: &Least<'_>,

@@ -11,12 +11,12 @@ use Rattle.memchr.specs.Find.{IsFirstByte, is_byte2}
 use Rattle.gcl_model.specs.Tokens.{Part, ends_with_byte, is_name_byte, is_tag_byte, is_word_byte, name_at, starts_with_byte, tag_tokens, tag_with_name, part_or_separator, tag_behind}
 use Rattle.word_tokens.specs.Lexemes.{part_of, tag_end}
 
--- a name is the run of bytes of a name, where a letter stands first
+-- a name is the run of bytes of a name, if a letter comes first
 pub name_at-letter : (text : List ℕ) → is_ascii_alphabetic (get_or text 0 0) ≡ true → name_at text ≡ take_while is_name_byte text
 name_at-letter [] e = refl
 name_at-letter (b ∷ bytes) e = rw (take_while-cons is_name_byte b bytes, e) refl
 
--- the run is what stands before its end
+-- the run is what comes before its end
 pub take-take_while : (p : ℕ → Bool) (text : List ℕ) → take (length (take_while p text)) text ≡ take_while p text
 take-take_while p text = ap (λ n. take n text) (length-prefix_len p text)
 

@@ -21,7 +21,7 @@ cut_from-joined from (token ∷ tokens) =
     ∙ ap (λ bytes. token ∷ cut_from (from + length token) (ends_from (from + length token) tokens) bytes) rest
     ∙ ap (λ others. token ∷ others) (cut_from-joined (from + length token) tokens)
 
--- where the tokens from place i on begin
+-- where the tokens starting at place i begin
 pub ends_from-at : (from : ℕ) (tokens : List (List ℕ)) (i d : ℕ) → i < length tokens → get_or (ends_from from tokens) i d ≡ from + length (concat (take (suc i) tokens))
 ends_from-at from [] i d below = absurd (omega arith)
 ends_from-at from (token ∷ tokens) zero d below = omega (arith, length-append token [])
@@ -82,7 +82,7 @@ stands tokens bytes ends join i from end below e f =
 pub are_joined : (tokens : List (List ℕ)) (bytes ends : List ℕ) → bytes ≡ concat tokens → ends ≡ ends_from 0 tokens → cut_from 0 ends bytes ≡ tokens
 are_joined tokens bytes ends e f = ap (λ xs. cut_from 0 ends xs) e ∙ ap (λ xs. cut_from 0 xs (concat tokens)) f ∙ cut_from-joined 0 tokens
 
--- where no text is left, all tokens are joined
+-- if no text is left, all tokens are joined
 pub all_joined : (text bytes ends rest : List ℕ) → true ≡ eqb (length rest) 0 → bytes ++ concat (tokens_of rest) ≡ concat (tokens_of text) → ends ++ ends_from (length bytes) (tokens_of rest) ≡ ends_from 0 (tokens_of text) → AreJoined (tokens_of text) bytes ends
 all_joined text bytes ends [] empty e f = record { joined = sym (append-nil bytes) ∙ e; cut = sym (append-nil ends) ∙ f }
 all_joined text bytes ends (b ∷ rest) empty e f = let none : length (b ∷ rest) ≡ 0 = eqb-true _ _ (sym empty) in absurd (omega arith)

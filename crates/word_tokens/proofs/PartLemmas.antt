@@ -176,7 +176,7 @@ shorter m (suc n) (b ∷ bytes) le within =
 pub tokens_within : (text : List ℕ) → AllByRecursion (λ (t : List ℕ). length t ≤ length text) (tokens_of text)
 tokens_within text = shorter (length text) (length text) text (omega arith) (omega arith)
 
--- a text is a token where it is the one token of its first part
+-- a text is a token if it is the one token of its first part
 pub token_from_part : (text : List ℕ) → (part_of text).size ≡ length text → (part_of text).tokens ≡ text ∷ [] → IsToken text
 token_from_part text size tokens =
     tokens_of-part text ∙ ap (λ ts. ts ++ tokens_of (drop (part_of text).size text)) tokens

@@ -21,7 +21,7 @@ other_closing text behind opening middle closing b other e =
     let ends : drop (length behind - length closing) behind ≡ closing = ap (λ m. drop m behind) n ∙ ap (drop (length middle)) rest ∙ drop_at middle closing _ refl in
     sym other ∙ (bytes_decides (drop (length behind - length closing) behind) closing).1 ends
 
--- between the opening and the closing stands the middle
+-- between the opening and the closing is the middle
 pub spelled : (r : Bool) (text behind inside opening middle closing : List ℕ) → pointwise nat_eq (take (length opening) text) opening ≡ true → behind ≡ drop (length opening) text
     → pointwise nat_eq (drop (length behind - length closing) behind) closing ≡ true → inside ≡ take (length behind - length closing) behind
     → (IsTrue r ↔ inside ≡ middle) → (IsTrue r ↔ text ≡ opening ++ middle ++ closing)

@@ -90,7 +90,7 @@ word_is_token word some h =
     token_from_part text (ap (λ p. p.size) part)
     (ap (λ p. p.tokens) part ∙ ap (λ bytes. map to_ascii_lowercase bytes ∷ []) (take_all (length text) text (omega arith)) ∙ ap (λ bytes. bytes ∷ []) (lower-lower word))
 
--- the tag of a name that stands between brackets
+-- the tag of a name that is between brackets
 tag_of_name : (closing : Bool) (opened : ℕ) (name : List ℕ) → 0 < length name → IsName name
     → tag_with_name closing opened (name_at (name ++ 62 ∷ [])) (name ++ 62 ∷ []) ≡ Some record { size = opened + length name + 0 + 1; tokens = tag_tokens closing name [] }
 tag_of_name closing opened [] some h = absurd (omega arith)

@@ -22,7 +22,7 @@ abbrev pub part_of : List ℕ → Part
 part_of [] = record { size = 0; tokens = [] }
 part_of (b ∷ bytes) = first_part b bytes
 
--- how many bytes stand before the `>` of a tag, from after its name on, and none where a `<` or the end comes first
+-- how many bytes are before the `>` of a tag, starting after its name, and None if a `<` or the end comes first
 abbrev pub tag_end : List ℕ → Option ℕ
 tag_end after =
     let between = take_while is_tag_byte after in

@@ -6,7 +6,7 @@ pub(crate) const WORD: u8 = 1;
 /// The bit of a byte that belongs to the names of tags.
 pub(crate) const NAME: u8 = 2;
 
-/// The bits of each byte: one look takes the place of six comparisons. Letters and digits have both, all from 128 on are of words
+/// The bits of each byte: one look replaces six comparisons. Letters and digits have both, all bytes of 128 or more are of words
 /// alone, and `-`, `.`, `:` and `_` of names alone.
 pub(crate) static CLASSES: [u8; 256] = [
     0, 0, 0, 0, 0, 0, 0, 0, 0, 0, 0, 0, 0, 0, 0, 0, 0, 0, 0, 0, 0, 0, 0, 0, 0, 0, 0, 0, 0, 0, 0, 0,

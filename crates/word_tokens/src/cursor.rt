@@ -1,6 +1,6 @@
 ghost use Rattle.gcl_model.specs.Tokens.{close_token, open_token, tokens_of};
 ghost use Rattle.std.specs.Char.{to_ascii_lowercase};
-ghost use Rattle.std.specs.Prelude.{◌≡◌, ◌<◌, [], ◌∷◌, ◌++◌, length, map, true, false, IfOk, OnOk};
+ghost use Rattle.std.specs.Prelude.{◌≡◌, ◌<◌, [], ◌∷◌, ◌++◌, map, true, false, IfOk, OnOk};
 ghost use Rattle.word_tokens.specs.Lexemes.{lexeme_tokens};
 
 use crate::joined::append_lower_case;
@@ -63,7 +63,7 @@ impl<'a> TokenCursor<'a> {
     }
 }
 
-/// The first lexeme that gives a token, or a separator where no token is left, and what comes after it.
+/// The first lexeme that gives a token, or a separator if no token is left, and what comes after it.
 fn next_lexeme(bytes: &[u8]) -> (Lexeme<'_>, &[u8])
     ensures whole { tokens_of bytes.now ≡ lexeme_tokens result.0 ++ tokens_of result.1.now }
     ensures none { lexeme_tokens result.0 ≡ [] → tokens_of bytes.now ≡ [] }
@@ -104,7 +104,7 @@ fn put_closing(token: &mut Vec<u8>, name: &[u8]) -> Result<(), AllocError>
 }
 
 /// Puts the name in lower case between these bytes in place of what the buffer has.
-// A part of its callers, where what stands around the name is known.
+// Inlined into its callers, where the bytes around the name are known.
 #[inline(always)]
 fn put_token(
     token: &mut Vec<u8>,

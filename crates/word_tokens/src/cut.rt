@@ -9,7 +9,7 @@ use crate::lexeme::{Lexeme, first_lexeme, split_lexeme};
 use gcl_model::{Bytes, TokenList};
 use std::alloc::{AllocError, Global};
 
-/// The tokens of a text, in two blocks of memory. Err comes for want of memory alone.
+/// The tokens of a text, in two blocks of memory. Err means out of memory.
 pub fn token_text(alloc: Global, bytes: &[u8]) -> Result<TokenText, AllocError>
     ensures { IfOk result (λ text. text ≡ tokens_of bytes.now) }
 {
@@ -27,7 +27,7 @@ pub fn token_text(alloc: Global, bytes: &[u8]) -> Result<TokenText, AllocError>
     })
 }
 
-/// The tokens of a text: of `To <B>` they are `to` and `<b>`. Err comes for want of memory alone.
+/// The tokens of a text: of `To <B>` they are `to` and `<b>`. Err means out of memory.
 pub fn tokens(alloc: Global, bytes: &[u8]) -> Result<TokenList, AllocError>
     ensures { IfOk result (λ list. list ≡ tokens_of bytes.now) }
 {

@@ -61,15 +61,15 @@ impl TokenText {
     }
 }
 
-/// Whether the name is in lower case as it stands.
+/// Whether the name is in lower case already.
 fn is_lower_case(name: &[u8]) -> bool
     ensures { IsTrue result ↔ map to_ascii_lowercase name.now ≡ name.now }
 {
     !name.iter().any(|b| b.is_ascii_uppercase())
 }
 
-/// Puts the name in lower case after the bytes.
-// Most names of a text are in lower case, and are copied as they stand.
+/// Appends the name in lower case.
+// Most names of a text are in lower case, and are copied as they are.
 pub(crate) fn append_lower_case(bytes: &mut Vec<u8>, name: &[u8]) -> Result<(), AllocError>
     ensures { OnOk result (bytes.new.items ≡ bytes.old.items ++ map to_ascii_lowercase name.now) }
 {
@@ -81,7 +81,7 @@ pub(crate) fn append_lower_case(bytes: &mut Vec<u8>, name: &[u8]) -> Result<(), 
     Ok(())
 }
 
-/// Puts one token after the others: the name in lower case, between these bytes.
+/// Appends one token: the name in lower case, between these bytes.
 fn append_token(
     bytes: &mut Vec<u8>,
     ends: &mut Vec<usize>,
@@ -99,7 +99,7 @@ fn append_token(
     Ok(())
 }
 
-/// Puts the tokens of a lexeme after the others.
+/// Appends the tokens of a lexeme.
 pub(crate) fn append_tokens(
     bytes: &mut Vec<u8>,
     ends: &mut Vec<usize>,

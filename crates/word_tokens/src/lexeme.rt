@@ -15,7 +15,7 @@ ghost use Rattle.word_tokens.specs.Lexemes.{as_part, lexeme_tokens, part_of, tag
 use crate::classes::{CLASSES, NAME, WORD};
 use memchr::memchr2;
 
-/// What a text begins with. The bytes stand as in the text, in either case.
+/// What a text begins with. The bytes are as in the text, in either case.
 #[derive(Clone, Copy)]
 pub enum Lexeme<'a> {
     /// A word.
@@ -56,7 +56,7 @@ fn name_run(text: &[u8]) -> usize
     text.iter().take_while(|b| is_name_byte(**b)).count()
 }
 
-/// How many bytes the name at the front has, 0 where there is none.
+/// How many bytes the name at the front has, or 0 if there is none.
 fn name_len(text: &[u8]) -> usize
     ensures { result ≡ length (name_at text.now) }
 {
@@ -85,7 +85,7 @@ fn tag<'a>(closing: bool, name: &'a [u8], between: &[u8]) -> Lexeme<'a>
     }
 }
 
-/// How many bytes stand before the `>` of a tag, from after its name on. The search stops at the next `<` too, so a text
+/// How many bytes are before the `>` of a tag, starting after its name. The search stops at the next `<` too, so a text
 /// with many of these is read no more than twice.
 fn tag_end(after: &[u8]) -> Option<usize>
     ensures { result ≡ tag_end after.now }
@@ -94,7 +94,7 @@ fn tag_end(after: &[u8]) -> Option<usize>
     if after[end] == b'>' { Some(end) } else { None }
 }
 
-/// The tag whose name stands at the front, and its size, with the `<` or `</` before the name.
+/// The tag whose name is at the front, and its size, including the `<` or `</` before the name.
 fn tag_by_name(closing: bool, inside: &[u8]) -> Option<(Lexeme<'_>, usize)>
     ensures { option_map as_part result ≡ tag_with_name closing (if closing then 2 else 1) (name_at inside.now) inside.now }
 {
@@ -109,7 +109,7 @@ fn tag_by_name(closing: bool, inside: &[u8]) -> Option<(Lexeme<'_>, usize)>
     Some((tag, opened + name_len + between_len + 1))
 }
 
-/// The tag whose `<` stands before these bytes, and its size, with the `<`.
+/// The tag whose `<` is before these bytes, and its size, including the `<`.
 fn tag_behind(bytes: &[u8]) -> Option<(Lexeme<'_>, usize)>
     ensures { option_map as_part result ≡ tag_behind bytes.now }
 {

@@ -1,4 +1,4 @@
-use Rattle.std.proofs.Common.{ap, ◌∙◌, arith}
+use Rattle.std.proofs.Common.{ap, ◌∙◌}
 use Rattle.gcl_model.specs.Collections.{with_boundaries, words_from}
 use Rattle.collection.proofs.SettlingLemmas.{adds-file}
 use Rattle.collection.proofs.add.with_file.Goals as goal

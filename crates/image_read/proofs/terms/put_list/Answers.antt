@@ -4,7 +4,7 @@ use Rattle.std.proofs.lemmas.List.{append-nil}
 use Rattle.index_shard.specs.Tables.{AreApart, ArePostingsIn, ShardContent, TermEntry}
 use Rattle.image_read.proofs.terms.put_list.Goals as goal
 
--- the entry that was put, where its addresses are named otherwise
+-- the entry that was put, if its addresses are named otherwise
 put_as : {E : Type 0} (result : Result Unit E) (old new : ShardContent) (term addresses other : List ℕ) → addresses ≡ other → OnOk result (new ≡ record old { table = old.table ++ record { term = term; addresses = addresses } ∷ [] })
     → OnOk result (new ≡ record old { table = old.table ++ record { term = term; addresses = other } ∷ [] })
 put_as result old new term addresses other same ok =

@@ -1,4 +1,4 @@
-use Rattle.std.proofs.Common.{◌≡◌, List, ℕ, length, filter, take, sym, ap, subst, ◌∙◌, arith}
+use Rattle.std.proofs.Common.{List, length, filter, take, sym, ap, subst, ◌∙◌, arith}
 use Rattle.std.proofs.lemmas.List.{take_all}
 use Rattle.gcl_model.specs.Limits.{address_end}
 use Rattle.gcl_model.specs.Slots.{SlotRange, AreRangesWithin}

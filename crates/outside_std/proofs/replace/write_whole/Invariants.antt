@@ -2,7 +2,7 @@ use Rattle.std.proofs.Common.{length, ◌-◌, ◌≤◌, take}
 use Rattle.outside_std.specs.Saving.{Fills}
 use Rattle.outside_std.proofs.replace.write_whole.Given as goal
 
--- so much of the text was taken
+-- this much of the text was taken
 abbrev pub invariant-loop-at : goal.invariant-loop-at
 invariant-loop-at g l = record {
   within : l.at ≤ length l.text;

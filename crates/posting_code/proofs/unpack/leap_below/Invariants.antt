@@ -2,7 +2,7 @@ use Rattle.std.proofs.Common.{◌-◌, ◌<◌, ◌≤◌, length}
 use Rattle.posting_code.proofs.Runs.{IsPassed}
 use Rattle.posting_code.proofs.unpack.leap_below.Given as goal
 
--- the member stands so many steps after the first, and is below the number if it is another one
+-- the member is this many steps after the first, and is below the number if it is another one
 abbrev pub invariant-loop-stop : goal.invariant-loop-stop
 invariant-loop-stop l = record {
   passed : IsPassed l.packed l.fn.first.first l.fn.first.at l.stop.steps l.stop.member.first l.stop.member.at;

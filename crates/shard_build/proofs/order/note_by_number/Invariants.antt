@@ -2,7 +2,7 @@ use Rattle.std.proofs.Common.{◌+◌, ◌≤◌, length}
 use Rattle.shard_build.proofs.Noting.{AreFrom}
 use Rattle.shard_build.proofs.order.note_by_number.Given as goal
 
--- the names from the number on are noted, and for those before it there is room
+-- the names starting at the number are noted, and for those before it there is room
 abbrev pub invariant-loop-number : goal.invariant-loop-number
 invariant-loop-number l = record {
   names : AreFrom l.lists.items l.number l.seen.items;

@@ -1,4 +1,4 @@
-use Rattle.std.proofs.Common.{◌++◌, sym, ◌∙◌, subst}
+use Rattle.std.proofs.Common.{◌++◌, sym, subst}
 use Rattle.address_space.specs.Runs.{IsFileRun}
 use Rattle.shard_merge.proofs.Runs.{put_slot}
 use Rattle.shard_merge.proofs.records.records_of.Goals as goal

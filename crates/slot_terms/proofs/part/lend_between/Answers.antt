@@ -50,7 +50,7 @@ loop-range-preserved-then-len c =
     c.loop-range.range-index c.range-item.result c.loop-range-test.true c.range-item.is c.requires.apart c.loop-range.invariant parted
     (omega (arith, c.if-len.true, c.len-in-loop-range.ensures.value, c.len-in-loop-range-2.ensures.value))
 
--- where nothing is left all is put
+-- if nothing is left, all is put
 between_none : (ranges : List SlotRange) (block out put rest : List ℕ) (i : ℕ) → length rest ≡ 0 → IsBetween ranges block out put rest i → put ≡ out ++ alive ranges block
 between_none ranges block out put rest i none was = sym (append-nil put) ∙ ap (λ l. put ++ alive (drop i ranges) l) (sym (nil_from_length rest none)) ∙ was.all
 

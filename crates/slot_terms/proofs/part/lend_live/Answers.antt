@@ -32,7 +32,7 @@ loop-block-preserved c =
     let same : alive c.ranges_from-ranges.result.now block ≡ alive mask block = same_from mask c.ranges_from-ranges.result.now block c.first.result rising c.first.ensures c.ranges_from-ranges.ensures.dead in
     put_more mask list block (concat c.args.lists.now.items) put (concat c.lend_between.new.lists.items) c.loop-block.block c.block-block.ensures.value c.loop-block.invariant (c.in_ok-lend_between.ensures ∙ ap (λ l. put ++ l) same)
 
--- where no block is left the live ones of all are put
+-- if no block is left, the live ones of all are put
 put_all : (mask : List SlotRange) (list base out : List ℕ) (block : ℕ) → blocks_of list ≤ block → out ≡ base ++ alive mask (take (64 * block) list) → out ≡ base ++ alive mask list
 put_all mask list base out block all was = was ∙ ap (λ l. base ++ alive mask l) (take_all (64 * block) list (omega (arith, all)))
 

@@ -15,7 +15,7 @@ loop-block-preserved c =
     put_more c.args.mask.now c.args.list.now (take c.read_block-count.result c.read_block-count.new.into) c.args.addresses.now.items c.loop-block.addresses.items c.put_block.new.addresses.items c.loop-block.block
     c.read_block-count.ensures.members c.loop-block.invariant c.in_ok-put_block.ensures
 
--- where no block is left the live ones of all are put
+-- if no block is left, the live ones of all are put
 put_all : (mask : List SlotRange) (list base out : List ℕ) (block : ℕ) → blocks_of list ≤ block → out ≡ base ++ alive mask (take (64 * block) list) → out ≡ base ++ alive mask list
 put_all mask list base out block all was = was ∙ ap (λ l. base ++ alive mask l) (take_all (64 * block) list (omega (arith, all)))
 

@@ -3,7 +3,7 @@ use Rattle.gcl_model.specs.Slots.{slot_range, joined_count, tail_count}
 use Rattle.live_version.specs.Contents.{ranges_of}
 use Rattle.live_version.proofs.version.Version.tail.Given as goal
 
--- the slots from a place on are one, and those before it are still to be counted
+-- the slots starting at a place are one, and those before it are still to be counted
 abbrev pub invariant-loop-at : goal.invariant-loop-at
 invariant-loop-at l = record {
   within : l.at < length l.slots;

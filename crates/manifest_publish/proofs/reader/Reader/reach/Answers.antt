@@ -8,7 +8,7 @@ use Rattle.manifest_publish.proofs.Prefixes.{prefix_self}
 use Rattle.manifest_publish.proofs.ReaderLemmas.{tracked-reached}
 use Rattle.manifest_publish.proofs.reader.Reader.reach.Goals as goal
 
--- where the pass of what was reached is kept, all is of one history
+-- if the pass of what was reached is kept, all is of one history
 tracked-entered : (mark again kept : Account) (told : List (List VersionContent)) → again ≡ mark → kept ≡ mark → told ≡ [] → IsTracked mark again kept told false
 tracked-entered mark again kept told same held none = record {
   publishers = (ap (λ a. a.publisher) same, ap (λ a. a.publisher) held);

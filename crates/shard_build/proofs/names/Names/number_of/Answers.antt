@@ -22,7 +22,7 @@ returns-in-Some-clause-list c =
     subst (λ (n : NamesContent). list_at n.entries c.in-Some.number ≡ unwrap_or (addresses_of n c.args.token.now) []) c.self.view_is
     (met_list c.self.inside.lists.items c.args.token.now c.in-Some.number c.self.invariant.names.distinct (met c).0 (met c).1)
 
--- the new name stands last, without addresses
+-- the new name is last, without addresses
 pushed : (c : After-push_reserved) → c.push_reserved.new.self.items ≡ c.self.inside.lists.items ++ (c.args.token.now, []) ∷ []
 pushed c =
     entry_pushed c.self.inside.lists.items c.push_reserved.new.self.items c.in_ok-name.name c.args.token.now c.new.result
