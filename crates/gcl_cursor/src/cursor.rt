@@ -32,16 +32,15 @@ pub enum Cursor {
 
 impl Cursor {
     /// A cursor before all members of the expression, over whatever text it will be asked, that makes `leaps` look-ups by leaping. All
-    /// memory that it takes besides the pages is taken here.
-    pub fn new(alloc: Global, expr: &Expr, leaps: u64) -> Cursor
-        ensures at { (text : Text) (k : ℕ) → IsAt text (form_of expr.now) k result }
-        ensures left { (text : Text) (most : ℕ) →
-            left_of text most (form_of expr.now) result ≤ leaps + 3 * most + merge_cost text most (form_of expr.now) }
+    /// memory that it takes besides the pages is taken here. `Err` means out of memory: then `Free` finds the same members, without a limit.
+    pub fn new(alloc: Global, expr: &Expr, leaps: u64) -> Result<Cursor, AllocError>
+        ensures at { IfOk result (λ cursor. (text : Text) (k : ℕ) → IsAt text (form_of expr.now) k cursor) }
+        ensures limited { IfOk result IsLimited }
+        ensures left { IfOk result (λ cursor. (text : Text) (most : ℕ) →
+            left_of text most (form_of expr.now) cursor ≤ leaps + 3 * most + merge_cost text most (form_of expr.now)) }
     {
-        match Readers::new(alloc, expr) {
-            Ok(readers) => after_leaps(leaps, readers),
-            Err(_) => Cursor::Free,
-        }
+        let readers = Readers::new(alloc, expr)?;
+        Ok(after_leaps(leaps, readers))
     }
 
     /// The members of the page, none of which was passed. If the page is full, the next one begins after the start of its last member; if

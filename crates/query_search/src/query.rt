@@ -96,10 +96,12 @@ impl Query {
         self.pass.version().next()
     }
 
-    /// A cursor before all its members. It begins with readers if leaping may be slow.
-    pub fn cursor(&self, alloc: Global) -> Cursor
-        ensures at { (k : ℕ) → IsAt self.now.text (form_of self.now.expr) k result }
-        ensures left { left_of self.now.text self.now.most (form_of self.now.expr) result ≤ query_cost self.now }
+    /// A cursor before all its members, whose look-ups have a limit. It begins with readers if leaping may be slow. `Err` means out of
+    /// memory.
+    pub fn cursor(&self, alloc: Global) -> Result<Cursor, AllocError>
+        ensures at { IfOk result (λ cursor. (k : ℕ) → IsAt self.now.text (form_of self.now.expr) k cursor) }
+        ensures limited { IfOk result IsLimited }
+        ensures left { IfOk result (λ cursor. left_of self.now.text self.now.most (form_of self.now.expr) cursor ≤ query_cost self.now) }
     {
         let leaps = leaps_of(self.pass.version(), &self.expr);
         Cursor::new(alloc, &self.expr, leaps)

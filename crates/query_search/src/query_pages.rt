@@ -1,5 +1,7 @@
 ghost use Rattle.std.specs.Prelude.{◌≡◌, ◌+◌, ◌<◌, ◌≤◌, false, length, take, drop, IfOk, OnOk, OnErr};
+ghost use Rattle.gcl_model.specs.FormOf.{form_of};
 ghost use Rattle.gcl_model.specs.Limits.{address_end};
+ghost use Rattle.gcl_cursor.specs.Cursors.{IsAt, IsLimited, left_of};
 ghost use Rattle.query_search.specs.inner.Queries.{list_of, query_cost};
 
 use crate::pages::start_after;
@@ -34,15 +36,30 @@ impl Model for QueryPages {
 }
 
 impl QueryPages {
-    /// All of them.
+    /// All of them. If there is no memory for readers, they are found by leaping without a limit.
     pub fn of(alloc: Global, query: Query) -> QueryPages
         ensures all { result.all ≡ list_of query }
         ensures to_come { result.to_come ≡ list_of query }
         ensures few { length result.all ≤ address_end }
         ensures left { result.left ≤ query_cost query }
     {
+        match query.cursor(alloc) {
+            Ok(cursor) => QueryPages::by(query, cursor),
+            Err(_) => QueryPages::by(query, Cursor::Free),
+        }
+    }
+
+    /// All of them, by this cursor, which has passed none.
+    fn by(query: Query, cursor: Cursor) -> QueryPages
+        requires at { IsAt query.text (form_of query.expr) 0 cursor }
+        requires left { left_of query.text query.most (form_of query.expr) cursor ≤ query_cost query }
+        ensures all { result.all ≡ list_of query }
+        ensures to_come { result.to_come ≡ list_of query }
+        ensures few { length result.all ≤ address_end }
+        ensures left { result.left ≤ query_cost query }
+        ensures limited { IsLimited cursor → result.free ≡ false }
+    {
         let end = query.end();
-        let cursor = query.cursor(alloc);
         QueryPages {
             query,
             cursor,
