@@ -1,12 +1,12 @@
 #!/usr/bin/env python3
-"""prove.py PROGRAM: proves the crates below a program and the program, as far as they are not proved yet or have changed, and builds it as
-crates/PROGRAM/out/PROGRAM. It says on standard error how far it is.
+"""prove.py PROGRAM: proves a program and the crates below it, as far as they are not proved yet or have changed, and builds the program as
+crates/PROGRAM/out/PROGRAM. It reports its progress on standard error.
 
-A crate begins as soon as those that it uses are proved, and first the one from which the longest way leads up to the program. The crates
-above it load its statements alone, which `rattle build --statements` makes, and `rt lib` does not: libraries with proofs take several times
-as long to load. What is proved is kept in crates/*/out/statements at once, so it may be stopped.
+A crate is started as soon as those that it uses are proved, first the one with the longest way up to the program. The crates above it load
+only its statements, which `rattle build --statements` makes, and `rt lib` does not: libraries with proofs take several times as long to
+load. What is proved is kept in crates/*/out/statements at once, so it may be stopped.
 
-Ends with 0 where the program is there, with 1 where a crate is not proved, after what the prover says of it, and with 130 after Ctrl-C.
+Ends with 0 if the program is there, with 1 if a crate is not proved, after what the prover says of it, and with 130 after Ctrl-C.
 """
 import fcntl, os, shutil, subprocess, sys, time
 

@@ -1,8 +1,8 @@
 #!/usr/bin/env bash
-# Adds the files of a folder by `gclq`, in one thread, and prints ratios of one run: seconds to those of `wc -w` over the same files and, where
-# LIMIT names a program, to its reading and indexing of them (target 2.5). `LIMIT build FOLDER` prints JSON with the seconds `read_s` and
-# `index_s`. FOLDER has a file LIST.txt, with a name for each file. Without a folder it makes 20 MB of text as 10 files and as 1,000, and
-# prints also the ratio of the many to the few (target 1.6).
+# Adds the files of a folder with `gclq`, in one thread, and prints ratios of one run: seconds to those of `wc -w` over the same files and,
+# where LIMIT names a program, to its reading and indexing of them (target 2.5). `LIMIT build FOLDER` prints JSON with the seconds `read_s`
+# and `index_s`. FOLDER has a file LIST.txt, with a name for each file. Without a folder it makes 20 MB of text as 10 files and as 1,000,
+# and also prints the ratio of the many to the few (target 1.6).
 . "$(dirname "$0")/common.sh"
 need_gclq
 

@@ -1,9 +1,9 @@
 #!/usr/bin/env bash
-# Batches of queries over a text of 50 MB, as ratios of one run: 1,000 queries of about a millisecond each with four readers to those with one
-# (target 0.4 on four processors, 0.65 on two), 10,000 cheap ones likewise (1.3), and a batch beside a merge of the 50 MB to the same batch
-# alone (1.5). It makes its texts. Four programs hold the text, so that lines are timed without adding it: they are asked in turn, and the
-# quickest of several times counts. Asked at the same time, they tell how many processors the machine lends: where other work takes some, the
-# first ratio says little of the program.
+# Batches of queries over a text of 50 MB, as ratios of one run: 1,000 queries of about a millisecond each with four readers to those with
+# one (target 0.4 on four processors, 0.65 on two), 10,000 cheap ones likewise (1.3), and a batch during a merge of the 50 MB to the same
+# batch alone (1.5). It makes its texts. Four programs hold the text, so that lines are timed without adding it: they are asked in turn, and
+# the fastest of several times counts. Asked at the same time, they show how many processors the machine provides: if other work takes some,
+# the first ratio says little about the program.
 . "$(dirname "$0")/common.sh"
 need_gclq
 python3 - "$work" <<'P'

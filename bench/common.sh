@@ -1,5 +1,5 @@
-# What the scripts here share: the programs, a folder to work in, and clocks. Each begins with `. "$(dirname "$0")/common.sh"`.
-# GCLQ and MEASURE name programs to run in place of those of this checkout.
+# What the scripts here share: the programs, a folder to work in, and clocks. Each begins with `. "$(dirname "$0")/common.sh"`. GCLQ and
+# MEASURE name programs to run instead of those of this checkout.
 set -eu
 here=$(cd "$(dirname "${BASH_SOURCE[0]}")/.." && pwd)
 # what asking.py has can be imported, and leaves nothing behind

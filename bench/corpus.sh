@@ -1,7 +1,7 @@
 #!/usr/bin/env bash
-# Queries over texts of one's own: bench/corpus.sh FOLDER [QUERIES]. Adds each file of the folder (those that LIST.txt names there, if it has one), asks
-# each line of the file QUERIES (bench/kjv.queries without one) thirty times through a pipe, and prints seconds and megabytes of adding,
-# and for each query how many intervals it has, and the least and the middle microseconds from its line to the end of its answer.
+# Queries over your own texts: bench/corpus.sh FOLDER [QUERIES]. Adds each file of the folder (those that LIST.txt names there, if it has
+# one), and asks each line of the file QUERIES (by default bench/kjv.queries) thirty times through a pipe. Prints seconds and megabytes of
+# adding, and for each query how many intervals it has, and the minimum and median microseconds from its line to the end of its answer.
 . "$(dirname "$0")/common.sh"
 need_gclq
 [ $# -ge 1 ] || { echo "usage: bench/corpus.sh FOLDER [QUERIES]" >&2; exit 2; }

@@ -1,7 +1,7 @@
 #!/usr/bin/env bash
-# Opens an image of many small files by `gclq`, and prints the seconds of deleting each of them, in rising, falling and shuffled order (target:
-# 4 for 100,000 files), of pairs of a deletion and a count, of a deletion and a merge, and of an add and a merge, each less those of opening, and
-# the most kilobytes of a run. The argument is the number of files.
+# Opens an image of many small files with `gclq`, and prints the seconds of deleting each of them, in rising, falling and shuffled order
+# (target: 4 for 100,000 files), of pairs of a deletion and a count, of a deletion and a merge, and of an add and a merge. Each is less the
+# seconds of opening. It also prints the peak kilobytes of a run. The argument is the number of files.
 . "$(dirname "$0")/common.sh"
 need_gclq
 files=${1:-100000}

@@ -1,6 +1,6 @@
 #!/usr/bin/env bash
-# 2,000 made files by four editors beside a settling lane, to one editor beside it, as a ratio of one run (target 0.7 on four processors, once
-# indexes are made outside the lock). It builds `gclshare` if it has to.
+# 2,000 made files by four editors alongside a settling lane, to one editor alongside it, as a ratio of one run (target 0.7 on four
+# processors, once indexes are made outside the lock). It builds `gclshare` if it has to.
 set -eu
 here=$(cd "$(dirname "${BASH_SOURCE[0]}")/.." && pwd)
 program=$here/crates/gclshare/out/gclshare

@@ -1,7 +1,7 @@
 #!/usr/bin/env bash
-# Adds texts by `gclq`, and prints ratios of one run: seconds of adding 20 MB in one file to those of `wc -w` (target 7), seconds of
-# adding 153 MB as 5,000 files to those of the same bytes as 50 (target 1.6), and the memory of a run that adds a text of
-# 20 MB with many tags to the bytes of the text (target 0.6, beside the text itself). It makes its texts.
+# Adds texts with `gclq`, and prints ratios of one run: seconds of adding 20 MB in one file to those of `wc -w` (target 7), seconds of
+# adding 153 MB as 5,000 files to those of the same bytes as 50 (target 1.6), and the memory of a run that adds a text of 20 MB with many
+# tags to the bytes of the text (target 0.6, not counting the text itself). It makes its texts.
 . "$(dirname "$0")/common.sh"
 need_gclq
 python3 - "$work" <<'P'

@@ -1,7 +1,7 @@
 #!/usr/bin/env bash
-# Adds a plain text of 20 MB and one of 40 MB, with three finds each, and prints ratios of one run:
-# seconds to `wc -w` on the same text, bytes of memory to bytes of text, and the longer text to the shorter.
-# It makes its texts and builds nothing but the program. Targets: 5, 8 and 2.3.
+# Adds a plain text of 20 MB and one of 40 MB, with three finds each, and prints ratios of one run: seconds to `wc -w` on the same text,
+# bytes of memory to bytes of text, and the longer text to the shorter. It makes its texts and builds only the program. Targets: 5, 8 and
+# 2.3.
 . "$(dirname "$0")/common.sh"
 need_gclq
 python3 - "$work" <<'P'

@@ -1,7 +1,7 @@
 #!/usr/bin/env bash
-# gate.sh [COMMIT [CRATE..]]: runs the proofs, tests and must-fail edits of a commit (HEAD, if none is named) in a clone, from nothing, and
-# prints the seconds of a processor that the provers took, by what they did and by crate. With crates it runs only theirs and those of the
-# crates below. It takes an hour or two, and other work on the machine makes the seconds more: so two commits are compared on one machine,
+# gate.sh [COMMIT [CRATE..]]: runs the proofs, tests and must-fail edits of a commit (HEAD, if none is named) in a clone, from scratch, and
+# prints the processor seconds that the provers took, by what they did and by crate. If crates are named, it runs only theirs and those of
+# the crates below. It takes an hour or two, and other work on the machine increases the seconds: so compare two commits on one machine,
 # when nothing else runs.
 . "$(dirname "$0")/common.sh"
 git clone -q "$here" "$work/clone"

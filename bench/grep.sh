@@ -1,8 +1,9 @@
 #!/usr/bin/env bash
-# Searches a folder of text with gclgrep: bench/grep.sh [FOLDER]. It takes the files that LIST.txt names there, or all of them; without a folder
-# it makes 400 files of tagged text. It prints for a phrase, elements with a word and a near: seconds with one thread to counting the tokens of the
-# same bytes (target 2.5), seconds with four threads to one (target 0.4 on four processors, 0.65 on two), and the most memory beside twice the
-# largest file for each thread and 8 MB. Beside them `grep -c -w`, and sgrep without an index where it is there. GCLGREP, MEASURE and SGREP name programs.
+# Searches a folder of text with gclgrep: bench/grep.sh [FOLDER]. It takes the files that LIST.txt names there, or all of them; without a
+# folder it makes 400 files of tagged text. It prints for a phrase, elements with a word and a near: seconds with one thread to counting the
+# tokens of the same bytes (target 2.5), seconds with four threads to one (target 0.4 on four processors, 0.65 on two), and the peak memory
+# next to twice the largest file for each thread plus 8 MB. Next to these, `grep -c -w`, and sgrep without an index if it is installed.
+# GCLGREP, MEASURE and SGREP name programs.
 . "$(dirname "$0")/common.sh"
 need_measure
 gclgrep=${GCLGREP:-$here/crates/gclgrep/out/gclgrep}

@@ -1,8 +1,8 @@
 #!/usr/bin/env bash
-# Saves and opens images by `gclq`, and prints ratios: seconds of opening to those of adding the files (target 0.2), seconds of saving to
+# Saves and opens images with `gclq`, and prints ratios: seconds of opening to those of adding the files (target 0.2), seconds of saving to
 # those of adding (target 0.5), the memory of a run that opens, less that of one that does nothing, to the bytes of the image (target 3),
 # and the bytes of the image to those that version 1 of the format would have (target below 1). The files are made: 100 texts of 200,000
-# bytes. A text named as the argument is measured in their place, cut into 100 files.
+# bytes. A text named as the argument is measured instead, cut into 100 files.
 . "$(dirname "$0")/common.sh"
 need_gclq
 python3 - "$work" "${1:-}" <<'P'

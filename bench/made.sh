@@ -1,7 +1,7 @@
 #!/usr/bin/env bash
-# Runs `--made 7 --count 1000` with one reader, four and sixteen: the five lines, which have to be the same, and the ratio of the seconds
-# with four to those with one (target 1.2 on four processors: its batches are too small to be shared). Then the memory of that run to the memory of one that adds the same
-# files (target 2): it makes these as the definition of the corpus says.
+# Runs `--made 7 --count 1000` with one reader, four and sixteen: prints the five lines, which must be the same, and the ratio of the
+# seconds with four to those with one (target 1.2 on four processors: its batches are too small to be shared). Then it prints the memory of
+# that run to the memory of one that adds the same files (target 2): it makes these as the definition of the corpus says.
 . "$(dirname "$0")/common.sh"
 need_gclq
 cd "$work"

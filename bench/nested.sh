@@ -1,9 +1,10 @@
 #!/usr/bin/env bash
-# Queries in which a containment asks an operand that holds another one: bench/nested.sh [FOLDER]. Over texts of one word, 500 to 4,000 times,
-# ("a" + ("a" /< [1])) /< [1] and the like to depth 8, by both "not" operators: milliseconds, how they grow from half the words (target 2.3),
-# and those of depth 8 over 4,000 words (target 20); and seconds of a phrase of 1,000 equal words over 5 MB of them (target 1). Over the files
-# of a folder, by default none, such as the King James Bible with the elements book, chapter and verse: milliseconds of queries that somebody
-# may write, beside a count of the verses, of verses without any of 254 words (target 200), and of 2,000 queries that chance made.
+# Queries in which a containment asks an operand that holds another one: bench/nested.sh [FOLDER]. Over texts of one word, 500 to 4,000
+# times, ("a" + ("a" /< [1])) /< [1] and the like to depth 8, by both "not" operators: milliseconds, how they grow from half the words
+# (target 2.3), and those of depth 8 over 4,000 words (target 20); and seconds of a phrase of 1,000 equal words over 5 MB of them (target
+# 1). Over the files of a folder, by default none, such as the King James Bible with the elements book, chapter and verse: milliseconds of
+# queries that somebody may write, compared with a count of the verses, of verses without any of 254 words (target 200), and of 2,000 random
+# queries.
 . "$(dirname "$0")/common.sh"
 need_gclq
 python3 - "$program" "$work" "${1:-}" <<'P'

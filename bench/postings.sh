@@ -1,8 +1,8 @@
 #!/usr/bin/env bash
-# Makes a posting list of a million addresses and prints ratios of one run: a look-up at a random place to halving over
-# the plain numbers (target 2.5), and a walk over all of them to their sum (target 4, or 150 million a second). Then, over a text of
-# 10 MB with 5,000 different words that it makes, or over each file that is named, the bytes that a posting takes in the lists of 64 or
-# more, and their ratio to the packed differences alone (target 1.35).
+# Makes a posting list of a million addresses and prints ratios of one run: a look-up at a random place to binary search over the plain
+# numbers (target 2.5), and a walk over all of them to their sum (target 4, or 150 million a second). Then, over a text of 10 MB with 5,000
+# different words that it makes, or over each file that is named, the bytes that a posting takes in the lists of 64 or more, and their ratio
+# to the packed differences alone (target 1.35).
 . "$(dirname "$0")/common.sh"
 need_measure
 "$counter" lists | awk '

@@ -1,7 +1,7 @@
 #!/usr/bin/env bash
-# A prefix of 1,500 words with 80,000 places in a text of 5 MB, beside one word with as many places: the count (target 2 ms), the list, and the
-# elements that hold it (targets 3 times those of the word). The same with four readers, and after a quarter of the files was deleted. It
-# makes its text.
+# A prefix of 1,500 words with 80,000 places in a text of 5 MB, compared with one word with as many places: the count (target 2 ms), the
+# list, and the elements that hold it (targets 3 times those of the word). The same with four readers, and after a quarter of the files was
+# deleted. It makes its text.
 . "$(dirname "$0")/common.sh"
 need_gclq
 python3 - "$program" "$work" <<'P'

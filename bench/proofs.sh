@@ -1,7 +1,7 @@
 #!/usr/bin/env bash
-# proofs.sh CRATE [ROWS]: proves a crate from nothing with one job, and prints the seconds that each function and each file of lemmas took,
-# the dearest first, with the part of them that went into each kind of module. It goes by the times at which the checker kept its files, so
-# run it when little else runs. `Lts` is that a function borrows rightly, `Proof` is its goals, among them those that a tactic has to find.
+# proofs.sh CRATE [ROWS]: proves a crate from scratch with one job, and prints the seconds that each function and each file of lemmas took,
+# the slowest first, with the part of them that went into each kind of module. It uses the times at which the checker kept its files, so run
+# it when little else runs. `Lts` proves that a function borrows correctly, `Proof` its goals, among them those that a tactic has to find.
 set -eu
 cd "$(dirname "$0")/../crates/${1:?proofs.sh CRATE [ROWS]}"
 rm -rf out/incremental

@@ -1,7 +1,8 @@
 #!/usr/bin/env bash
 # Queries over texts of 5 and 50 MB with a common word, a rare one and small elements: the intervals, the look-ups and the milliseconds of
-# each beside those of adding the text (target: a hundredth), and how much faster than the number of look-ups its time grows from the one
-# to the other (target 1.5); and the memory of a run that counts beside that of one that only adds (target 1.05). It makes its texts.
+# each compared with those of adding the text (target: a hundredth), and how much faster than the number of look-ups its time grows from one
+# text to the other (target 1.5); and the memory of a run that counts compared with that of one that only adds (target 1.05). It makes its
+# texts.
 . "$(dirname "$0")/common.sh"
 need_gclq
 need_measure

@@ -1,8 +1,8 @@
 #!/usr/bin/env bash
-# Refuses each numbered request for memory of `gclq` in turn, over a script with every command, an image that is opened and one that is saved,
-# and threads beside a merge. Each run must end with status 6 and a beginning of the whole text, or with the status of a run that is refused
-# nothing and the whole text; the saved image is whole or not there. An argument K tries each Kth request alone. It needs a C compiler, since
-# the requests are counted in a library that stands before the C library's.
+# Refuses each numbered request for memory of `gclq` in turn, over a script with every command, an image that is opened and one that is
+# saved, and threads during a merge. Each run must end with status 6 and a beginning of the whole text, or with the whole text and the
+# status of a run that is refused nothing; the saved image is complete or does not exist. An argument K tries only each Kth request. It
+# needs a C compiler, since the requests are counted in a library that is loaded before the C library.
 . "$(dirname "$0")/common.sh"
 need_gclq
 step=${1:-1}

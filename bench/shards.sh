@@ -1,7 +1,7 @@
 #!/usr/bin/env bash
-# Shards of a text of 20 MB with 5,000 different words, and of one of 5 MB in which most words stand once. Prints ratios of
-# one run: seconds of building to seconds of cutting (target 6), and the bytes that one shard more keeps to those of the packed
-# differences and the different terms (target 2). It makes its texts, or takes the files that are named.
+# Shards of a text of 20 MB with 5,000 different words, and of one of 5 MB in which most words occur once. Prints ratios of one run: seconds
+# of building to seconds of cutting (target 6), and the bytes that an additional shard keeps to those of the packed differences and the
+# different terms (target 2). It makes its texts, or takes the files that are named.
 . "$(dirname "$0")/common.sh"
 need_measure
 if [ $# -eq 0 ]; then

@@ -1,6 +1,6 @@
 #!/usr/bin/env bash
-# Counts queries over a text of 1 MB that stands 1, 4 and 16 times in a version, each time in a slot of its own: the intervals, the
-# look-ups, and the nanoseconds of a look-up beside those in one slot, by bytes and by fingers. It makes its text.
+# Counts queries over a text of 1 MB that is 1, 4 and 16 times in a version, each time in a slot of its own: the intervals, the look-ups,
+# and the nanoseconds of a look-up compared with those in one slot, by bytes and by fingers. It makes its text.
 . "$(dirname "$0")/common.sh"
 need_measure
 python3 - "$work" <<'P'

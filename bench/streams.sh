@@ -1,8 +1,9 @@
 #!/usr/bin/env bash
-# What a run keeps of its script and of its answers. A script of 50 MB with a `find` in each line, beside one of ten such lines: memory (target 4
-# MB more). An answer of 10,000,000 intervals, beside their number alone: memory (4 MB more), and the seconds of printing it, which are those of
-# the `find` less those of the `count`, to those in which `seq` writes as many bytes (target 3). The intervals are those of a file that has one
-# word ten million times. It is opened from an image, since adding it takes memory of its own, in which an answer that is kept could hide.
+# What a run keeps of its script and of its answers. A script of 50 MB with a `find` in each line, compared with one of ten such lines:
+# memory (target 4 MB more). An answer of 10,000,000 intervals, compared with only their number: memory (4 MB more), and the seconds of
+# printing it, which are those of the `find` less those of the `count`, to those in which `seq` writes as many bytes (target 3). The
+# intervals are those of a file that has one word ten million times. It is opened from an image, since adding it takes memory of its own, in
+# which an answer that is kept could hide.
 . "$(dirname "$0")/common.sh"
 need_gclq
 cd "$work"

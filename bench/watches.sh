@@ -1,8 +1,8 @@
 #!/usr/bin/env bash
-# Opens an image of made text (5 MB, and 50), adds 1,000 small files of 2 KB to it, and deletes 200 of them: without watches, with 4 and with
-# 16 of the kinds that people use. Prints the seconds of the adds and of the deletions, the least of five runs, their ratio to those without
-# watches (targets 1.6 with 4 watches and 3 with 16), and the ratio of 50 MB to 5 (target 1.3). The last line is a watch whose lists have
-# to be gone through whole.
+# Opens an image of made text (5 MB, and 50), adds 1,000 small files of 2 KB to it, and deletes 200 of them: without watches, with 4 and
+# with 16 of the usual kinds. Prints the seconds of the adds and of the deletions, the least of five runs, their ratio to those without
+# watches (targets 1.6 with 4 watches and 3 with 16), and the ratio of 50 MB to 5 (target 1.3). The last line is a watch for which whole
+# lists have to be gone through.
 . "$(dirname "$0")/common.sh"
 need_gclq
 cd "$work"

@@ -1,8 +1,8 @@
 #!/usr/bin/env bash
-# Which definitions stand under the headline, and how many lines are they? Follows the names in the clauses of `query_run::run` through the
-# files of definitions and prints, for each file that has one of them, how many of its lines are reached and how many it has; then those
+# Which definitions does the headline depend on, and how many lines are they? Follows the names in the clauses of `query_run::run` through
+# the files of definitions and prints, for each file that has one of them, how many of its lines are reached and how many it has; then those
 # that the headline does not need. Imports, comments and empty lines do not count. A variable that has the name of a definition counts as a
-# use of it, so the numbers are never too small. It judges nothing: it fails only where the headline is not where it looks.
+# use of it, so the numbers are never too small. It judges nothing: it fails only if it does not find the headline.
 set -eu
 cd "$(dirname "$0")/.."
 python3 - "$@" <<'P'

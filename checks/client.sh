@@ -1,6 +1,6 @@
 #!/usr/bin/env bash
-# The client for Python: its examples print what its pages say. Over files of bytes drawn at random it cuts tokens as the program does, so that
-# the text of each hit is the word that was asked for. And nobody waits for ever: not for a program that is silent, nor for a long answer.
+# The client for Python: its examples print what its page says. Over files of random bytes it cuts tokens as the program does, so that the
+# text of each hit is the word that was asked for. And nobody waits forever, neither for a program that is silent nor for a long answer.
 . "$(dirname "$0")/common.sh"
 cp "$here"/demo/* .
 ln -s "$gclq" gclq

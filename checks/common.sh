@@ -1,6 +1,6 @@
-# What the checks that run a program share: the program, proved and built, and an empty folder of their own, in which they go on. Each begins
-# with `. "$(dirname "$0")/common.sh"`, behind `program=gclgrep` where it runs that and not gclq. The program's path is in the variable of its
-# name. GCLQ and GCLGREP name programs to run in place of those of this checkout.
+# What the checks that run a program share: the program, proved and built, and an empty folder of their own, in which they continue. Each
+# begins with `. "$(dirname "$0")/common.sh"`, after `program=gclgrep` if it runs that and not gclq. The program's path is in the variable
+# of its name. GCLQ and GCLGREP name programs to run instead of those of this checkout.
 set -eu
 here=$(cd "$(dirname "${BASH_SOURCE[0]}")/.." && pwd)
 program=${program:-gclq}

@@ -1,5 +1,5 @@
 #!/usr/bin/env bash
-# Each case lets something outside the program fail. Compared are the exit status, what was written, the one line on standard error, and what
+# Each case lets something outside the program fail. It compares the exit status, what was written, the one line on standard error, and what
 # the files hold afterwards. A case that this machine does not allow is skipped, and a line says so.
 . "$(dirname "$0")/common.sh"
 # a user who is not root is to run it too

@@ -1,6 +1,6 @@
 #!/usr/bin/env bash
 # Runs gclgrep from outside: what is written of files and of standard input, each refusal with its message and status, and that nothing is
-# written where the query is refused.
+# written if the query is refused.
 program=gclgrep
 . "$(dirname "$0")/common.sh"
 printf 'to be or not to be' > a

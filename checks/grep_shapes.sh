@@ -1,7 +1,7 @@
 #!/usr/bin/env bash
-# Runs gclgrep over small files of every shape of lines and passages, in each mode, with and without -h, -N and -m. The table has each file's
-# bytes, a query, and by hand the first byte of each answer and the one behind its last; what must be written of these is said once more in
-# `text_of`, in a few lines that know nothing of the program.
+# Runs gclgrep over small files of every shape of lines and passages, in each mode, with and without -h, -N and -m. The table has each
+# file's bytes, a query, and, worked out by hand, the first byte of each answer and the one after its last; what must be written of these is
+# computed again in `text_of`, in a few lines that are independent of the program.
 program=gclgrep
 . "$(dirname "$0")/common.sh"
 python3 - "$gclgrep" <<'P'

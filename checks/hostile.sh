@@ -1,6 +1,6 @@
 #!/usr/bin/env bash
-# What surrounds the program may be slow, odd or made to harm: each case shows from outside that it stops, slows or surprises nobody. A case
-# that this machine does not allow is skipped, and a line says so.
+# What surrounds the program may be slow, odd or made to harm: each case shows from outside that it does not stop, slow or surprise anybody.
+# A case that this machine does not allow is skipped, and a line says so.
 . "$(dirname "$0")/common.sh"
 cases=0
 

@@ -1,6 +1,6 @@
 #!/usr/bin/env bash
-# Ten thousand files are added, some deleted, and the rest saved: a later run that opens the image answers each query of a table as the first
-# run does, and saves the same bytes.
+# Ten thousand files are added, some deleted, and the rest saved: a later run that opens the image answers each query of a table as the
+# first run does, and saves the same bytes.
 . "$(dirname "$0")/common.sh"
 words=(to be or not that is the question whether tis nobler)
 for ((i = 0; i < 10000; i++)); do

@@ -1,7 +1,7 @@
 #!/usr/bin/env bash
-# A query with prefix terms has the members that the same query has with the words in their place: a table of queries over three files in two
-# slots, of which one is deleted, so that some words are there in a dead range alone. Then 3,000 words of one prefix in three files, of which
-# one is deleted, listed, counted and in a containment, before and after a merge.
+# A query with prefix terms has the members that the same query has with the words in their place: a table of queries over three files in
+# two slots, of which one file is deleted, so that some words are only in a dead range. Then 3,000 words of one prefix in three files, of
+# which one is deleted, listed, counted and in a containment, before and after a merge.
 . "$(dirname "$0")/common.sh"
 
 fails() {

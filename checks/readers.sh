@@ -1,6 +1,6 @@
 #!/usr/bin/env bash
-# No byte depends on the number of readers: a script of 500 lines in which merges are wanted all along gives the same bytes with 1, 2, 4 and 16
-# readers, twenty times, and a made corpus the same five lines.
+# No byte depends on the number of readers: a script of 500 lines in which merges are requested throughout gives the same bytes with 1, 2, 4
+# and 16 readers, twenty times, and a made corpus the same five lines.
 . "$(dirname "$0")/common.sh"
 for ((i = 0; i < 5; i++)); do
   printf '<l>to be or not to be</l>\n<l>that is w%d</l>\n' $i > "f$i"

@@ -1,9 +1,9 @@
 #!/usr/bin/env bash
-# A line is answered before the next one is read. The program stands between two pipes, and each line is written only when all answers to the
+# A line is answered before the next one is read. The program runs between two pipes, and each line is written only when all answers to the
 # lines before it were read: every kind of command, an empty line, refused lines, lines that come in two halves, and a last one without a
-# newline. Then a script that can be read in part alone, of which the lines before the fault are answered; one as long as a script may be, and one
-# of a byte more. The last two are zeros without a newline, and a program that keeps no more of a line than it has to needs little memory for
-# them. They are skipped where they take more than 20 seconds.
+# newline. Then a script that can be read only in part, whose lines before the fault are answered; one as long as a script may be, and one a
+# byte longer. The last two are zeros without a newline, and a program that keeps no more of a line than it has to needs little memory for
+# them. They are skipped if they take more than 20 seconds.
 . "$(dirname "$0")/common.sh"
 patience=5
 printf 'to be or not to be' > a

@@ -1,9 +1,9 @@
 #!/usr/bin/env bash
-# What the watches are told is what changed: scripts of edits and merges over three small files, each with six watches (one whose negation
+# What the watches report is what changed: scripts of edits and merges over three small files, each with six watches (one whose negation
 # reaches far back, one with a width, one with a prefix term, one of an element, and two that readers follow: through whole lists, since a
 # containment has a chain with another one, and over a window of the text, since there are many words). After each line the six queries are
-# listed, and what the watches were told has to be the difference of the lists before and after it. Before each script that opens, an image
-# was saved. Then the answers to the lines that begin and end a watch, and their refusals.
+# listed, and what the watches reported must be the difference between the lists before and after it. Before each script that opens, an
+# image was saved. Then the answers to the lines that begin and end a watch, and their refusals.
 . "$(dirname "$0")/common.sh"
 
 printf 'to be or not to be' > speech
