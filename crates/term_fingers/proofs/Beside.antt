@@ -1,4 +1,4 @@
--- Two rising lists that are gone through side by side, and what that says of a version's text.
+-- A walk through two rising lists together, and what it says of a version's text.
 use Rattle.std.proofs.Common.{◌≡◌, ℕ, zero, suc, ◌+◌, ◌-◌, ◌*◌, ◌^◌, ◌<◌, ◌≤◌, min, true, false, List, [], ◌∷◌, length, take, drop, get_or, Option, Some, None, slice_get, inl, inr, refl, sym, ap, ◌∙◌, subst, arith, bytes_eq, eqb}
 use Rattle.std.specs.Option.{option_map}
 use Rattle.std.proofs.lemmas.Bool.{true≢false, cases_Bool, cases_lt, or_cases, and_parts, eqb-true}
@@ -22,7 +22,7 @@ use Rattle.term_fingers.proofs.Nearest.{below-lt, below-ge, climbs}
 use Rattle.term_fingers.proofs.Places.{place_known}
 
 module _ (first second : List ℕ) (k : ℕ) (rise : ArePostings first) (rise_behind : ArePostings second) where
-  -- where what stands before both places is below k, and below k + 1, nothing was passed
+  -- if what is before the two places is below k, and below k + 1, nothing was passed
   pub passed_start : (i j : ℕ) → i ≤ length first → j ≤ length second → (0 < i → get_or first (i - 1) 0 < k) → (0 < j → get_or second (j - 1) 0 < k + 1) → ArePassed first second k i j
   passed_start i j a b before behind = λ x y xl yl ge same. (
     elim (cases_lt x i) [
@@ -41,7 +41,7 @@ module _ (first second : List ℕ) (k : ℕ) (rise : ArePostings first) (rise_be
     ],
   )
 
-  -- where the member of the second list lies farther on, the first list's is passed
+  -- if the member of the second list lies farther on, the first list's is passed
   passed_first : (i j : ℕ) → j < length second → get_or first i 0 + 1 < get_or second j 0 → ArePassed first second k i j → ArePassed first second k (i + 1) j
   passed_first i j within less passed = λ x y xl yl ge same.
       let p = passed x y xl yl ge same in
@@ -55,7 +55,7 @@ module _ (first second : List ℕ) (k : ℕ) (rise : ArePostings first) (rise_be
             absurd (omega (arith, here, up, less))
       ]
 
-  -- where it does not lie so far, it is passed itself
+  -- if it lies less far, it is passed itself
   passed_second : (i j : ℕ) → i < length first → get_or second j 0 < get_or first i 0 + 1 → ArePassed first second k i j → ArePassed first second k i (j + 1)
   passed_second i j within less passed = λ x y xl yl ge same.
       let p = passed x y xl yl ge same in
@@ -69,7 +69,7 @@ module _ (first second : List ℕ) (k : ℕ) (rise : ArePostings first) (rise_be
             absurd (omega (arith, here, up, less))
       ]
 
-  -- one of both goes on by one, so something is left of it
+  -- one of the two places moves on within its list, so less is left
   pub record IsStep (i j u w : ℕ) : Type 0 where
     pub passed : ArePassed first second k (i + u) (j + w)
     pub within : i + u ≤ length first
@@ -99,13 +99,13 @@ module _ (first second : List ℕ) (k : ℕ) (rise : ArePostings first) (rise_be
             record { passed = subst (λ n. ArePassed first second k n (j + 1)) still (passed_second i j a less passed); within = omega (arith, a); within_behind = omega (arith, b); nearer = omega (arith, a, b) }))
       ]
 
-  -- the same by how far each goes on
+  -- the same by how far each moves on
   pub steps_by : (i j u w : ℕ) → i < length first → j < length second → (get_or first i 0 + 1 ≡ get_or second j 0 → ⊥) → ArePassed first second k i j →
       u ≡ one_below (get_or first i 0 + 1) (get_or second j 0) → w ≡ one_below (get_or second j 0) (get_or first i 0 + 1) → IsStep i j u w
   steps_by i j u w a b other passed eu ew =
       subst (λ n. IsStep i j n w) (sym eu) (subst (λ n. IsStep i j (one_below (get_or first i 0 + 1) (get_or second j 0)) n) (sym ew) (steps_on i j a b other passed))
 
-  -- of two and two, of which none stand side by side, the first list's are passed where the other's last one lies farther on
+  -- of two and two, of which none come right after each other, the first list's are passed if the other's last one lies farther on
   passed_two_first : (i j : ℕ) → i + 1 < length first → j + 1 < length second → (get_or first i 0 + 1 ≡ get_or second j 0 → ⊥) → (get_or first (i + 1) 0 + 1 ≡ get_or second j 0 → ⊥) →
       get_or first (i + 1) 0 + 1 < get_or second (j + 1) 0 → ArePassed first second k i j → ArePassed first second k (i + 2) j
   passed_two_first i j a b near far less passed = λ x y xl yl ge same.
@@ -139,7 +139,7 @@ module _ (first second : List ℕ) (k : ℕ) (rise : ArePostings first) (rise_be
             ]
       ]
 
-  -- where it does not lie so far, those of the second list are
+  -- if it lies less far, those of the second list are
   passed_two_second : (i j : ℕ) → i + 1 < length first → j + 1 < length second → (get_or first i 0 + 1 ≡ get_or second j 0 → ⊥) → (get_or first i 0 + 1 ≡ get_or second (j + 1) 0 → ⊥) →
       get_or second (j + 1) 0 < get_or first (i + 1) 0 + 1 → ArePassed first second k i j → ArePassed first second k i (j + 2)
   passed_two_second i j a b near near_last less passed = λ x y xl yl ge same.
@@ -193,7 +193,7 @@ module _ (first second : List ℕ) (k : ℕ) (rise : ArePostings first) (rise_be
             record { passed = subst (λ n. ArePassed first second k n (j + 2)) still (passed_two_second i j a b near near_last less passed); within = omega (arith, a); within_behind = omega (arith, b); nearer = omega (arith, a, b) }))
       ]
 
-  -- the same by how far each goes on
+  -- the same by how far each moves on
   pub twos_by : (i j u w : ℕ) → i + 1 < length first → j + 1 < length second → (get_or first i 0 + 1 ≡ get_or second j 0 → ⊥) → (get_or first i 0 + 1 ≡ get_or second (j + 1) 0 → ⊥) →
       (get_or first (i + 1) 0 + 1 ≡ get_or second j 0 → ⊥) → (get_or first (i + 1) 0 + 1 ≡ get_or second (j + 1) 0 → ⊥) → ArePassed first second k i j →
       u ≡ one_below (get_or first (i + 1) 0 + 1) (get_or second (j + 1) 0) → w ≡ one_below (get_or second (j + 1) 0) (get_or first (i + 1) 0 + 1) → IsStep i j (2 * u) (2 * w)
@@ -201,7 +201,7 @@ module _ (first second : List ℕ) (k : ℕ) (rise : ArePostings first) (rise_be
       subst (λ n. IsStep i j (2 * n) (2 * w)) (sym eu)
       (subst (λ n. IsStep i j (2 * one_below (get_or first (i + 1) 0 + 1) (get_or second (j + 1) 0)) (2 * n)) (sym ew) (twos_on i j a b near near_last far far_last passed))
 
-  -- so before an address below which all members stand before the place that was reached, there is no pair
+  -- so there is no pair before an address, if all members below it are before the place that was reached
   pub none_passed : (i j r : ℕ) → ArePassed first second k i j → ((x : ℕ) → x < length first → get_or first x 0 < r → x < i) → (p : ℕ) → k ≤ p → p < r → IsAt first p → IsAt second (p + 1) → ⊥
   none_passed i j r passed before p ge lt here behind =
       let is : get_or first here.place 0 ≡ p = here.is in
@@ -210,7 +210,7 @@ module _ (first second : List ℕ) (k : ℕ) (rise : ArePostings first) (rise_be
       let less : here.place < i = before here.place here.within (omega (arith, is, lt)) in
       omega (arith, from, less)
 
--- the members below the one at a place stand before it
+-- the members below the one at a place are before it
 pub below_place : (xs : List ℕ) (i x : ℕ) → ArePostings xs → x < length xs → get_or xs x 0 < get_or xs i 0 → x < i
 below_place xs i x r within less =
     elim (cases_lt x i) [
@@ -267,7 +267,7 @@ in_block xs part b p r is some low high at =
 pub at_of_block : (xs part : List ℕ) (b i : ℕ) → part ≡ block_of xs b → i < length part → IsAt xs (get_or part i 0)
 at_of_block xs part b i is lt = let m = block_member xs part b i is lt in record { place = 64 * b + i; within = m.0; is = m.1 }
 
--- where both blocks have no pair up to an address that they reach, the lists have none
+-- if both blocks have no pair up to an address that they reach, the lists have none
 pub lists_lack : (xs ys part behind : List ℕ) (b d k r : ℕ) → ArePostings xs → ArePostings ys → part ≡ block_of xs b → behind ≡ block_of ys d → 0 < length part → 0 < length behind →
     get_or part 0 0 ≤ k → get_or behind 0 0 ≤ k + 1 → r ≤ get_or part (length part - 1) 0 + 1 → r ≤ get_or behind (length behind - 1) 0 →
     ((p : ℕ) → k ≤ p → p < r → IsAt part p → IsAt behind (p + 1) → ⊥) → LackPairs xs ys k r
@@ -356,7 +356,7 @@ module _ (v : VersionContent) (is : IsVersion v) (number : ℕ) (slot : SlotCont
       subst (λ ps. IsAt ps p) (places_are_postings slot.shard term (slot_is v number slot is at).shard)
       (place_held (words_of slot.shard) term p (held_in_slot v number slot term p is at from upto held))
 
-  -- where the postings of two terms have no pair between their members, the version has none there
+  -- if the postings of two terms have no pair between their members, the version has none there
   slot_lacks : (a b : List ℕ) (k r : ℕ) → LackPairs (postings_of slot.shard.table a) (postings_of slot.shard.table b) k r → any_pair (live_of v.slots) a b k r ≡ false
   slot_lacks a b k r lack =
       no_pair (live_of v.slots) a b k r
@@ -370,7 +370,7 @@ module _ (v : VersionContent) (is : IsVersion v) (number : ℕ) (slot : SlotCont
       (held_at a p (omega (arith, low, from, ge)) (omega (arith, high, upto, lt)) held)
       (held_at b (p + 1) (omega (arith, low, from, ge)) (omega (arith, high, upto, lt)) behind))
 
--- where the lists at the places of two terms in a slot have no pair between their members, the version has none there
+-- if the lists at the places of two terms in a slot have no pair between their members, the version has none there
 pub version_lacks : (v : VersionContent) (number place place_behind : ℕ) (a b : List ℕ) (found found_behind : List (Option ℕ)) (k r : ℕ) → IsVersion v →
     take (length v.slots) found ≡ places_of a v.slots → take (length v.slots) found_behind ≡ places_of b v.slots → slice_get found number ≡ Some (Some place) → slice_get found_behind number ≡ Some (Some place_behind) →
     LackPairs (list_of v.slots number place) (list_of v.slots number place_behind) k r → any_pair (live_of v.slots) a b k r ≡ false

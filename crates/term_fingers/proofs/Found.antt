@@ -1,4 +1,4 @@
--- What a member of a list tells of a whole version, where nothing of its slot is dead.
+-- What a member of a list says of a whole version, if nothing of its slot is dead.
 use Rattle.std.proofs.Common.{◌≡◌, ℕ, zero, suc, ◌<◌, ◌⊎◌, true, false, ◌&&◌, eqb, List, [], ◌∷◌, length, take, filter, get_or, Option, Some, None, slice_get, inl, inr, refl, sym, ap, ◌∙◌, subst, arith, bytes_eq}
 use Rattle.std.specs.Option.{option_map}
 use Rattle.std.proofs.lemmas.Bool.{cases_Bool, or_left, or_right, and_from, eq-eqb}
@@ -25,7 +25,7 @@ first_or_behind x xs p at = by_place at.place at.within at.is
     by_place zero within is = inl is
     by_place (suc n) within is = inr record { place = n; within = omega (arith, within); is = is }
 
--- a token stands at each of its places
+-- a token is at each of its places
 place_is_held : (words : List Word) (token : List ℕ) (p : ℕ) → IsAt (places words token) p → holds words token p ≡ true
 place_is_held [] token p = λ at. absurd (omega (arith, at.within))
 place_is_held (w ∷ ws) token p =
@@ -39,7 +39,7 @@ place_is_held (w ∷ ws) token p =
       | inr b ↦ rw b (λ at. or_right (eqb w.address p && false) (holds ws token p) (rest at))
     ]
 
--- a token stands in all slots where it does in one of them
+-- a token that is in one slot is in all slots together
 held_in_all : (slots : List SlotContent) (number : ℕ) (slot : SlotContent) (token : List ℕ) (p : ℕ) → slice_get slots number ≡ Some slot → holds (live_words slot) token p ≡ true → holds (live_of slots) token p ≡ true
 held_in_all [] zero slot token p at held = absurd cc
 held_in_all [] (suc number) slot token p at held = absurd cc
@@ -51,7 +51,7 @@ held_in_all (x ∷ xs) (suc number) slot token p at held =
     let rest = held_in_all xs number slot token p at held in
     list_any-append (is_word token p) (live_words x) (live_of xs) ∙ or_right (holds (live_words x) token p) (holds (live_of xs) token p) rest
 
--- so a member of a term's list stands in the version, where nothing of the slot is dead
+-- so a member of a term's list is in the version, if nothing of the slot is dead
 pub version_holds : (v : VersionContent) (number place : ℕ) (term : List ℕ) (found : List (Option ℕ)) (p : ℕ) → IsVersion v → take (length v.slots) found ≡ places_of term v.slots →
     slice_get found number ≡ Some (Some place) → HasNoDead v.slots number → IsAt (list_of v.slots number place) p → holds (live_of v.slots) term p ≡ true
 version_holds v number place term found p is all here whole member = by_slot (slice_get v.slots number) refl

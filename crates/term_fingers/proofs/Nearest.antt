@@ -16,7 +16,7 @@ use Rattle.term_fingers.specs.Lists.{AreBelow, EndBetween, TellsNearest, one_bel
 pub block_is_few : (xs : List ℕ) (b : ℕ) → length (block_of xs b) ≤ 64
 block_is_few xs b = omega (arith, length-take 64 (drop (64 * b) xs))
 
--- where the member before place n is less than k, and the one at n is not, that one is the least from k on
+-- if the member before place n is less than k, and the one at n is not, the one at n is the least at or after k
 least_at : (low end : ℕ) (xs : List ℕ) (n k : ℕ) → RiseWithin low end xs → n ≤ length xs → ((m : ℕ) → n ≡ suc m → get_or xs m 0 < k) → (n < length xs → k ≤ get_or xs n 0) → least_from xs k ≡ slice_get xs n
 least_at low end [] zero k r within before after = refl
 least_at low end [] (suc n) k r within before after = absurd (omega arith)
@@ -34,7 +34,7 @@ none_at : (low end : ℕ) (xs : List ℕ) (k : ℕ) → RiseWithin low end xs �
 none_at low end [] k r after = refl
 none_at low end (x ∷ xs) k r after = let lt : k < x = after (omega arith) in greatest_none x end (x ∷ xs) k (omega arith, r.1, r.2) lt
 
--- where the member at place n is at most k, and the one after it is not, that one is the greatest up to k
+-- if the member at place n is at most k, and the one after it is not, the one at n is the greatest at or before k
 greatest_at : (low end : ℕ) (xs : List ℕ) (n k : ℕ) → RiseWithin low end xs → n < length xs → get_or xs n 0 ≤ k → ((m : ℕ) → m ≡ suc n → m < length xs → k < get_or xs m 0) → greatest_to xs k ≡ Some (get_or xs n 0)
 greatest_at low end [] n k r within before after = absurd (omega arith)
 greatest_at low end (x ∷ xs) zero k r within before after =
@@ -42,21 +42,21 @@ greatest_at low end (x ∷ xs) zero k r within before after =
 greatest_at low end (x ∷ xs) (suc n) k r within before after =
     rw (greatest_at (x + 1) end xs n k r.2 (omega arith) before (λ m e lt. after (suc m) (ap suc e) (omega arith))) refl
 
--- what comes after the members below k is the least from k on
+-- what comes after the members below k is the least at or after k
 pub least_below : (xs : List ℕ) (n k : ℕ) → ArePostings xs → AreBelow xs k n → least_from xs k ≡ slice_get xs n
 least_below xs n k r below = least_at 0 (2 ^ 56) xs n k r below.within (λ m e. let back : n - 1 ≡ m = omega (arith, e) in subst (λ i. get_or xs i 0 < k) back (below.before (omega (arith, e)))) below.after
 
--- where the last is below k, none is from k on
+-- if the last is below k, none is at or after k
 pub none_behind : (xs : List ℕ) (k : ℕ) → ArePostings xs → 0 < length xs → get_or xs (length xs - 1) 0 < k → None ≡ least_from xs k
 none_behind xs k r some below =
     sym (least_below xs (length xs) k r record { within = le_refl (length xs); before = λ _. below; after = λ lt. absurd (omega (arith, lt)) } ∙ slice_get_past xs (length xs) (le_refl (length xs)))
 
--- where none is below what comes right after k, none is k or less
+-- if none is below what comes right after k, none is at or before k
 pub greatest_before : (xs : List ℕ) (n k next : ℕ) → ArePostings xs → ((u : ℕ) → u < 2 ^ 56 → next ≤ u → k < u) → AreBelow xs next n → n ≡ 0 → None ≡ greatest_to xs k
 greatest_before xs n k next r above below none =
     sym (none_at 0 (2 ^ 56) xs k r (λ lt. above (get_or xs 0 0) (rise_index 0 (2 ^ 56) xs 0 r lt).1 (subst (λ i. i < length xs → next ≤ get_or xs i 0) none below.after lt)))
 
--- else the last that is below it is the greatest up to k
+-- else the last that is below it is the greatest at or before k
 pub greatest_below : (xs : List ℕ) (n at k next : ℕ) → ArePostings xs → ((u : ℕ) → u < 2 ^ 56 → u < next → u ≤ k) → ((u : ℕ) → u < 2 ^ 56 → next ≤ u → k < u) → AreBelow xs next n → n ≡ at + 1 →
     Some (get_or xs at 0) ≡ greatest_to xs k
 greatest_below xs n at k next r upto above below is =
@@ -69,7 +69,7 @@ greatest_below xs n at k next r upto above below is =
     let same : n ≡ m = omega (arith, is, e) in
     above (get_or xs m 0) (rise_index 0 (2 ^ 56) xs m r lt).1 (subst (λ i. i < length xs → next ≤ get_or xs i 0) same below.after lt)))
 
--- where a search for the members before k ended
+-- the place where a search for the members below k ended
 pub below_border : (xs : List ℕ) (n k : ℕ) → n ≤ length xs → (0 < n → ltb (get_or xs (n - 1) 0) k ≡ true) → (n < length xs → ltb (get_or xs n 0) k ≡ false) → AreBelow xs k n
 below_border xs n k within before after = record { within = within; before = λ some. ltb-true _ _ (before some); after = λ lt. ltb-false _ _ (after lt) }
 
@@ -87,7 +87,7 @@ rises_on low end [] i r lt = absurd (omega arith)
 rises_on low end (x ∷ xs) zero r lt = let above = (rise_index (x + 1) end xs zero r.2 (omega arith)).0 in omega (arith, above)
 rises_on low end (x ∷ xs) (suc i) r lt = rises_on (x + 1) end xs i r.2 (omega arith)
 
--- where a member is k or more, the look-up ends in the list
+-- if a member is k or more, the look-up ends in the list
 least_met : (xs : List ℕ) (n k : ℕ) (o : Option ℕ) → n < length xs → k ≤ get_or xs n 0 → option_or (least_from xs k) o ≡ least_from xs k
 least_met [] n k o lt le = absurd (omega arith)
 least_met (x ∷ xs) zero k o lt le = rw (le-leb k x le) refl
@@ -116,7 +116,7 @@ near_ends xs part b k r is some first last =
           subst (λ i. k < get_or xs i 0) next (omega (arith, last, ends, above));
     }
 
--- so its members tell both look-ups
+-- so its members give both look-ups
 pub tells_nearest : (xs part : List ℕ) (b k : ℕ) → ArePostings xs → part ≡ block_of xs b → 0 < length part → get_or part 0 0 ≤ k → k ≤ get_or part (length part - 1) 0 → TellsNearest xs part k
 tells_nearest xs part b k r is some first last =
     let near = near_ends xs part b k r is some first last in
@@ -130,12 +130,12 @@ tells_nearest xs part b k r is some first last =
       greatest = greatest_near xs k b (b + 1) near refl ∙ ap (λ ys. greatest_to ys k) (sym is);
     }
 
--- what is found where it is what is wanted
+-- an equation of two options, said of the one that was found if it is some
 pub as_wanted : (found wanted : Option ℕ) → found ≡ wanted → IfSome found (λ p. Some p ≡ wanted)
 as_wanted None wanted is = tt
 as_wanted (Some p) wanted is = is
 
--- where a block ends below k, and the one after it begins above k, that one begins with the least from k on
+-- if a block ends below k, and the one after it begins above k, the latter begins with the least at or after k
 pub least_behind_block : (xs part : List ℕ) (b next k : ℕ) → ArePostings xs → part ≡ block_of xs b → next ≡ b + 1 → next < blocks_of xs → 0 < length part → get_or part (length part - 1) 0 < k → k < get_or xs (64 * next) 0 →
     slice_get xs (64 * next) ≡ least_from xs k
 least_behind_block xs part b next k r is on within some last above =
@@ -163,7 +163,7 @@ part-lt u k size lt = ap (λ b. cond b size 0) (lt-ltb u k lt)
 part-ge : (u k size : ℕ) → k ≤ u → size_below u k size ≡ 0
 part-ge u k size ge = ap (λ b. cond b size 0) (le-ltb u k ge)
 
--- a part is told by its ends
+-- a part is known by its ends
 part_is : (xs : List ℕ) (k size n m : ℕ) → n ≡ m → m + size ≤ length xs → (0 < m → get_or xs (m - 1) 0 < k) → (m + size < length xs → k ≤ get_or xs (m + size) 0) → (n + size ≤ length xs) × EndBetween xs k n (n + size)
 part_is xs k size n m same within before after = subst (λ i. (i + size ≤ length xs) × EndBetween xs k i (i + size)) (sym same) (within, record { before = before; after = after })
 
@@ -200,7 +200,7 @@ quarter_ends xs k i size a b d r some fits ends ea eb ed =
           ]
     ]
 
--- where they end at one member, that one decides
+-- if they end at one member, that one decides
 pub below_one : (xs : List ℕ) (k at n : ℕ) → at + 1 ≤ length xs → EndBetween xs k at (at + 1) → n ≡ at + one_below (get_or xs at 0) k → AreBelow xs k n
 below_one xs k at n within ends is =
     elim (cases_lt (get_or xs at 0) k) [
@@ -220,7 +220,7 @@ ends_soon xs k n r less more = record {
   after = λ lt. let up : get_or xs (n + 3) 0 ≤ get_or xs (n + 4) 0 = climbs 0 (2 ^ 56) xs (n + 3) (n + 4) r (omega arith) lt in omega (arith, more, up);
 }
 
--- the last member stands at the last place
+-- the last member is at the last place
 pub last_is : (xs : List ℕ) → 0 < length xs → get_or xs (length xs - 1) 0 ≡ last_of xs
 last_is [] some = absurd (omega (arith, some))
 last_is (x ∷ []) some = refl

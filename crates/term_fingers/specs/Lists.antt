@@ -27,23 +27,23 @@ abbrev pub places_of : List ℕ → List SlotContent → List (Option ℕ)
 places_of term slots = map (λ (slot : SlotContent). place_of slot.shard.table term) slots
 
 -- whether a slot has no dead range
-abbrev pub is_whole : SlotContent → Bool
-is_whole slot = length slot.mask == 0
+abbrev pub is_undeleted : SlotContent → Bool
+is_undeleted slot = length slot.mask == 0
 
 -- for each slot whether it has no dead range
-abbrev pub whole_of : List SlotContent → List Bool
-whole_of slots = map is_whole slots
+abbrev pub undeleted_of : List SlotContent → List Bool
+undeleted_of slots = map is_undeleted slots
 
 -- the slot with a number has no dead range, if there is one
 abbrev pub HasNoDead : List SlotContent → ℕ → Type 0
 HasNoDead slots number = (slot : SlotContent) → slice_get slots number ≡ Some slot → slot.mask ≡ []
 
 -- a place in the index of the slot with a number is where a term was found there, and the slot has no dead range
-pub record IsOfWhole (slots : List SlotContent) (found : List (Option ℕ)) (number place : ℕ) : Type 0 where
+pub record IsOfUndeleted (slots : List SlotContent) (found : List (Option ℕ)) (number place : ℕ) : Type 0 where
   pub here : slice_get found number ≡ Some (Some place)
-  pub whole : HasNoDead slots number
+  pub undeleted : HasNoDead slots number
 
--- a part of a list tells what is nearest to k on either side: of 2, 5, 9 and 12 the part 5, 9 tells it at 6
+-- a part of a list determines what is nearest to k on either side: of 2, 5, 9 and 12 the part 5, 9 does so at 6
 pub record TellsNearest (list part : List ℕ) (k : ℕ) : Type 0 where
   pub rising : ArePostings part
   pub least : least_from list k ≡ least_from part k
@@ -57,7 +57,7 @@ one_below member k = if nat_lt member k then 1 else 0
 abbrev pub size_below : ℕ → ℕ → ℕ → ℕ
 size_below last k size = if nat_lt last k then size else 0
 
--- the members below k end at place i or after, and before place j or there: of 2, 5 and 9 those below 6 end between 0 and 2
+-- the members below k end at or after place i, and at or before place j: of 2, 5 and 9 those below 6 end between 0 and 2
 pub record EndBetween (members : List ℕ) (k i j : ℕ) : Type 0 where
   pub before : 0 < i → slice_index members (i - 1) < k
   pub after : j < length members → k ≤ slice_index members j
@@ -74,12 +74,12 @@ pub record IsAt (members : List ℕ) (p : ℕ) : Type 0 where
   pub within : place < length members
   pub is : slice_index members place ≡ p
 
--- each member of the first list, from k on, with a member of the second right after it stands at place i or later, and that one at j or later:
--- of 2, 5 and 9 beside 4 and 10 from 2 on it is so of the places 2 and 1
+-- each member of the first list, at or after k, with a member of the second right after it is at or after place i, and that one at or after j:
+-- for 2, 5 and 9 and next to them 4 and 10, at or after 2, the places 2 and 1 are such
 abbrev pub ArePassed : (first second : List ℕ) (k i j : ℕ) → Type 0
 ArePassed first second k i j = (x y : ℕ) → x < length first → y < length second → k ≤ slice_index first x → slice_index first x + 1 ≡ slice_index second y → (i ≤ x) × (j ≤ y)
 
--- a member of the first list lies at k or before, and one of the second at r or after
+-- a member of the first list lies at or before k, and one of the second at or after r
 pub record LieAround (first second : List ℕ) (k r : ℕ) : Type 0 where
   pub low : ℕ
   pub begins : IsAt first low
@@ -88,12 +88,12 @@ pub record LieAround (first second : List ℕ) (k r : ℕ) : Type 0 where
   pub ends : IsAt second high
   pub upto : r ≤ high
 
--- from k on before r no member of the first list has one of the second right after it, and if that says anything, their members lie around
+-- at or after k and before r no member of the first list has one of the second right after it, and if k < r, their members lie around
 pub record LackPairs (first second : List ℕ) (k r : ℕ) : Type 0 where
   pub none : (p : ℕ) → k ≤ p → p < r → IsAt first p → IsAt second (p + 1) → ⊥
   pub around : k < r → LieAround first second k r
 
--- k lies between members of the list, and p is the one that is nearest to it on one side: of 2, 5 and 9 it is 5 forward from 3 on
+-- k lies between members of the list, and p is the one that is nearest to it on one side: of 2, 5 and 9 it is 5 forward from 3
 pub record IsAtHand (direction : Direction) (list : List ℕ) (k p : ℕ) : Type 0 where
   pub is : Some p ≡ nearest direction list k
   pub around : LieAround list list k k

@@ -5,18 +5,18 @@ ghost use Rattle.posting_access.specs.Search.{least_from, greatest_to};
 ghost use Rattle.live_version.specs.Contents.{IsVersion};
 ghost use Rattle.term_fingers.specs.Lists.{IsAt, IsAtHand, LackPairs, TellsNearest, list_of};
 
+use crate::gallop::border_near;
 use crate::members::{greatest_in, least_in, nearest_in, reach_around};
 use crate::naming::Naming;
-use crate::near::border_near;
 use crate::pairs::earliest_pair_in;
-use crate::whole::SlotList;
-use gcl_model::{Direction, Ledger, Pair, Steps};
+use crate::undeleted::SlotList;
+use gcl_model::{Direction, Pair};
 use posting_access::BlocksUpTo;
 use posting_code::{BLOCK, Postings};
 use std::marker::PhantomData;
 
-/// Where a term was last looked for: one block of one list, its members where they were read, and a place among them.
-// The list is told by the number of its slot and by its place there.
+/// Where a term was last looked for: one block of one list, its members if they were read, and a place among them.
+// The list is known from the number of its slot and from its place there.
 #[derive(Drop)]
 pub(crate) struct Finger<J: Naming> {
     slot: usize,
@@ -56,12 +56,13 @@ impl<J: Naming> Finger<J> {
         self.place
     }
 
-    /// An address from `k` on before which no member of this finger's list has one of the other finger's right after it, and whether one
-    /// there does, as far as the blocks tell that both hold. Both go on to there.
+    /// An address at or after `k` before which no member of this finger's list has one of the other finger's right after it, and whether
+    /// the member there does, as far as the blocks that both hold show it. Both fingers move on to there.
     pub(crate) fn earliest_pair(&mut self, other: &mut Finger<J>, k: u64) -> Pair
         requires { IsVersion J.version }
         ensures from { k ≤ result.at }
-        ensures none { LackPairs (list_of J.version.slots self.old.slot self.old.place) (list_of J.version.slots other.old.slot other.old.place) k result.at }
+        ensures none { LackPairs (list_of J.version.slots self.old.slot self.old.place)
+            (list_of J.version.slots other.old.slot other.old.place) k result.at }
         ensures found { IsTrue result.found → IsAt (list_of J.version.slots self.old.slot self.old.place) result.at ×
             IsAt (list_of J.version.slots other.old.slot other.old.place) (result.at + 1) }
     {
@@ -83,15 +84,10 @@ impl<J: Naming> Finger<J> {
         pair
     }
 
-    /// The address that is nearest to `k` on one side, in this finger's list, where `k` lies between the ends of the members that were read
+    /// The address that is nearest to `k` on one side, in this finger's list, if `k` lies between the ends of the members that were read
     /// last.
     #[inline(always)]
-    pub(crate) fn at_hand<P: Ledger>(
-        &mut self,
-        k: u64,
-        direction: Direction,
-        probes: &mut Steps<P>,
-    ) -> Option<u64>
+    pub(crate) fn at_hand(&mut self, k: u64, direction: Direction) -> Option<u64>
         requires { IsVersion J.version }
         ensures answer { IfSome result (IsAtHand direction (list_of J.version.slots self.old.slot self.old.place) k) }
         ensures slot { self.new.slot ≡ self.old.slot }
@@ -101,19 +97,18 @@ impl<J: Naming> Finger<J> {
         if !reach_around(members, k) {
             return None;
         }
-        let (found, at) = nearest_in(members, self.at, k, direction, probes);
+        let (found, at) = nearest_in(members, self.at, k, direction);
         self.at = at;
         found
     }
 
-    /// The address that is nearest to `k` on one side, in this list, where `k` lies between its ends.
+    /// The address that is nearest to `k` on one side, in this list, if `k` lies between its ends.
     #[inline(never)]
-    pub(crate) fn nearest_within<P: Ledger>(
+    pub(crate) fn nearest_within(
         &mut self,
         list: &SlotList<'_, J>,
         k: u64,
         direction: Direction,
-        probes: &mut Steps<P>,
     ) -> Option<u64>
         ensures { IfSome result (IsAtHand direction (list_of J.version.slots list.now.slot list.now.place) k) }
     {
@@ -121,77 +116,62 @@ impl<J: Naming> Finger<J> {
         if postings.len() == 0 || k < postings.first() || postings.last() < k {
             return None;
         }
-        self.nearest(postings, list.slot, list.place, k, direction, probes)
+        self.nearest(postings, list.slot, list.place, k, direction)
     }
 
     /// The address that is nearest to `k` on one side, in the list at a place of the slot with this number.
-    pub(crate) fn nearest<P: Ledger>(
+    pub(crate) fn nearest(
         &mut self,
         list: &Postings<'_>,
         slot: usize,
         place: usize,
         k: u64,
         direction: Direction,
-        probes: &mut Steps<P>,
     ) -> Option<u64>
         requires { list.now ≡ list_of J.version.slots slot place }
         ensures { result ≡ nearest direction list.now k }
     {
         match direction {
-            Direction::Forward => self.least(list, slot, place, k, probes),
-            Direction::Backward => self.greatest(list, slot, place, k, probes),
+            Direction::Forward => self.least(list, slot, place, k),
+            Direction::Backward => self.greatest(list, slot, place, k),
         }
     }
 
     /// The least address at or after `k`.
     #[inline]
-    fn least<P: Ledger>(
-        &mut self,
-        list: &Postings<'_>,
-        slot: usize,
-        place: usize,
-        k: u64,
-        probes: &mut Steps<P>,
-    ) -> Option<u64>
+    fn least(&mut self, list: &Postings<'_>, slot: usize, place: usize, k: u64) -> Option<u64>
         requires { list.now ≡ list_of J.version.slots slot place }
         ensures { result ≡ least_from list.now k }
     {
         if self.spans(list, slot, place, k) {
-            let (found, at) = least_in(&self.members[..self.count], self.at, k, probes);
+            let (found, at) = least_in(&self.members[..self.count], self.at, k);
             self.at = at;
             return found;
         }
-        self.least_far(list, slot, place, k, probes)
+        self.least_far(list, slot, place, k)
     }
 
     /// The same by the blocks' first addresses.
     #[inline(never)]
-    fn least_far<P: Ledger>(
-        &mut self,
-        list: &Postings<'_>,
-        slot: usize,
-        place: usize,
-        k: u64,
-        probes: &mut Steps<P>,
-    ) -> Option<u64>
+    fn least_far(&mut self, list: &Postings<'_>, slot: usize, place: usize, k: u64) -> Option<u64>
         requires { list.now ≡ list_of J.version.slots slot place }
         ensures { result ≡ least_from list.now k }
     {
         if let Some(address) = self.first_behind(list, slot, place, k) {
             return Some(address);
         }
-        let near = blocks_up_to(list, self.block, k, probes);
+        let near = blocks_up_to(list, self.block, k);
         if list.len() == 0 {
             return None;
         }
-        match self.least_in_block(list, slot, place, near.saturating_sub(1), k, probes) {
+        match self.least_in_block(list, slot, place, near.saturating_sub(1), k) {
             Some(address) => Some(address),
             None => self.first_of(list, slot, place, near),
         }
     }
 
-    /// The first address of the block after the one that was read last, where `k` lies between the two: it is the answer then. Most look-ups that
-    /// leave a block go on there.
+    /// The first address of the block after the one that was read last, if `k` lies between the two: it is the answer then. Most look-ups
+    /// that leave a block move on to there.
     #[inline]
     fn first_behind(
         &mut self,
@@ -220,7 +200,8 @@ impl<J: Naming> Finger<J> {
         ensures place { IsTrue result → place ≡ self.now.place }
         ensures count { IsTrue result → 0 < self.now.count }
         ensures some { IsTrue result → 0 < length (take self.now.count self.now.members) }
-        ensures last { IsTrue result → slice_index (take self.now.count self.now.members) (length (take self.now.count self.now.members) - 1) < k }
+        ensures last { IsTrue result →
+            slice_index (take self.now.count self.now.members) (length (take self.now.count self.now.members) - 1) < k }
     {
         let members = &self.members[..self.count];
         match members.last() {
@@ -229,22 +210,21 @@ impl<J: Naming> Finger<J> {
         }
     }
 
-    /// The least address of a block from `k` on.
-    fn least_in_block<P: Ledger>(
+    /// The least address of a block at or after `k`.
+    fn least_in_block(
         &mut self,
         list: &Postings<'_>,
         slot: usize,
         place: usize,
         block: usize,
         k: u64,
-        probes: &mut Steps<P>,
     ) -> Option<u64>
         requires list { list.now ≡ list_of J.version.slots slot place }
         requires block { block < blocks_of list.now }
         ensures { result ≡ least_from (block_of list.now block) k }
     {
         self.read(list, slot, place, block);
-        let (found, at) = least_in(&self.members[..self.count], self.at, k, probes);
+        let (found, at) = least_in(&self.members[..self.count], self.at, k);
         self.at = at;
         found
     }
@@ -271,54 +251,46 @@ impl<J: Naming> Finger<J> {
 
     /// The greatest address at or before `k`.
     #[inline]
-    fn greatest<P: Ledger>(
-        &mut self,
-        list: &Postings<'_>,
-        slot: usize,
-        place: usize,
-        k: u64,
-        probes: &mut Steps<P>,
-    ) -> Option<u64>
+    fn greatest(&mut self, list: &Postings<'_>, slot: usize, place: usize, k: u64) -> Option<u64>
         requires { list.now ≡ list_of J.version.slots slot place }
         ensures { result ≡ greatest_to list.now k }
     {
         if self.spans(list, slot, place, k) {
-            let (found, behind) = greatest_in(&self.members[..self.count], self.at, k, probes);
+            let (found, behind) = greatest_in(&self.members[..self.count], self.at, k);
             self.at = behind;
             return found;
         }
-        self.greatest_far(list, slot, place, k, probes)
+        self.greatest_far(list, slot, place, k)
     }
 
     /// The same by the blocks' first addresses.
     #[inline(never)]
-    fn greatest_far<P: Ledger>(
+    fn greatest_far(
         &mut self,
         list: &Postings<'_>,
         slot: usize,
         place: usize,
         k: u64,
-        probes: &mut Steps<P>,
     ) -> Option<u64>
         requires { list.now ≡ list_of J.version.slots slot place }
         ensures { result ≡ greatest_to list.now k }
     {
-        let near = blocks_up_to(list, self.block, k, probes);
+        let near = blocks_up_to(list, self.block, k);
         let last = near.checked_sub(1)?;
         self.read(list, slot, place, last);
-        let (found, behind) = greatest_in(&self.members[..self.count], self.at, k, probes);
+        let (found, behind) = greatest_in(&self.members[..self.count], self.at, k);
         self.at = behind;
         found
     }
 
-    /// Whether `k` lies between the ends of the members that were read last, and they are of this list: then they tell the answer, and
+    /// Whether `k` lies between the ends of the members that were read last, and they are of this list: then they have the answer, and
     /// no block is looked for.
     #[inline]
     fn spans(&self, list: &Postings<'_>, slot: usize, place: usize, k: u64) -> bool
         requires { list.now ≡ list_of J.version.slots slot place }
         ensures { IsTrue result → TellsNearest list.now (take self.now.count self.now.members) k }
     {
-        // any call of the list tells that it rises
+        // any call of the list ensures that it rises
         let _count = list.len();
         if self.slot != slot || self.place != place {
             return false;
@@ -333,7 +305,7 @@ impl<J: Naming> Finger<J> {
         ensures members { take self.new.count self.new.members ≡ block_of list.now block }
         ensures rising { ArePostings (block_of list.now block) }
     {
-        // any call of the list tells that it rises
+        // any call of the list ensures that it rises
         let _count = list.len();
         if self.count > 0 && self.slot == slot && self.place == place && self.block == block {
             return;
@@ -346,12 +318,12 @@ impl<J: Naming> Finger<J> {
     }
 }
 
-/// How many blocks begin at or before `k`: they are the first ones. They are looked for from the block `hint` on.
-fn blocks_up_to<P: Ledger>(list: &Postings<'_>, hint: usize, k: u64, probes: &mut Steps<P>) -> usize
+/// How many blocks begin at or before `k`: they are the first ones. The search starts at the block `hint`.
+fn blocks_up_to(list: &Postings<'_>, hint: usize, k: u64) -> usize
     ensures within { result ≤ blocks_of list.now }
     ensures before { 0 < result → slice_index list.now (64 * (result - 1)) ≤ k }
     ensures after { result < blocks_of list.now → k < slice_index list.now (64 * result) }
     ensures rising { ArePostings list.now }
 {
-    border_near(&BlocksUpTo { list, k }, list.block_count(), hint, probes)
+    border_near(&BlocksUpTo { list, k }, list.block_count(), hint)
 }

@@ -6,26 +6,25 @@ ghost use Rattle.index_shard.specs.Searched.{nearest};
 ghost use Rattle.live_version.specs.Contents.{live_of, version_text};
 
 use crate::elements::{element_from, element_up_to};
-use crate::look_up::{ByFinger, at_hand_unprobed};
+use crate::look_up::ByFinger;
 use crate::naming::Naming;
 use crate::term::Term;
-use crate::whole::WholeSlots;
+use crate::undeleted::UndeletedSlots;
 use crate::words::add_words;
 use arrayvec::ArrayVec;
 use gcl_model::{Direction, Expr, Interval, Leaves, Ledger, Pair, Span, Steps};
 use live_version::Version;
-use std::marker::{Brand, Model};
-use std::sync::ledger::Blank;
+use std::marker::Model;
 
 /// How many terms have fingers. Each is about a kilobyte.
 const MOST_TERMS: usize = 16;
 
-/// A version, with some terms that were found in it once. It is for one query: of two that run at a time, each has fingers of its own.
+/// A version, with some terms that were found in it once. It is for one query: two that run at the same time have fingers of their own.
 #[derive(Drop)]
 pub struct Fingers<'a, J: Naming> {
     version: &'a Version,
-    whole: WholeSlots<'a, J>,
-    // a place that is not used yet is None, and no other one
+    undeleted: UndeletedSlots<'a, J>,
+    // None in the places that are not used yet, and only there
     terms: ArrayVec<Option<Term<'a, J>>, MOST_TERMS>,
 }
 
@@ -72,7 +71,7 @@ impl<'a, J: Naming> Leaves for Fingers<'a, J> {
             at: k,
             found: false,
         };
-        // any call of the version tells that it is one
+        // any call of the version ensures `IsVersion`
         let _next = self.version.next();
         let Some(term) = self.find(first) else {
             return unknown;
@@ -80,7 +79,7 @@ impl<'a, J: Naming> Leaves for Fingers<'a, J> {
         let Some(behind) = self.find(second) else {
             return unknown;
         };
-        term.earliest_pair(behind, &self.whole, k)
+        term.earliest_pair(behind, &self.undeleted, k)
     }
 
     fn element_from<L: Ledger>(
@@ -96,11 +95,11 @@ impl<'a, J: Naming> Leaves for Fingers<'a, J> {
         ensures none { IsNone result → steps.new ≡ steps.old }
         ensures some { IsSome result → steps.new ≡ steps.old + 3 }
     {
-        // any call of the version tells that it is one
+        // any call of the version ensures `IsVersion`
         let _next = self.version.next();
         let term = self.find(first)?;
         let behind = self.find(second)?;
-        let element = element_from::<J, Brand>(term, behind, &self.whole, k, Blank::new(1))?;
+        let element = element_from(term, behind, &self.undeleted, k)?;
         steps.tick();
         steps.tick();
         steps.tick();
@@ -120,11 +119,11 @@ impl<'a, J: Naming> Leaves for Fingers<'a, J> {
         ensures none { IsNone result → steps.new ≡ steps.old }
         ensures some { IsSome result → steps.new ≡ steps.old + 3 }
     {
-        // any call of the version tells that it is one
+        // any call of the version ensures `IsVersion`
         let _next = self.version.next();
         let term = self.find(first)?;
         let behind = self.find(second)?;
-        let element = element_up_to::<J, Brand>(term, behind, &self.whole, k, Blank::new(1))?;
+        let element = element_up_to(term, behind, &self.undeleted, k)?;
         steps.tick();
         steps.tick();
         steps.tick();
@@ -144,7 +143,7 @@ impl<'a, J: Naming> Fingers<'a, J> {
     {
         Fingers {
             version,
-            whole: WholeSlots::new(version),
+            undeleted: UndeletedSlots::new(version),
             terms: ArrayVec::new(),
         }
     }
@@ -169,18 +168,18 @@ impl<'a, J: Naming> Fingers<'a, J> {
         self.terms.push(Some(Term::new(self.version, term)));
     }
 
-    /// The place of a term that is nearest to `k` on one side, where its finger tells it without a look at the slots.
+    /// The place of a term that is nearest to `k` on one side, if its finger finds it without a look at the slots.
     #[inline(always)]
     fn at_hand(&self, term: &Term<'a, J>, k: u64, direction: Direction) -> Option<u64>
         ensures answer { IfSome result (λ p. Some p ≡ nearest direction (places (live_of self.now.slots) term.now.bytes.now) k) }
         ensures sound { IsText (version_text self.now) }
     {
-        // any call of the version tells that it is one
+        // any call of the version ensures `IsVersion`
         let _next = self.version.next();
-        at_hand_unprobed::<J, Brand>(term, &self.whole, k, direction, Blank::new(1))
+        term.at_hand(&self.undeleted, k, direction)
     }
 
-    /// The same, as one look-up, and none where its finger does not tell it.
+    /// The same, counted as one look-up, or as none if its finger does not find it.
     #[inline(always)]
     fn counted_at_hand<L: Ledger>(
         &self,

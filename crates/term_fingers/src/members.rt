@@ -4,8 +4,8 @@ ghost use Rattle.posting_access.specs.Search.{least_from, greatest_to};
 ghost use Rattle.index_shard.specs.Searched.{nearest};
 ghost use Rattle.term_fingers.specs.Lists.{AreBelow, EndBetween, one_below, size_below};
 
-use crate::near::border_near;
-use gcl_model::{Direction, Ledger, Steps};
+use crate::gallop::border_near;
+use gcl_model::Direction;
 use posting_access::Test;
 use posting_code::BLOCK;
 
@@ -31,7 +31,8 @@ impl<'a> Test for Below<'a> {
 /// Whether `k` lies between the first member and the last one.
 #[inline(always)]
 pub(crate) fn reach_around(members: &[u64], k: u64) -> bool
-    ensures { IsTrue result → (0 < length members.now) × (slice_index members.now 0 ≤ k) × (k ≤ slice_index members.now (length members.now - 1)) }
+    ensures { IsTrue result → (0 < length members.now) × (slice_index members.now 0 ≤ k) ×
+        (k ≤ slice_index members.now (length members.now - 1)) }
 {
     let count = members.len();
     if count == 0 || k < members[0] || members[count - 1] < k {
@@ -40,32 +41,33 @@ pub(crate) fn reach_around(members: &[u64], k: u64) -> bool
     true
 }
 
-/// How many members are below `k`, looked for from the place `hint` on: they are the first ones. Any hint is right.
+/// How many members are below `k`: they are the first ones. The search starts at the place `hint`, and any hint is right.
 #[inline(always)]
-fn count_below<P: Ledger>(members: &[u64], hint: usize, k: u64, probes: &mut Steps<P>) -> usize
+fn count_below(members: &[u64], hint: usize, k: u64) -> usize
     requires { ArePostings members.now }
     ensures { AreBelow members.now k result }
 {
     if let Some(at) = soon(members, hint, k) {
         return at;
     }
-    count_far_below(members, hint, k, probes)
+    count_far_below(members, hint, k)
 }
 
-/// The same where they may end anywhere.
-// Where is chance, so a whole block is searched without a branch.
+/// The same if they may end anywhere.
+// Where they end cannot be predicted, so a whole block is searched without a branch. Fewer members are searched from the hint: halving all
+// of them, as `partition_point` does, takes more tests.
 #[inline(never)]
-fn count_far_below<P: Ledger>(members: &[u64], hint: usize, k: u64, probes: &mut Steps<P>) -> usize
+fn count_far_below(members: &[u64], hint: usize, k: u64) -> usize
     requires { ArePostings members.now }
     ensures { AreBelow members.now k result }
 {
     if members.len() == BLOCK {
         return below_in_block(members, k);
     }
-    border_near(&Below { members, k }, members.len(), hint, probes)
+    border_near(&Below { members, k }, members.len(), hint)
 }
 
-/// The same where the last of them is right before the place `hint`, or one of the three from there on. Most look-ups go on so far.
+/// The same if the last of them is right before the place `hint`, or at it or one of the two places after it. Most look-ups go on that far.
 #[inline(always)]
 fn soon(members: &[u64], hint: usize, k: u64) -> Option<usize>
     requires { ArePostings members.now }
@@ -91,7 +93,7 @@ fn below_in_block(members: &[u64], k: u64) -> usize
     below_in_four(members, at, k)
 }
 
-/// The same where the last of them is right before this place, or one of the four from there on.
+/// The same if the last of them is right before the place `from`, or one of the four that start there.
 #[inline(always)]
 fn below_in_four(members: &[u64], from: usize, k: u64) -> usize
     requires rising { ArePostings members.now }
@@ -103,7 +105,7 @@ fn below_in_four(members: &[u64], from: usize, k: u64) -> usize
     at + one_below(members[at], k)
 }
 
-/// Of four parts of so many members the one in which those below `k` end, by the place where it begins.
+/// Of four parts with `size` members each, the one in which those below `k` end, by the place where it begins.
 #[inline(always)]
 fn quarter(members: &[u64], from: usize, size: usize, k: u64) -> usize
     requires rising { ArePostings members.now }
@@ -134,56 +136,45 @@ pub(crate) fn one_below(member: u64, k: u64) -> usize
     if member < k { 1 } else { 0 }
 }
 
-/// The least member from `k` on, and its place, looked for from the place `hint` on.
+/// The least member at or after `k`, and its place. The search starts at the place `hint`.
 #[inline(always)]
-pub(crate) fn least_in<P: Ledger>(
-    members: &[u64],
-    hint: usize,
-    k: u64,
-    probes: &mut Steps<P>,
-) -> (Option<u64>, usize)
+pub(crate) fn least_in(members: &[u64], hint: usize, k: u64) -> (Option<u64>, usize)
     requires { ArePostings members.now }
     ensures { result.0 ≡ least_from members.now k }
 {
-    let at = count_below(members, hint, k, probes);
+    let at = count_below(members, hint, k);
     if at == members.len() {
         return (None, at);
     }
     (Some(members[at]), at)
 }
 
-/// The greatest member up to `k`, and the place after it, looked for from the place `hint` on.
+/// The greatest member at or before `k`, and the place after it. The search starts at the place `hint`.
 #[inline(always)]
-pub(crate) fn greatest_in<P: Ledger>(
-    members: &[u64],
-    hint: usize,
-    k: u64,
-    probes: &mut Steps<P>,
-) -> (Option<u64>, usize)
+pub(crate) fn greatest_in(members: &[u64], hint: usize, k: u64) -> (Option<u64>, usize)
     requires { ArePostings members.now }
     ensures { result.0 ≡ greatest_to members.now k }
 {
-    let behind = count_below(members, hint, k.saturating_add(1), probes);
+    let behind = count_below(members, hint, k.saturating_add(1));
     let Some(at) = behind.checked_sub(1) else {
         return (None, behind);
     };
     (Some(members[at]), behind)
 }
 
-/// The member that is nearest to `k` on one side, and a place beside it, looked for from the place `hint` on.
+/// The member that is nearest to `k` on one side, and its place or the next one. The search starts at the place `hint`.
 #[inline(always)]
-pub(crate) fn nearest_in<P: Ledger>(
+pub(crate) fn nearest_in(
     members: &[u64],
     hint: usize,
     k: u64,
     direction: Direction,
-    probes: &mut Steps<P>,
 ) -> (Option<u64>, usize)
     requires { ArePostings members.now }
     ensures { result.0 ≡ nearest direction members.now k }
 {
     match direction {
-        Direction::Forward => least_in(members, hint, k, probes),
-        Direction::Backward => greatest_in(members, hint, k, probes),
+        Direction::Forward => least_in(members, hint, k),
+        Direction::Backward => greatest_in(members, hint, k),
     }
 }

@@ -1,6 +1,6 @@
 use std::marker::Brand;
 
-/// Which version it is that terms are found in. A finger keeps members of a list, and its type says of which: so the caller names
+/// The version that terms are found in. A finger keeps members of a list, and its type says of which: so the caller names
 /// the version, and at run time nothing is left of the name.
 pub trait Naming {
     ghost use Rattle.live_version.specs.Contents.{VersionContent};

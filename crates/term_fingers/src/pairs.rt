@@ -5,9 +5,9 @@ ghost use Rattle.term_fingers.specs.Lists.{ArePassed, IsAt};
 use crate::members::one_below;
 use gcl_model::Pair;
 
-/// An address from `k` on before which no member of the first list has one of the second right after it, whether one there does, and the
-/// place in each list up to which it was gone through. The places from which on they are gone through are only hints.
-// It stands apart, so that the walk has the registers for itself.
+/// An address at or after `k` before which no member of the first list has one of the second right after it, whether the member there does,
+/// and the place in each list that the walk reached. The places where the walk starts are only hints.
+// It is a function of its own, so that the walk has the registers for itself.
 #[inline(never)]
 pub(crate) fn earliest_pair_in(
     first: &[u64],
@@ -43,12 +43,12 @@ pub(crate) fn earliest_pair_in(
     (upto, at, behind)
 }
 
-/// A place before which all members are below `k`: the first one that is not, where the hint is right.
+/// A place before which all members are below `k`: that of the first member that is not, if the hint is right.
 fn place_from(members: &[u64], hint: usize, k: u64) -> usize
     ensures within { result ≤ length members.now }
     ensures before { 0 < result → slice_index members.now (result - 1) < k }
 {
-    // a hint after a member that is not below `k` is of no use
+    // a hint right after a member that is not below `k` is of no use
     let mut at = if 0 < hint && hint <= members.len() && members[hint - 1] < k {
         hint
     } else {
@@ -60,8 +60,8 @@ fn place_from(members: &[u64], hint: usize, k: u64) -> usize
     at
 }
 
-/// Goes through both lists side by side from these places on, two members of the one or the other at a time, as long as of two and two none
-/// stands right after the other.
+/// Walks through both lists together, starting at these places, by two members of the one or the other at a time, while none of the next
+/// two of the second list comes right after one of the next two of the first.
 // Each turn waits for the last one's, so fewer turns take less time, though each of them compares more.
 fn by_twos(first: &[u64], second: &[u64], from: usize, from_behind: usize, k: u64) -> (usize, usize)
     requires first { ArePostings first.now }
@@ -84,7 +84,7 @@ fn by_twos(first: &[u64], second: &[u64], from: usize, from_behind: usize, k: u6
     (at, behind)
 }
 
-/// Whether of two members of the second list, from its place on, none stands right after one of two of the first.
+/// Whether none of two members of the second list, starting at its place, comes right after one of two of the first.
 #[inline(always)]
 fn apart(first: &[u64], second: &[u64], at: usize, behind: usize) -> bool
     requires rising { ArePostings first.now }
@@ -105,8 +105,8 @@ fn apart(first: &[u64], second: &[u64], at: usize, behind: usize) -> bool
     true
 }
 
-/// Goes through both lists side by side from these places on, up to the first member of the one that has a member of the other right after
-/// it, or to the end of one.
+/// Walks through both lists together, starting at these places, up to the first member of the first list that has a member of the second
+/// right after it, or to the end of one list.
 fn side_by_side(
     first: &[u64],
     second: &[u64],
@@ -121,12 +121,13 @@ fn side_by_side(
     requires passed { ArePassed first.now second.now k from from_behind }
     ensures within { result.0 ≤ length first.now }
     ensures passed { ArePassed first.now second.now k result.0 result.1 }
-    ensures met { result.0 < length first.now → result.1 < length second.now → slice_index first.now result.0 + 1 ≡ slice_index second.now result.1 }
+    ensures met { result.0 < length first.now → result.1 < length second.now →
+        slice_index first.now result.0 + 1 ≡ slice_index second.now result.1 }
 {
     let mut at = from;
     let mut behind = from_behind;
     while at < first.len() && behind < second.len() && first[at] + 1 != second[behind] {
-        // which of the two goes on is chance, so it is counted without a branch
+        // which of the two moves on cannot be predicted, so it is counted without a branch
         let wanted = first[at] + 1;
         let met = second[behind];
         at += one_below(wanted, met);

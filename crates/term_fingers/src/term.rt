@@ -4,15 +4,15 @@ ghost use Rattle.gcl_model.specs.Texts.{any_pair, holds, places};
 ghost use Rattle.index_shard.specs.Searched.{nearest};
 ghost use Rattle.index_shard.specs.Tables.{place_of, postings_of};
 ghost use Rattle.live_version.specs.Contents.{IsVersion, live_of};
-ghost use Rattle.term_fingers.specs.Lists.{places_of, shard_at};
+ghost use Rattle.term_fingers.specs.Lists.{list_of, places_of, shard_at};
 
 use crate::finger::Finger;
 use crate::naming::Naming;
-use crate::whole::{SlotList, WholeSlots};
-use gcl_model::{Direction, Ledger, Pair, Steps};
+use crate::undeleted::{SlotList, UndeletedSlots};
+use gcl_model::{Direction, Pair};
 use index_shard::Shard;
 use live_version::{Slot, Version};
-use posting_access::{at_or_after, at_or_before};
+use posting_code::Postings;
 use std::cell::RefCell;
 
 /// A term, its place in the index of each slot, and a finger on the postings that it was last looked for in.
@@ -57,13 +57,12 @@ impl<'a, J: Naming> Term<'a, J> {
     }
 
     /// The posting that is nearest to `k` on one side, in the index of the slot with this number.
-    pub(crate) fn nearest<P: Ledger>(
+    pub(crate) fn nearest(
         &self,
         number: usize,
         shard: &Shard,
         k: u64,
         direction: Direction,
-        probes: &mut Steps<P>,
     ) -> Option<u64>
         requires { shard_at J.version.slots number ≡ Some shard.now }
         ensures { result ≡ nearest direction (postings_of shard.now.table self.now.bytes.now) k }
@@ -71,24 +70,20 @@ impl<'a, J: Naming> Term<'a, J> {
         let place = self.place(number, shard)?;
         let list = shard.postings(place);
         match self.finger.try_borrow_mut() {
-            Ok(mut finger) => finger.nearest(&list, number, place, k, direction, probes),
+            Ok(mut finger) => finger.nearest(&list, number, place, k, direction),
             // another look-up of the term is under way
-            Err(_) => match direction {
-                Direction::Forward => at_or_after(&list, k, probes),
-                Direction::Backward => at_or_before(&list, k, probes),
-            },
+            Err(_) => nearest_anew::<J>(&list, number, place, k, direction),
         }
     }
 
-    /// The place of the term in the version that is nearest to `k` on one side, where the list that its finger is on reaches around `k` and
-    /// nothing in that one's slot is dead.
+    /// The place of the term in the version that is nearest to `k` on one side, if the list that its finger is on reaches around `k` and
+    /// nothing in the slot of that list is dead.
     #[inline(always)]
-    pub(crate) fn at_hand<P: Ledger>(
+    pub(crate) fn at_hand(
         &self,
-        whole: &WholeSlots<'a, J>,
+        undeleted: &UndeletedSlots<'a, J>,
         k: u64,
         direction: Direction,
-        probes: &mut Steps<P>,
     ) -> Option<u64>
         requires { IsVersion J.version }
         ensures { IfSome result (λ p. Some p ≡ nearest direction (places (live_of J.version.slots) self.now.bytes.now) k) }
@@ -97,59 +92,57 @@ impl<'a, J: Naming> Term<'a, J> {
         let Ok(mut finger) = self.finger.try_borrow_mut() else {
             return None;
         };
-        if let Some(p) = self.at_hand_in_block(whole, &mut finger, k, direction, probes) {
+        if let Some(p) = self.at_hand_in_block(undeleted, &mut finger, k, direction) {
             return Some(p);
         }
-        self.at_hand_in_list(whole, &mut finger, k, direction, probes)
+        self.at_hand_in_list(undeleted, &mut finger, k, direction)
     }
 
-    /// The same where the block that its finger is on reaches around `k`.
+    /// The same if the block that its finger is on reaches around `k`.
     #[inline(always)]
-    fn at_hand_in_block<P: Ledger>(
+    fn at_hand_in_block(
         &self,
-        whole: &WholeSlots<'a, J>,
+        undeleted: &UndeletedSlots<'a, J>,
         finger: &mut Finger<J>,
         k: u64,
         direction: Direction,
-        probes: &mut Steps<P>,
     ) -> Option<u64>
         requires { IsVersion J.version }
         ensures { IfSome result (λ p. Some p ≡ nearest direction (places (live_of J.version.slots) self.now.bytes.now) k) }
     {
         let slot = finger.slot();
-        if !whole.has(slot) || !self.has_place(slot, finger.place()) {
+        if !undeleted.is_undeleted(slot) || !self.has_place(slot, finger.place()) {
             return None;
         }
-        finger.at_hand(k, direction, probes)
+        finger.at_hand(k, direction)
     }
 
     /// The same by another block.
     #[inline(never)]
-    fn at_hand_in_list<P: Ledger>(
+    fn at_hand_in_list(
         &self,
-        whole: &WholeSlots<'a, J>,
+        undeleted: &UndeletedSlots<'a, J>,
         finger: &mut Finger<J>,
         k: u64,
         direction: Direction,
-        probes: &mut Steps<P>,
     ) -> Option<u64>
         requires { IsVersion J.version }
         ensures { IfSome result (λ p. Some p ≡ nearest direction (places (live_of J.version.slots) self.now.bytes.now) k) }
     {
         let slot = finger.slot();
-        if !whole.has(slot) {
+        if !undeleted.is_undeleted(slot) {
             return None;
         }
-        let list = self.list(whole, slot)?;
-        finger.nearest_within(&list, k, direction, probes)
+        let list = self.list(undeleted, slot)?;
+        finger.nearest_within(&list, k, direction)
     }
 
-    /// An address from `k` on before which the other term nowhere stands right after this one, and whether it does there, as far as their
-    /// fingers tell.
+    /// An address at or after `k` before which the other term nowhere occurs right after this one, and whether it does there, as far as
+    /// their fingers show it.
     pub(crate) fn earliest_pair(
         &self,
         other: &Term<'a, J>,
-        whole: &WholeSlots<'a, J>,
+        undeleted: &UndeletedSlots<'a, J>,
         k: u64,
     ) -> Pair
         requires { IsVersion J.version }
@@ -165,19 +158,19 @@ impl<'a, J: Naming> Term<'a, J> {
         let Ok(mut finger) = self.finger.try_borrow_mut() else {
             return unknown;
         };
-        // of a term beside itself nothing is told: its finger is taken
+        // a term followed by itself gets no answer: its finger is borrowed already
         let Ok(mut behind) = other.finger.try_borrow_mut() else {
             return unknown;
         };
-        self.earliest_pair_by(other, whole, &mut finger, &mut behind, k)
+        self.earliest_pair_by(other, undeleted, &mut finger, &mut behind, k)
     }
 
-    /// The same by a finger of each term, in the blocks that both are on: they tell it where these are of the lists of both terms in one
-    /// slot. What is dead is in the lists, too, so a pair is believed only where nothing in the slot is.
+    /// The same by a finger of each term, in the blocks that both are on, if these are of the lists of both terms in one slot. What is
+    /// dead is in the lists, too, so a pair is believed only if nothing in the slot is.
     fn earliest_pair_by(
         &self,
         other: &Term<'a, J>,
-        whole: &WholeSlots<'a, J>,
+        undeleted: &UndeletedSlots<'a, J>,
         finger: &mut Finger<J>,
         behind: &mut Finger<J>,
         k: u64,
@@ -201,17 +194,17 @@ impl<'a, J: Naming> Term<'a, J> {
         let pair = finger.earliest_pair(behind, k);
         Pair {
             at: pair.at,
-            found: whole.believes(slot, pair.found),
+            found: undeleted.believes(slot, pair.found),
         }
     }
 
     /// The postings of the term in the slot with this number, if it was found there.
-    fn list<'b>(&self, whole: &'b WholeSlots<'a, J>, slot: usize) -> Option<SlotList<'b, J>>
+    fn list<'b>(&self, undeleted: &'b UndeletedSlots<'a, J>, slot: usize) -> Option<SlotList<'b, J>>
         ensures slot { IfSome result (λ list. list.slot ≡ slot) }
         ensures place { IfSome result (λ list. slice_get self.now.places slot ≡ Some (Some list.place)) }
     {
         let place = (*self.places.get(slot)?)?;
-        whole.list(slot, place)
+        undeleted.list(slot, place)
     }
 
     /// Whether the term was found at this place in the index of the slot with this number.
@@ -234,6 +227,22 @@ impl<'a, J: Naming> Term<'a, J> {
     {
         self.places[number]
     }
+}
+
+/// The address that is nearest to `k` on one side, in the list at a place of the slot with this number, by a finger of its own.
+#[inline(never)]
+fn nearest_anew<J: Naming>(
+    list: &Postings<'_>,
+    slot: usize,
+    place: usize,
+    k: u64,
+    direction: Direction,
+) -> Option<u64>
+    requires { list.now ≡ list_of J.version.slots slot place }
+    ensures { result ≡ nearest direction list.now k }
+{
+    let mut finger = Finger::<J>::new();
+    finger.nearest(list, slot, place, k, direction)
 }
 
 /// The place of a term in the index of each slot, by the slot's number.

@@ -4,7 +4,7 @@ use crate::fingers::Fingers;
 use crate::naming::Naming;
 use gcl_model::Expr;
 
-/// Finds the words of an expression, in the order in which they stand.
+/// Finds the words of an expression, in the order in which they occur in it.
 #[cycle(add)]
 pub(crate) fn add_words<'a, J: Naming>(fingers: &mut Fingers<'a, J>, expr: &'a Expr)
     ensures { fingers.new ≡ fingers.old }

@@ -7,7 +7,7 @@ pub returns-clause-answer : goal.returns-clause-answer
 returns-clause-answer g c =
     let term = c.args.term.now in
     let finger = c.args.finger.now in
-    version_tells g.J.Naming.version finger.slot finger.place term.bytes.now term.places c.args.direction c.args.k c.at_hand.result c.requires.version term.found c.requires.told.here c.requires.told.whole
+    version_tells g.J.Naming.version finger.slot finger.place term.bytes.now term.places c.args.direction c.args.k c.at_hand.result c.requires.version term.found c.requires.place.here c.requires.place.undeleted
     c.at_hand.ensures.answer
 
 pub returns-clause-side : goal.returns-clause-side

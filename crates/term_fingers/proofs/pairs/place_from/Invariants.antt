@@ -1,7 +1,7 @@
 use Rattle.std.proofs.Common.{◌-◌, ◌<◌, ◌≤◌, length, get_or}
 use Rattle.term_fingers.proofs.pairs.place_from.Given as goal
 
--- what stands before `at` is below k
+-- the members before `at` are below k
 abbrev pub invariant-loop-at : goal.invariant-loop-at
 invariant-loop-at l = record {
   within : l.at ≤ length l.members;

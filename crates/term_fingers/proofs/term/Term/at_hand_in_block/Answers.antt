@@ -8,7 +8,7 @@ returns g c =
     let v = g.J.Naming.version in
     let term = c.args.self.now in
     let finger = c.args.finger.now in
-    let whole : HasNoDead v.slots finger.slot = subst (HasNoDead v.slots) c.slot-slot.ensures (c.has.ensures c.if-not-has.false) in
+    let undeleted : HasNoDead v.slots finger.slot = subst (HasNoDead v.slots) c.slot-slot.ensures (c.is_undeleted.ensures c.if-not-is_undeleted.false) in
     let here : slice_get term.places finger.slot ≡ Some (Some finger.place) =
     ap (slice_get term.places) (sym c.slot-slot.ensures) ∙ c.has_place.ensures c.if-not-has_place.false ∙ ap (λ n. Some (Some n)) c.place.ensures in
-    version_tells v finger.slot finger.place term.bytes.now term.places c.args.direction c.args.k c.at_hand.result c.requires term.found here whole c.at_hand.ensures.answer
+    version_tells v finger.slot finger.place term.bytes.now term.places c.args.direction c.args.k c.at_hand.result c.requires term.found here undeleted c.at_hand.ensures.answer

@@ -11,5 +11,5 @@ returns g c =
     let slot = c.slot-slot.result in
     let list = c.in_ok-list.list in
     version_tells v slot list.place term.bytes.now term.places c.args.direction c.args.k c.nearest_within.result c.requires term.found
-    c.in_ok-list.ensures.place (c.has.ensures c.if-not-has.false)
+    c.in_ok-list.ensures.place (c.is_undeleted.ensures c.if-not-is_undeleted.false)
     (subst (λ n. IfSome c.nearest_within.result (IsAtHand c.args.direction (list_of v.slots n list.place) c.args.k)) c.in_ok-list.ensures.slot c.nearest_within.ensures)

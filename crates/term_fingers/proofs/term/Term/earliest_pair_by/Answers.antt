@@ -39,9 +39,9 @@ returns-clause-found g c = λ found.
     ap (slice_get term.places) (sym c.slot-slot.ensures) ∙ c.has_place.ensures c.if-not-has_place.false ∙ ap (λ n. Some (Some n)) c.place.ensures in
     let here_behind : slice_get other.places finger.slot ≡ Some (Some behind.place) =
     ap (slice_get other.places) (sym c.slot-slot.ensures) ∙ c.has_place-else-not-has_place.ensures c.if-not-has_place-2.false ∙ ap (λ n. Some (Some n)) c.place-else-not-has_place.ensures in
-    let whole : HasNoDead v.slots finger.slot = subst (HasNoDead v.slots) c.slot-slot.ensures (c.believes.ensures.whole found) in
+    let undeleted : HasNoDead v.slots finger.slot = subst (HasNoDead v.slots) c.slot-slot.ensures (c.believes.ensures.undeleted found) in
     let met = c.earliest_pair-pair.ensures.found (c.believes.ensures.found found) in (
-      version_holds v finger.slot finger.place term.bytes.now term.places at c.requires term.found here whole met.0,
-      version_holds v finger.slot behind.place other.bytes.now other.places (at + 1) c.requires other.found here_behind whole
+      version_holds v finger.slot finger.place term.bytes.now term.places at c.requires term.found here undeleted met.0,
+      version_holds v finger.slot behind.place other.bytes.now other.places (at + 1) c.requires other.found here_behind undeleted
           (subst (λ n. IsAt (list_of v.slots n behind.place) (at + 1)) same met.1),
     )

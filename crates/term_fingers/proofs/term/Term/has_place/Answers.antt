@@ -3,7 +3,7 @@ use Rattle.std.specs.List.{slice_get}
 use Rattle.std.proofs.lemmas.Bool.Decides.{nat_tests}
 use Rattle.term_fingers.proofs.term.Term.has_place.Goals as goal
 
--- what is found stands within the list, since the default is None
+-- what is found is within the list, since the default is None
 found_at : (xs : List (Option ℕ)) (i found : ℕ) → get_or xs i None ≡ Some found → slice_get xs i ≡ Some (Some found)
 found_at [] i found e = absurd (cc e)
 found_at (x ∷ xs) zero found e = ap Some e

@@ -1,7 +1,5 @@
 use Rattle.std.proofs.Common.{sym, ap, ◌∙◌}
-use Rattle.gcl_model.specs.declared.direction.Direction.TheVariants.{Forward, Backward}
 use Rattle.index_shard.specs.Searched.{nearest}
-use Rattle.index_shard.specs.Tables.{postings_of}
 use Rattle.index_shard.proofs.TableLaws.{at_no_place, at_its_place}
 use Rattle.term_fingers.proofs.Places.{list_known, nearest_in_none}
 use Rattle.term_fingers.proofs.term.Term.nearest.Goals as goal
@@ -21,12 +19,10 @@ returns-in-Ok g c =
 pub nearest-requires : goal.nearest-requires
 nearest-requires g c = c.postings-list.ensures.value ∙ list_known g.J.Naming.version.slots c.args.number c.in_ok-place.place c.args.shard.now c.requires
 
-pub returns-in-Forward : goal.returns-in-Forward
-returns-in-Forward g c =
-    let at = (at_its_place c.args.shard.now.table c.args.self.now.bytes.now c.in_ok-place.place (sym c.in_ok-place.ensures)).1 in
-    c.at_or_after.ensures.answer ∙ ap (λ ps. nearest Forward ps c.args.k) (c.postings-list.ensures.value ∙ at) ∙ ap (λ d. nearest d (postings_of c.args.shard.now.table c.args.self.now.bytes.now) c.args.k) (sym c.in-Forward.is)
+pub nearest_anew-requires : goal.nearest_anew-requires
+nearest_anew-requires g c = c.postings-list.ensures.value ∙ list_known g.J.Naming.version.slots c.args.number c.in_ok-place.place c.args.shard.now c.requires
 
-pub returns-in-Backward : goal.returns-in-Backward
-returns-in-Backward g c =
+pub returns-in-Err : goal.returns-in-Err
+returns-in-Err g c =
     let at = (at_its_place c.args.shard.now.table c.args.self.now.bytes.now c.in_ok-place.place (sym c.in_ok-place.ensures)).1 in
-    c.at_or_before.ensures.answer ∙ ap (λ ps. nearest Backward ps c.args.k) (c.postings-list.ensures.value ∙ at) ∙ ap (λ d. nearest d (postings_of c.args.shard.now.table c.args.self.now.bytes.now) c.args.k) (sym c.in-Backward.is)
+    c.nearest_anew.ensures ∙ ap (λ ps. nearest c.args.direction ps c.args.k) (c.postings-list.ensures.value ∙ at)

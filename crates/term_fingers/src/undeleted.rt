@@ -1,6 +1,6 @@
 ghost use Rattle.std.specs.Prelude.{◌≡◌, ◌≤◌, IfSome, IsTrue, length, take};
 ghost use Rattle.gcl_model.specs.Limits.{most_slots};
-ghost use Rattle.term_fingers.specs.Lists.{HasNoDead, is_whole, list_of, whole_of};
+ghost use Rattle.term_fingers.specs.Lists.{HasNoDead, is_undeleted, list_of, undeleted_of};
 
 use crate::naming::Naming;
 use live_version::{Slot, Version};
@@ -9,40 +9,40 @@ use std::marker::PhantomData;
 
 /// The slots of the version, and which of them have no dead range: what is nearest in one of these is nearest in the version.
 #[derive(Drop)]
-pub(crate) struct WholeSlots<'a, J: Naming> {
+pub(crate) struct UndeletedSlots<'a, J: Naming> {
     version: &'a Version,
-    whole: [bool; 32],
+    undeleted: [bool; 32],
     of: PhantomData<J>,
-    ghost known: { take (length J.version.slots) whole ≡ whole_of J.version.slots },
+    ghost known: { take (length J.version.slots) undeleted ≡ undeleted_of J.version.slots },
     ghost is: { version.now ≡ J.version },
 }
 
-impl<'a, J: Naming> WholeSlots<'a, J> {
+impl<'a, J: Naming> UndeletedSlots<'a, J> {
     /// Asks each slot once.
     pub(crate) fn new(version: &'a Version) -> Self
         requires { version.now ≡ J.version }
     {
         // the number of slots is known to be small
         let _slots = version.slot_count();
-        WholeSlots {
+        UndeletedSlots {
             version,
-            whole: whole_slots(version.slots()),
+            undeleted: undeleted_slots(version.slots()),
             of: PhantomData,
         }
     }
 
     /// Whether the slot with this number is known to have no dead range.
     #[inline]
-    pub(crate) fn has(&self, number: usize) -> bool
+    pub(crate) fn is_undeleted(&self, number: usize) -> bool
         ensures { IsTrue result → HasNoDead J.version.slots number }
     {
         if number >= 32 {
             return false;
         }
-        self.whole[number]
+        self.undeleted[number]
     }
 
-    /// The list at a place of the slot with this number, if there are both.
+    /// The list at a place of the slot with this number, if both exist.
     pub(crate) fn list(&self, slot: usize, place: usize) -> Option<SlotList<'_, J>>
         ensures slot { IfSome result (λ list. list.slot ≡ slot) }
         ensures place { IfSome result (λ list. list.place ≡ place) }
@@ -54,12 +54,12 @@ impl<'a, J: Naming> WholeSlots<'a, J> {
         Some(SlotList::new(slot, place, shard.postings(place)))
     }
 
-    /// Whether what was found in the lists of the slot with this number stands in the version for sure: where nothing of the slot is dead.
+    /// Whether something was found in the lists of the slot with this number, and is in the version because nothing of the slot is dead.
     pub(crate) fn believes(&self, number: usize, found: bool) -> bool
         ensures found { IsTrue result → IsTrue found }
-        ensures whole { IsTrue result → HasNoDead J.version.slots number }
+        ensures undeleted { IsTrue result → HasNoDead J.version.slots number }
     {
-        found && self.has(number)
+        found && self.is_undeleted(number)
     }
 }
 
@@ -89,20 +89,20 @@ impl<'b, J: Naming> SlotList<'b, J> {
 }
 
 /// Whether each slot has no dead range, by the slot's number.
-fn whole_slots(slots: &[Slot]) -> [bool; 32]
+fn undeleted_slots(slots: &[Slot]) -> [bool; 32]
     requires { length slots.now ≤ most_slots }
-    ensures { take (length slots.now) result ≡ whole_of slots.now }
+    ensures { take (length slots.now) result ≡ undeleted_of slots.now }
 {
-    let mut whole = [false; 32];
+    let mut undeleted = [false; 32];
     for (number, slot) in slots.iter().enumerate() {
-        whole[number] = is_whole(slot);
+        undeleted[number] = is_undeleted(slot);
     }
-    whole
+    undeleted
 }
 
 /// Whether a slot has no dead range.
-fn is_whole(slot: &Slot) -> bool
-    ensures { result ≡ is_whole slot.now }
+fn is_undeleted(slot: &Slot) -> bool
+    ensures { result ≡ is_undeleted slot.now }
 {
     slot.mask().range_count() == 0
 }

@@ -1,5 +1,5 @@
 use Rattle.std.proofs.Common.{◌≡◌, ◌-◌, ◌<◌, ◌≤◌, true}
-use Rattle.term_fingers.proofs.near.border_from.Given as goal
+use Rattle.term_fingers.proofs.gallop.border_from.Given as goal
 
 -- the border is not before `low`
 abbrev pub invariant-loop-step : goal.invariant-loop-step

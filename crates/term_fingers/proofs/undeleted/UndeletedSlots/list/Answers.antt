@@ -1,4 +1,4 @@
-use Rattle.term_fingers.proofs.whole.WholeSlots.list.Goals as goal
+use Rattle.term_fingers.proofs.undeleted.UndeletedSlots.list.Goals as goal
 
 pub returns-clause-slot : goal.returns-clause-slot
 returns-clause-slot g c = c.new.ensures.slot

@@ -1,5 +1,5 @@
 use Rattle.std.proofs.Common.{◌≡◌, ◌<◌, ◌≤◌, false}
-use Rattle.term_fingers.proofs.near.border_upto.Given as goal
+use Rattle.term_fingers.proofs.gallop.border_upto.Given as goal
 
 -- the border is not after `high`
 abbrev pub invariant-loop-step : goal.invariant-loop-step
