@@ -78,7 +78,7 @@ fn a_name_is_text_without_control_bytes_or_outer_spaces(rt: HostRuntime) -> Resu
     Ok(())
 }
 
-/// The record of a file with this id, and this many addresses from `base` on.
+/// The record of a file with this id, and this many addresses, starting at `base`.
 fn record(
     alloc: Global,
     id: u64,

@@ -22,7 +22,7 @@ fn both_of_takes_the_greater_end_and_the_lesser_start(rt: HostRuntime) {
     }
 }
 
-/// Of two answers, where there are any, this one is taken.
+/// Of two answers, if there are any, this one is taken.
 fn takes<R: Abort>(
     rt: &R,
     best: Option<Interval>,
@@ -52,7 +52,7 @@ fn a_tie_goes_to_the_shorter_answer(rt: HostRuntime) {
     both_take(&rt, short, wide, short);
 }
 
-/// Of an answer and none this is taken.
+/// If there is only one answer, this is taken.
 fn is_taken<R: Abort>(rt: &R, got: Option<Interval>, want: Option<Interval>) {
     same(rt, &"with none", &got, &want);
 }

@@ -17,7 +17,7 @@ use std::process::Abort;
 use std::sync::ledger::{Blank, Ledger};
 use std::test::Fail;
 
-/// What is asked of a cursor that has so many look-ups for leaping.
+/// What is asked of a cursor that has `leaps` look-ups for leaping.
 #[derive(Drop)]
 struct Asked<'a> {
     alloc: Global,
@@ -122,7 +122,7 @@ fn finds_with_any<R: Abort>(
     Ok(())
 }
 
-/// A text and a query that chance has.
+/// Compares over a random text and query.
 fn compares<R: Abort>(rt: &R, alloc: Global, turn: u64, state: &mut u64) -> Result<(), AllocError> {
     let count = 1 + chance(state, 11);
     let words = chance_words(alloc, state, count, 4)?;

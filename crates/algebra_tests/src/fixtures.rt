@@ -8,7 +8,7 @@ use gcl_model::{ADDRESS_END, Expr, Interval};
 use gcl_parser::parse;
 use std::alloc::Global;
 
-/// Behind the start of the last member, or k.
+/// The address after the start of the last member, or `k` if there is none.
 pub fn behind(members: &[Interval], k: u64) -> u64
     requires { k < far }
     ensures { result < far }

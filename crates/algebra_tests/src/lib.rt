@@ -1,9 +1,9 @@
 //! Tests of the public calls of the crates that define the algebra, cut texts into tokens, parse queries and evaluate them.
 //!
-//! They stand apart from those crates, since a crate that has tests is proved twice. `model` is of `gcl_model`, `addresses` of
-//! `address_space`, `tokens` of `word_tokens`, `places` of `token_places`, `queries` of `gcl_parser`, `order`, `combine` and `contain`
-//! of the operators, `widths` of `fixed_width`, `phrases` of `phrase_walk`, `readers` of `gcl_readers`, `cursors` of `gcl_cursor`
-//! and `texts` of `text_search`.
+//! They are apart from those crates, since a crate that has tests is proved twice. `model` is for `gcl_model`, `addresses` for
+//! `address_space`, `tokens` for `word_tokens`, `places` for `token_places`, `queries` for `gcl_parser`, `order`, `combine` and `contain`
+//! for the operators, `widths` for `fixed_width`, `phrases` for `phrase_walk`, `readers` for `gcl_readers`, `cursors` for `gcl_cursor`
+//! and `texts` for `text_search`.
 //! `fixtures` is what several begin with. Over `to be or not to be` the query `"to be"` has two members.
 #![tactic(auto)]
 

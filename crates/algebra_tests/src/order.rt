@@ -3,7 +3,7 @@ use gcl_model::Interval;
 use gcl_order::{after, before, seq_join};
 use std::process::Abort;
 
-/// What goes on behind this interval starts here.
+/// What follows this interval starts here.
 fn is_after<R: Abort>(rt: &R, answer: Interval, start: u64) {
     assert!(rt; answer.end <= 5);
     same(rt, &answer, &after(answer), &start);

@@ -1,4 +1,4 @@
-ghost use Rattle.std.specs.Prelude.{◌≡◌, ◌<◌, ◌≤◌, length, IfOk};
+ghost use Rattle.std.specs.Prelude.{◌<◌, ◌≤◌, length, IfOk};
 ghost use Rattle.gcl_model.specs.FormOf.{form_of};
 ghost use Rattle.gcl_model.specs.Limits.{far};
 ghost use Rattle.gcl_model.specs.WellFormed.{IsWellFormed};
@@ -49,7 +49,7 @@ fn phrase(tokens: &TokenList) -> Result<Expr, AllocError>
     Ok(Expr::Phrase(tokens.copy()?))
 }
 
-/// The text of these words from `first` on.
+/// The text of these words, starting at `first`.
 fn text_of<R: Abort>(
     rt: &R,
     alloc: Global,
@@ -215,9 +215,9 @@ fn each_turn_of_a_walk_looks_up_each_token_once(rt: HostRuntime) -> Result<(), F
     Ok(())
 }
 
-/// "the king" in `the a the king a the`: behind the first `the` the one `king` leads on to 2, and once `the` stands there, `king` is
-/// not asked again. From 0 on that takes 3 look-ups for the first start and 3 for the first end; none ends or starts up to 0, which
-/// takes none and 1.
+/// "the king" in `the a the king a the`: after the first `the` the only `king` leads to 2, and as `the` is there, `king` is not asked
+/// again. From 0 that takes 3 look-ups for the first start and 3 for the first end; none ends or starts at or before 0, which takes
+/// none and 1.
 #[test]
 fn a_walk_ends_as_soon_as_each_token_agreed(rt: HostRuntime) -> Result<(), Fail> {
     let words = &["the", "a", "the", "king", "a", "the"];

@@ -8,7 +8,7 @@ use token_places::{
 };
 use word_tokens::tokens;
 
-/// A text, and the first byte and the one behind the last of each of its tokens.
+/// A text, and the first byte of each of its tokens and the byte after its last.
 type Row = (&'static [u8], &'static [(usize, usize)]);
 
 const ROWS: [Row; 14] = [
@@ -68,7 +68,7 @@ fn gives<R: Abort>(
     Ok(())
 }
 
-/// The cursor gives no token of the text any more.
+/// The cursor gives no more tokens of the text.
 fn is_at_the_end<R: Abort>(rt: &R, text: &[u8], cursor: &mut PlaceCursor<'_>) {
     assert!(rt; cursor.next().is_none(), "{text:?}");
 }

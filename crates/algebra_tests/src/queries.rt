@@ -5,7 +5,7 @@ use std::alloc::{AllocError, Global};
 use std::process::Abort;
 use std::test::Fail;
 
-/// Writes an expression with a bracket around each node: terms and widths as they are, and `_` behind each term of a
+/// Writes an expression with a bracket around each node: terms and widths as they are, and `_` after each term of a
 /// phrase.
 #[cycle(write)]
 fn write(out: &mut Vec<u8>, expr: &Expr) -> Result<(), AllocError> {
@@ -141,7 +141,7 @@ fn queries_give_their_expressions(rt: HostRuntime) -> Result<(), Fail> {
     Ok(())
 }
 
-/// Texts that are no queries, each with the place and the kind of its first fault.
+/// Texts that are not queries, each with the place and the kind of its first fault.
 const REFUSED: [(&[u8], u64, QueryKind); 41] = [
     (b"", 0, QueryKind::OperandExpected),
     (b" \t", 2, QueryKind::OperandExpected),
@@ -202,7 +202,7 @@ fn refusals_have_a_place_and_a_kind(rt: HostRuntime) {
     }
 }
 
-/// The query takes so many bytes, written with brackets.
+/// The query takes `bytes` bytes, written with brackets.
 fn takes<R: Abort>(rt: &R, alloc: Global, text: &[u8], bytes: usize) -> Result<(), ParseFault> {
     same(rt, &"its length", &written(alloc, text)?.len(), &bytes);
     Ok(())

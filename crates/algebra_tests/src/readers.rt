@@ -11,7 +11,7 @@ use std::alloc::{AllocError, Global};
 use std::process::Abort;
 use std::test::Fail;
 
-/// All members, by pages of so many, which the same readers fill.
+/// All members, by pages of `size`, which the same readers fill.
 #[derive(Drop)]
 struct Pages<'a> {
     alloc: Global,
@@ -93,7 +93,7 @@ impl Question for Count<'_> {
     }
 }
 
-/// The next of the numbers that stand for chance.
+/// The next pseudo-random number.
 pub(crate) fn chance(state: &mut u64, below: u64) -> u64
     requires { 0 < below }
     ensures { result < below }
@@ -106,7 +106,7 @@ pub(crate) fn chance(state: &mut u64, below: u64) -> u64
 
 const WORDS: [&str; 4] = ["a", "b", "c", "d"];
 
-/// So many words as chance has them.
+/// `count` random words.
 pub(crate) fn chance_words(
     alloc: Global,
     state: &mut u64,
@@ -128,7 +128,7 @@ const LEAVES: [&str; 7] = ["\"a\"", "\"b\"", "\"c\"", "\"d\"", "\"a b\"", "[1]",
 
 const OPERATORS: [&str; 7] = ["^", "+", "..", ">", "<", "/>", "/<"];
 
-/// A query of this depth at most.
+/// A random query of at most this depth.
 pub(crate) fn put_query(
     query: &mut Vec<u8>,
     state: &mut u64,
@@ -149,7 +149,7 @@ pub(crate) fn put_query(
     Ok(())
 }
 
-/// The text of these words from `first` on, where they are not too many.
+/// The text of these words, starting at `first`, if they are not too many.
 pub(crate) fn text_of(
     alloc: Global,
     first: u64,
@@ -216,7 +216,7 @@ fn are_listed<R: Abort>(
     has_members(rt, turn, &Count { alloc, expr, text }, plain.len())
 }
 
-/// A text and a query that chance has, compared.
+/// Compares over a random text and query.
 fn compares<R: Abort>(rt: &R, alloc: Global, turn: u64, state: &mut u64) -> Result<(), AllocError> {
     let count = 1 + chance(state, 11);
     let words = chance_words(alloc, state, count, 4)?;
@@ -240,7 +240,7 @@ fn readers_list_what_the_plain_program_lists(rt: HostRuntime) -> Result<(), Fail
     Ok(())
 }
 
-/// The members of a query over so many words take at most four times as many look-ups.
+/// Counting the members of a query over `count` words takes at most four times as many look-ups.
 fn takes_few<R: Abort>(
     rt: &R,
     alloc: Global,

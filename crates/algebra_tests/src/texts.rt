@@ -153,7 +153,7 @@ fn put_letters(text: &mut Vec<u8>, letter: u8, count: u8) -> Result<(), AllocErr
     Ok(())
 }
 
-/// A query for names of each length up to 70.
+/// A query for names of each length up to 71.
 fn many_names(alloc: Global) -> Result<Vec<u8>, AllocError> {
     let mut query = Vec::new(alloc);
     query.extend_from_slice(b"\"x\"")?;
@@ -165,7 +165,7 @@ fn many_names(alloc: Global) -> Result<Vec<u8>, AllocError> {
     Ok(query)
 }
 
-/// A file in which every seventh of them stands.
+/// A file that has every seventh of these names.
 fn file_of_names(alloc: Global) -> Result<Vec<u8>, AllocError> {
     let mut file = Vec::new(alloc);
     for n in 0..71u8 {

@@ -102,7 +102,7 @@ fn gives_next<R: Abort>(
     Ok(())
 }
 
-/// The cursor gives no token any more.
+/// The cursor gives no more tokens.
 fn is_at_the_end<R: Abort>(
     rt: &R,
     cursor: &mut TokenCursor<'_>,

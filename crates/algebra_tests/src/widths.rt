@@ -20,7 +20,7 @@ enum Access {
     LastStart,
 }
 
-/// An access, a width, an address, and the interval that is found, where there is one.
+/// An access, a width, an address, and the interval that is found, if there is one.
 const CASES: [(Access, u64, u64, Option<(u64, u64)>); 14] = [
     (Access::FirstStart, 4, 0, Some((2, 5))),
     (Access::FirstStart, 4, 4, Some((4, 7))),

@@ -1,4 +1,4 @@
--- The bytes that the answers of a file cover, which is searched by itself.
+-- The bytes that the answers of a file cover. The file is searched by itself.
 use Rattle.std.specs.Prelude.{ℕ, List, map, length, slice_index_or}
 use Rattle.gcl_model.specs.Extents.{Extent}
 use Rattle.token_places.specs.Places.{Place, file_places, stretch}

@@ -2,7 +2,7 @@
 use Rattle.std.specs.Prelude.{◌≡◌, ℕ, List, ◌++◌, Option}
 use Rattle.std.specs.Io.KnownBytes.{Appends}
 
--- of the bytes that were to be written the first were, and these are left
+-- the first of the bytes that were to be written were written, and these are left
 pub record Moves (old new : Option (List ℕ)) (all left : List ℕ) : Type 0 where
   pub part : List ℕ
   pub whole : all ≡ part ++ left

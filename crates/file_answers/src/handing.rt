@@ -1,6 +1,6 @@
-ghost use Rattle.std.specs.Prelude.{◌≡◌, ◌≤◌, ◌++◌, ℕ, List, OnOk};
+ghost use Rattle.std.specs.Prelude.{◌++◌, ℕ, List, OnOk};
 ghost use Rattle.std.specs.Io.KnownBytes.{Appends};
-ghost use Rattle.outside.specs.Causes.{HasWriteCause, CountsWriteFault};
+ghost use Rattle.outside.specs.Causes.{CountsWriteFault};
 ghost use Rattle.file_answers.specs.Written.{GetsPart, Moves};
 
 use outside::{Sink, WriteError};
@@ -20,9 +20,10 @@ pub fn write_all<K: Sink>(sink: &mut K, text: &[u8]) -> Result<(), WriteError>
     Ok(())
 }
 
-/// Hands over what is held back, once it is a piece.
+/// Hands over what is held back, if it is a piece or more.
 pub fn hand_over<K: Sink>(sink: &mut K, out: &mut Vec<u8>) -> Result<(), WriteError>
-    ensures moves { OnOk result ((more : List ℕ) → Moves (K.written sink.old) (K.written sink.new) (out.old.items ++ more) (out.new.items ++ more)) }
+    ensures moves { OnOk result ((more : List ℕ) →
+        Moves (K.written sink.old) (K.written sink.new) (out.old.items ++ more) (out.new.items ++ more)) }
     ensures part { (more : List ℕ) → GetsPart (K.written sink.old) (K.written sink.new) (out.old.items ++ more) }
     ensures counts { CountsWriteFault (K.faults sink.old) (K.faults sink.new) result }
 {

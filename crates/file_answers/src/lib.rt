@@ -1,9 +1,9 @@
 //! The answers of one file, written as text.
 //!
 //! A file is searched by itself, at the addresses 0 to n + 1, with n the number of its tokens. Contracts see the sink's
-//! bytes, and what is written of a file as `output_of` of `specs/Outputs.antt`.
+//! bytes, and what is written for a file as `output_of` in `specs/Outputs.antt`.
 //!
-//! The layer above lends the file's bytes and the words that the query looks up; memory is that of the file and a piece.
+//! The layer above lends the file's bytes and the words that the query looks up; the memory used is that of the file and a piece.
 #![tactic(auto)]
 
 mod handing;

@@ -1,4 +1,4 @@
-ghost use Rattle.std.specs.Prelude.{◌≡◌, ◌≤◌, length};
+ghost use Rattle.std.specs.Prelude.{◌≡◌};
 ghost use Rattle.file_answers.specs.Searched.{passage_of};
 
 use gcl_model::Interval;
@@ -6,7 +6,7 @@ use passages::Passage;
 use std::marker::Model;
 use token_places::PlaceWalk;
 
-/// Has a walk go on from where another one is, where that is nearer to an address.
+/// Moves a walk to where another one is, if that is nearer to an address.
 fn catch_up<'a>(walk: &mut PlaceWalk<'a>, other: &PlaceWalk<'a>, address: u64)
     requires alike { walk.old ≡ other.now }
     ensures same { walk.new ≡ walk.old }
@@ -16,9 +16,9 @@ fn catch_up<'a>(walk: &mut PlaceWalk<'a>, other: &PlaceWalk<'a>, address: u64)
     }
 }
 
-/// The bytes that the members of a list cover. Members start and end later from each to the next, so a walk over the
-/// starts and one over the ends only go forward. Each goes on from where the other is, where that is nearer: the text is
-/// gone through once, and once more where members overlap.
+/// The bytes that the members of a list cover. Each member starts and ends later than the one before, so a walk over the
+/// starts and one over the ends only go forward. Each continues from where the other is if that is nearer: the text is
+/// passed over once, and once more where members overlap.
 #[derive(Drop)]
 pub struct MemberPlaces<'a> {
     starts: PlaceWalk<'a>,
@@ -46,7 +46,7 @@ impl<'a> MemberPlaces<'a> {
         }
     }
 
-    /// From the first byte of the member's first token to the last byte of its last one.
+    /// From the first byte of the member's first token to the last byte of its last token.
     pub fn passage_of(&mut self, member: Interval) -> Passage
         ensures passage { result ≡ passage_of self.old member }
         ensures same { self.new ≡ self.old }

@@ -17,7 +17,7 @@ use gcl_model::{Expr, Interval, Leaves, Ledger, Steps};
 use gcl_readers::Readers;
 use outside::{Sink, WriteError};
 
-/// What is asked of a file: an expression, how many of its answers count at most, and what is written of them.
+/// What is asked of a file: an expression, the most answers that count, and what is written of them.
 #[derive(Clone, Copy)]
 pub struct Asking<'a> {
     pub expr: &'a Expr,
@@ -25,7 +25,7 @@ pub struct Asking<'a> {
     pub mode: Mode,
 }
 
-/// The first member that starts at or after an address, by readers that passed none from there on.
+/// The first member that starts at or after an address, by readers that have not passed any such member.
 pub fn next_member<L: Leaves, S: Ledger>(
     readers: &mut Readers,
     expr: &Expr,
@@ -45,12 +45,12 @@ pub fn next_member<L: Leaves, S: Ledger>(
     ensures cost { steps.new + cost_left (L.text leaves.now) (L.most leaves.now) (form_of expr.now) readers.new
         ≤ steps.old + cost_left (L.text leaves.now) (L.most leaves.now) (form_of expr.now) readers.old }
 {
-    // the span tells that addresses end
+    // the span shows that addresses end
     let _span = leaves.span();
     readers.next(expr, leaves, from, steps)
 }
 
-/// Puts the text of the first answers, and says how many there are. Memory is that of the file and a piece, however many they are.
+/// Puts the text of the first answers, and returns how many there are. Memory is that of the file and a piece, however many there are.
 pub fn put_answers<L: Leaves, S: Ledger, W: PassageWriter, K: Sink>(
     sink: &mut K,
     out: &mut Vec<u8>,
@@ -65,9 +65,11 @@ pub fn put_answers<L: Leaves, S: Ledger, W: PassageWriter, K: Sink>(
     requires fresh { W.reached writer.old ≡ 0 }
     requires nothing { W.text writer.old [] ≡ [] }
     ensures moves { OnOk result (Moves (K.written sink.old) (K.written sink.new)
-        (out.old.items ++ W.text writer.old (passages_of bytes.now (take asking.now.most (concordance (L.text leaves.now) (form_of asking.now.expr.now))))) out.new.items) }
+        (out.old.items ++ W.text writer.old (passages_of bytes.now
+        (take asking.now.most (concordance (L.text leaves.now) (form_of asking.now.expr.now))))) out.new.items) }
     ensures part { GetsPart (K.written sink.old) (K.written sink.new)
-        (out.old.items ++ W.text writer.old (passages_of bytes.now (take asking.now.most (concordance (L.text leaves.now) (form_of asking.now.expr.now))))) }
+        (out.old.items ++ W.text writer.old (passages_of bytes.now
+        (take asking.now.most (concordance (L.text leaves.now) (form_of asking.now.expr.now))))) }
     ensures count { IfOk result (λ n. n ≡ length (take asking.now.most (concordance (L.text leaves.now) (form_of asking.now.expr.now)))) }
     ensures cost { steps.new ≤ steps.old + merge_cost (L.text leaves.now) (L.most leaves.now) (form_of asking.now.expr.now) }
     ensures counts { CountsWriteFault (K.faults sink.old) (K.faults sink.new) result }

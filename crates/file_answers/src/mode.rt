@@ -7,7 +7,7 @@ pub enum Mode {
     Answers,
     /// How many answers there are.
     Count,
-    /// The file's name, where there is an answer.
+    /// The file's name, if there is an answer.
     Names,
     /// Nothing.
     Quiet,

@@ -1,4 +1,4 @@
-ghost use Rattle.std.specs.Prelude.{◌≡◌, ◌+◌, ◌≤◌, ◌++◌, [], length, nat_lt, take, IfOk, OnOk};
+ghost use Rattle.std.specs.Prelude.{◌≡◌, ◌+◌, ◌≤◌, [], length, nat_lt, take, IfOk, OnOk};
 ghost use Rattle.std.specs.Io.KnownBytes.{Appends};
 ghost use Rattle.outside.specs.Causes.{CountsWriteFault};
 ghost use Rattle.gcl_model.specs.FormOf.{form_of};
@@ -22,7 +22,7 @@ use outside::{Sink, WriteError};
 use passages::{Shown, put_count, put_name};
 use std::alloc::{AllocError, Global};
 
-/// A file's name, and what of it stands in front of each line.
+/// A file's name, and what is in front of each line.
 #[derive(Drop)]
 pub struct Label {
     pub name: Bytes,
@@ -41,7 +41,7 @@ fn finish<K: Sink>(sink: &mut K, out: &mut Vec<u8>) -> Result<(), WriteError>
     Ok(())
 }
 
-/// Writes the passages of the answers, and says whether there is an answer.
+/// Writes the passages of the answers, and returns whether there is an answer.
 fn write_passages<L: Leaves, S: Ledger, W: PassageWriter + Drop, K: Sink>(
     sink: &mut K,
     out: &mut Vec<u8>,
@@ -60,7 +60,8 @@ fn write_passages<L: Leaves, S: Ledger, W: PassageWriter + Drop, K: Sink>(
         (W.text writer (passages_of bytes.now (take asking.now.most (concordance (L.text leaves.now) (form_of asking.now.expr.now)))))) }
     ensures part { GetsPart (K.written sink.old) (K.written sink.new)
         (W.text writer (passages_of bytes.now (take asking.now.most (concordance (L.text leaves.now) (form_of asking.now.expr.now))))) }
-    ensures some { IfOk result (λ some. some ≡ nat_lt 0 (length (take asking.now.most (concordance (L.text leaves.now) (form_of asking.now.expr.now))))) }
+    ensures some { IfOk result (λ some. some ≡
+        nat_lt 0 (length (take asking.now.most (concordance (L.text leaves.now) (form_of asking.now.expr.now))))) }
     ensures empty { OnOk result (out.new.items ≡ []) }
     ensures cost { steps.new ≤ steps.old + merge_cost (L.text leaves.now) (L.most leaves.now) (form_of asking.now.expr.now) }
     ensures counts { CountsWriteFault (K.faults sink.old) (K.faults sink.new) result }
@@ -70,7 +71,7 @@ fn write_passages<L: Leaves, S: Ledger, W: PassageWriter + Drop, K: Sink>(
     Ok(count > 0)
 }
 
-/// How many answers count. `Err` is out of memory.
+/// How many answers count. `Err` means out of memory.
 fn answer_count<L: Leaves, S: Ledger>(
     alloc: Global,
     leaves: &L,
@@ -87,7 +88,7 @@ fn answer_count<L: Leaves, S: Ledger>(
     Ok(count.min(asking.most))
 }
 
-/// Writes how many answers there are, and says whether there is one.
+/// Writes how many answers there are, and returns whether there are any.
 fn write_count<L: Leaves, S: Ledger, K: Sink>(
     sink: &mut K,
     out: &mut Vec<u8>,
@@ -102,7 +103,8 @@ fn write_count<L: Leaves, S: Ledger, K: Sink>(
         (count_text shown.now (length (take asking.now.most (concordance (L.text leaves.now) (form_of asking.now.expr.now)))))) }
     ensures part { GetsPart (K.written sink.old) (K.written sink.new)
         (count_text shown.now (length (take asking.now.most (concordance (L.text leaves.now) (form_of asking.now.expr.now))))) }
-    ensures some { IfOk result (λ some. some ≡ nat_lt 0 (length (take asking.now.most (concordance (L.text leaves.now) (form_of asking.now.expr.now))))) }
+    ensures some { IfOk result (λ some. some ≡
+        nat_lt 0 (length (take asking.now.most (concordance (L.text leaves.now) (form_of asking.now.expr.now))))) }
     ensures empty { OnOk result (out.new.items ≡ []) }
     ensures cost { steps.new ≤ steps.old + merge_cost (L.text leaves.now) (L.most leaves.now) (form_of asking.now.expr.now) }
     ensures counts { CountsWriteFault (K.faults sink.old) (K.faults sink.new) result }
@@ -113,7 +115,7 @@ fn write_count<L: Leaves, S: Ledger, K: Sink>(
     Ok(count > 0)
 }
 
-/// Whether there is an answer. `Err` is out of memory.
+/// Whether there is an answer. `Err` means out of memory.
 fn has_answer<L: Leaves, S: Ledger>(
     alloc: Global,
     leaves: &L,
@@ -121,7 +123,8 @@ fn has_answer<L: Leaves, S: Ledger>(
     asking: &Asking<'_>,
 ) -> Result<bool, AllocError>
     requires well_formed { IsWellFormed (form_of asking.now.expr.now) }
-    ensures some { IfOk result (λ some. some ≡ nat_lt 0 (length (take asking.now.most (concordance (L.text leaves.now) (form_of asking.now.expr.now))))) }
+    ensures some { IfOk result (λ some. some ≡
+        nat_lt 0 (length (take asking.now.most (concordance (L.text leaves.now) (form_of asking.now.expr.now))))) }
     ensures cost { steps.new ≤ steps.old + merge_cost (L.text leaves.now) (L.most leaves.now) (form_of asking.now.expr.now) }
 {
     if asking.most == 0 {
@@ -132,7 +135,7 @@ fn has_answer<L: Leaves, S: Ledger>(
     Ok(answer.is_some())
 }
 
-/// Writes the file's name, where there is an answer.
+/// Writes the file's name if there is an answer, and returns whether there is one.
 fn write_name<L: Leaves, S: Ledger, K: Sink>(
     sink: &mut K,
     out: &mut Vec<u8>,
@@ -147,7 +150,8 @@ fn write_name<L: Leaves, S: Ledger, K: Sink>(
         (where_some (take asking.now.most (concordance (L.text leaves.now) (form_of asking.now.expr.now))) (name_text name.now))) }
     ensures part { GetsPart (K.written sink.old) (K.written sink.new)
         (where_some (take asking.now.most (concordance (L.text leaves.now) (form_of asking.now.expr.now))) (name_text name.now)) }
-    ensures some { IfOk result (λ some. some ≡ nat_lt 0 (length (take asking.now.most (concordance (L.text leaves.now) (form_of asking.now.expr.now))))) }
+    ensures some { IfOk result (λ some. some ≡
+        nat_lt 0 (length (take asking.now.most (concordance (L.text leaves.now) (form_of asking.now.expr.now))))) }
     ensures empty { OnOk result (out.new.items ≡ []) }
     ensures cost { steps.new ≤ steps.old + merge_cost (L.text leaves.now) (L.most leaves.now) (form_of asking.now.expr.now) }
     ensures counts { CountsWriteFault (K.faults sink.old) (K.faults sink.new) result }
@@ -160,7 +164,7 @@ fn write_name<L: Leaves, S: Ledger, K: Sink>(
     Ok(true)
 }
 
-/// Writes what is asked of a file, and says whether it has an answer. `leaves` are the file's words, and `bytes` the file.
+/// Writes what is asked of a file, and returns whether it has an answer. `leaves` are the file's words, and `bytes` the file.
 pub fn write_file<L: Leaves, S: Ledger, K: Sink>(
     sink: &mut K,
     out: &mut Vec<u8>,
@@ -173,10 +177,13 @@ pub fn write_file<L: Leaves, S: Ledger, K: Sink>(
     requires well_formed { IsWellFormed (form_of asking.now.expr.now) }
     requires empty { out.old.items ≡ [] }
     ensures written { OnOk result (Appends (K.written sink.old) (K.written sink.new)
-        (output_of asking.now.mode label.now.shown label.now.name bytes.now (take asking.now.most (concordance (L.text leaves.now) (form_of asking.now.expr.now))))) }
+        (output_of asking.now.mode label.now.shown label.now.name bytes.now
+        (take asking.now.most (concordance (L.text leaves.now) (form_of asking.now.expr.now))))) }
     ensures part { GetsPart (K.written sink.old) (K.written sink.new)
-        (output_of asking.now.mode label.now.shown label.now.name bytes.now (take asking.now.most (concordance (L.text leaves.now) (form_of asking.now.expr.now)))) }
-    ensures some { IfOk result (λ some. some ≡ nat_lt 0 (length (take asking.now.most (concordance (L.text leaves.now) (form_of asking.now.expr.now))))) }
+        (output_of asking.now.mode label.now.shown label.now.name bytes.now
+        (take asking.now.most (concordance (L.text leaves.now) (form_of asking.now.expr.now)))) }
+    ensures some { IfOk result (λ some. some ≡
+        nat_lt 0 (length (take asking.now.most (concordance (L.text leaves.now) (form_of asking.now.expr.now))))) }
     ensures empty { OnOk result (out.new.items ≡ []) }
     ensures cost { steps.new ≤ steps.old + merge_cost (L.text leaves.now) (L.most leaves.now) (form_of asking.now.expr.now) }
     ensures counts { CountsWriteFault (K.faults sink.old) (K.faults sink.new) result }

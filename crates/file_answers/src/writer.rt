@@ -12,16 +12,16 @@ pub trait PassageWriter {
     ghost use Rattle.std.specs.Prelude.{ℕ, List};
     ghost use Rattle.passages.specs.declared.passage.Passage.{Passage};
 
-    /// What is written of these passages, where they are those that are still to come.
+    /// What is written for these passages, if they are the ones still to come.
     ghost text: { Self → List Passage → List ℕ };
 
     /// How many bytes the file has.
     ghost size: { Self → ℕ };
 
-    /// No passage may begin in front of this place.
+    /// No passage may begin before this place.
     ghost reached: { Self → ℕ };
 
-    /// Puts the text of one passage more: a piece at a time goes to the sink, and what is less is held back.
+    /// Puts the text of one more passage: a piece at a time goes to the sink, and less than a piece is held back.
     fn put<K: Sink>(
         &mut self,
         sink: &mut K,
@@ -35,7 +35,8 @@ pub trait PassageWriter {
         ensures ahead { reached self.new ≤ p.from }
         ensures nothing { text self.new [] ≡ [] }
         ensures moves { OnOk result ((later : List Passage) → BeginFrom p.from later →
-            Moves (K.written sink.old) (K.written sink.new) (out.old.items ++ text self.old (p ∷ later)) (out.new.items ++ text self.new later)) }
+            Moves (K.written sink.old) (K.written sink.new) (out.old.items ++ text self.old (p ∷ later))
+            (out.new.items ++ text self.new later)) }
         ensures part { (later : List Passage) → BeginFrom p.from later →
             GetsPart (K.written sink.old) (K.written sink.new) (out.old.items ++ text self.old (p ∷ later)) }
         ensures counts { CountsWriteFault (K.faults sink.old) (K.faults sink.new) result };

@@ -13,7 +13,7 @@ const PIECE: usize = 65_536;
 pub trait Opener {
     type Opened: Files + Send + Drop;
 
-    /// None where only one thread is to load.
+    /// Returns None if only one thread is to load.
     fn open(&self) -> Option<Self::Opened>;
 }
 
@@ -38,7 +38,7 @@ impl<'a, R: rt::Files + AllocGlobal + Sync> Opener for SystemOpener<'a, R> {
     }
 }
 
-/// Files, with a source under the name `-`. What they hold is not told.
+/// Files, with a source under the name `-`. Contracts do not say what they hold.
 #[derive(Drop)]
 pub struct WithInput<F, S, O> {
     files: F,
@@ -57,7 +57,7 @@ impl<F: Files, S: Source, O: Opener> WithInput<F, S, O> {
     }
 }
 
-/// Files but for `-`, which only their owner loads. What they hold is not told.
+/// Files except `-`, which only their owner loads. Contracts do not say what they hold.
 #[derive(Drop)]
 pub struct WithoutInput<F> {
     files: F,
@@ -95,7 +95,7 @@ impl<F: Files, S: Source, O: Opener> SharedFiles for WithInput<F, S, O> {
     }
 }
 
-/// Reads a source to its end, or one byte more than `most`.
+/// Reads a source to its end, or `most` + 1 bytes of it.
 fn read_all<S: Source>(source: &mut S, most: u64, out: &mut Vec<u8>) -> Result<Loaded, FileError>
     ensures whole { IfOk result (λ loaded. loaded ≡ Loaded.Whole → length out.new.items ≤ most) }
     ensures long { IfOk result (λ loaded. loaded ≡ Loaded.Long → length out.new.items ≡ most + 1) }

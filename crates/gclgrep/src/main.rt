@@ -1,7 +1,7 @@
 //! Searches files for a structured query, and writes the lines or the passages of the answers.
 //!
-//! The words name the query and the files; the text goes to standard output, and one line on standard error says each
-//! thing that was wrong. What is written of which file is the contract of `grep_run::run`.
+//! The words name the query and the files. The text goes to standard output, and each thing that was wrong gets one line on
+//! standard error. What is written for which file is in the contract of `grep_run::run`.
 #![tactic(auto)]
 
 ghost use Rattle.std.specs.Prelude.{◌≡◌, drop};
@@ -19,7 +19,7 @@ use std::env;
 use std::process::ExitCode;
 use tell::say;
 
-/// The words after the program's name, where there is one.
+/// The words after the program's name, if there is one.
 fn after_name(args: &[String]) -> &[String]
     ensures { result.now ≡ drop 1 args.now }
 {
@@ -29,7 +29,7 @@ fn after_name(args: &[String]) -> &[String]
     }
 }
 
-/// Says why the words were not read, and gives the status.
+/// Says why the words were not read, and returns the status.
 fn refuse<R: Eprint>(rt: &R, line: &str) -> ExitCode {
     say(rt, line);
     ExitCode::from(2)

@@ -1,6 +1,6 @@
 use grep_run::{ElementTally, Tally, TermTally};
 
-/// The name of a tag that has more than its name between `<` and `>`, as `verse` of `<verse n='3'>`.
+/// The name of a tag that has more than its name between `<` and `>`, such as `verse` for `<verse n='3'>`.
 fn tag_with_more(text: &str) -> Option<&str> {
     let inside = text.strip_prefix('<')?.strip_suffix('>')?;
     if inside.contains('<') {
@@ -13,7 +13,7 @@ fn tag_with_more(text: &str) -> Option<&str> {
     Some(name)
 }
 
-/// What a text in quotes asks for, where people may mean something else.
+/// Says what a text in quotes asks for, if people may mean something else.
 fn tell_note<R: Eprint>(rt: &R, text: &str) {
     if let Some(word) = text.strip_suffix('*') {
         let _ = eprintln!(rt;
@@ -36,7 +36,7 @@ fn tell_note<R: Eprint>(rt: &R, text: &str) {
     }
 }
 
-/// Says of each text in quotes what it asks for, where people may mean something else. No claim is made of it.
+/// Says what each text in quotes asks for, if people may mean something else. There is no contract.
 pub fn tell_notes<R: Eprint>(rt: &R, query: &[u8]) {
     let Ok(query) = str::from_utf8(query) else {
         return;
@@ -48,7 +48,7 @@ pub fn tell_notes<R: Eprint>(rt: &R, query: &[u8]) {
     }
 }
 
-/// Says of a word or a tag that no file has it.
+/// Says that no file has this word or tag.
 fn tell_missing_term<R: Eprint>(rt: &R, term: &TermTally) {
     let Ok(token) = str::from_utf8(term.token()) else {
         return;
@@ -56,7 +56,7 @@ fn tell_missing_term<R: Eprint>(rt: &R, term: &TermTally) {
     let _ = eprintln!(rt; "gclgrep: note: in no file: {token}");
 }
 
-/// Says which words and tags of the query no file has. No claim is made of it.
+/// Says which words and tags of the query no file has. There is no contract.
 pub fn tell_missing<R: Eprint>(rt: &R, tally: &Tally) {
     for term in tally.terms() {
         if term.places() == 0 {
@@ -65,7 +65,7 @@ pub fn tell_missing<R: Eprint>(rt: &R, tally: &Tally) {
     }
 }
 
-/// Says of an element that some of them hold others, which are the ones that are found.
+/// Says how many of the openings hold no other opening of the same element: only those are found.
 fn tell_nested_element<R: Eprint>(rt: &R, element: &ElementTally) {
     let (Ok(open), Ok(close)) = (
         str::from_utf8(element.open()),
@@ -80,7 +80,7 @@ fn tell_nested_element<R: Eprint>(rt: &R, element: &ElementTally) {
     );
 }
 
-/// Says of which elements of the query the files have more openings than answers. No claim is made of it.
+/// Says which elements of the query have more openings in the files than answers. There is no contract.
 pub fn tell_nested<R: Eprint>(rt: &R, tally: &Tally) {
     for element in tally.elements() {
         if 0 < element.elements() && element.elements() < element.opens() {

@@ -3,9 +3,9 @@ use outside_std::StdSink;
 use std::io::Write;
 use std::rt::Clock;
 
-/// A sink that says whether anybody still reads what it takes.
+/// A sink that knows whether anybody still reads what it takes.
 pub trait ReaderGone: Sink {
-    /// Whether its last fault was that nobody reads any more, as of a pipe into `head`.
+    /// Whether its last fault was that nobody reads any more, as with a pipe into `head`.
     fn reader_gone(&self) -> bool;
 }
 

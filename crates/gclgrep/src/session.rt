@@ -1,6 +1,6 @@
-ghost use Rattle.std.specs.Prelude.{◌≡◌, ◌<◌, map, string_bytes};
+ghost use Rattle.std.specs.Prelude.{◌≡◌, ◌<◌};
 ghost use Rattle.outside.specs.Causes.{Rose};
-ghost use Rattle.grep_run.specs.Runs.{IsBeforeFiles, IsBeforeWriting, RunEnds};
+ghost use Rattle.grep_run.specs.Runs.{IsBeforeFiles, IsBeforeWriting};
 
 use crate::help::{HELP, USAGE, VERSION};
 use crate::reader_gone::ReaderGone;
@@ -35,7 +35,7 @@ fn run_uncounted<B: ledger::Ledger, R: Threads + Sync, F: SharedFiles, K: Sink, 
     run(context, words, files, sink, &mut steps, remarks)
 }
 
-/// Writes a text, and gives the status 0, or 2 where it could not be written.
+/// Writes a text, and returns the status 0, or 2 if it could not be written.
 fn write_text<R: Eprint, K: ReaderGone>(rt: &R, sink: &mut K, text: &str) -> ExitCode {
     match file_answers::write_all(sink, text.as_bytes()) {
         Ok(()) => ExitCode::from(0),
@@ -46,14 +46,14 @@ fn write_text<R: Eprint, K: ReaderGone>(rt: &R, sink: &mut K, text: &str) -> Exi
     }
 }
 
-/// Says that the output could not be written, unless its reader has gone, as `head` does.
+/// Says that the output could not be written, unless its reader is gone, as with `head`.
 fn say_unwritten<R: Eprint, K: ReaderGone>(rt: &R, sink: &K) {
     if !sink.reader_gone() {
         say(rt, "gclgrep: cannot write to standard output");
     }
 }
 
-/// Says why there are no definitions of a file.
+/// Says why the definitions file gave no definitions.
 fn tell_file<R: Eprint>(rt: &R, stop: FileStop) {
     match stop {
         FileStop::Failed => say(
@@ -72,7 +72,7 @@ fn tell_file<R: Eprint>(rt: &R, stop: FileStop) {
     }
 }
 
-/// Does what the words ask for, says on standard error what was wrong, and gives the exit status.
+/// Does what the words ask for, says on standard error what was wrong, and returns the exit status.
 pub fn answer<R: Eprint + Threads + Sync, F: SharedFiles, K: ReaderGone>(
     rt: &R,
     alloc: Global,

@@ -8,7 +8,7 @@ use grep_words::SearchWords;
 use query_names::{Definitions, NameFault, put_in};
 use std::alloc::Global;
 
-/// One line on standard error.
+/// Writes one line on standard error.
 pub fn say<R: Eprint>(rt: &R, line: &str) {
     let _ = eprintln!(rt; "{line}");
 }
@@ -120,12 +120,12 @@ impl<'a, R: Eprint> Remarks for Says<'a, R> {
     }
 }
 
-/// Whether all files were gone to, or as many as it takes to know that there is an answer.
+/// Whether all files were visited, or enough of them to know that there is an answer.
 fn came_to_its_end(status: Status) -> bool {
     matches!(status, Status::Found | Status::NotFound | Status::LeftOut)
 }
 
-/// The characters in front of a place of a text.
+/// How many characters are in front of a place in a text.
 fn chars_before(text: &str, at: u64) -> u64 {
     let mut count = 0u64;
     for (place, _) in text.char_indices() {
@@ -136,7 +136,7 @@ fn chars_before(text: &str, at: u64) -> u64 {
     count
 }
 
-/// A text with a caret below a place of it. A control character is shown as a space.
+/// Shows a text with a caret below a place in it. A control character is shown as a space.
 fn show<R: Eprint>(rt: &R, text: &[u8], at: u64) {
     let Ok(text) = str::from_utf8(text) else {
         return;
@@ -153,7 +153,7 @@ fn show<R: Eprint>(rt: &R, text: &[u8], at: u64) {
     let _ = eprintln!(rt; "^");
 }
 
-/// Begins a line on a query: `gclgrep: `, and the name of the definition whose text it is, where there is one.
+/// Begins a line about a query: `gclgrep: `, and the name of the definition whose text it is, if there is one.
 fn begin<R: Eprint>(rt: &R, whose: &str) {
     let _ = eprint!(rt; "gclgrep: ");
     if !whose.is_empty() {
@@ -161,7 +161,7 @@ fn begin<R: Eprint>(rt: &R, whose: &str) {
     }
 }
 
-/// What is wrong with the names of a query. `whose` is the name that it defines, or nothing.
+/// Says what is wrong with the names in a query. `whose` is the name that it defines, or empty.
 fn tell_name<R: Eprint>(rt: &R, whose: &str, text: &[u8], fault: NameFault) {
     match fault {
         NameFault::Unknown(at) => {
@@ -177,7 +177,7 @@ fn tell_name<R: Eprint>(rt: &R, whose: &str, text: &[u8], fault: NameFault) {
     }
 }
 
-/// What is wrong with a query in which all names are put in.
+/// Says what is wrong with a query in which all names are put in.
 fn tell_query<R: Eprint>(rt: &R, whose: &str, text: &[u8], fault: QueryFault) {
     begin(rt, whose);
     let _ = eprintln!(rt; "query at {}: {}", fault.at, fault.kind);

@@ -147,7 +147,7 @@ fn files(alloc: Global, fails: Vec<u64>) -> Result<MemFiles, AllocError> {
     Ok(MemFiles::new(alloc, entries, fails))
 }
 
-/// Opens the files again for each thread, or for none.
+/// Opens the files again for each thread, or for none of them.
 #[derive(Drop)]
 struct MemOpener {
     alloc: Global,
@@ -188,7 +188,7 @@ fn each_row_is_written_as_it_must(rt: HostRuntime) -> Result<(), Fail> {
     Ok(())
 }
 
-/// Which call of the sink, of the files and of standard input fails, none where it is 0, and what is written of how often `a`, standard
+/// Which call of the sink, of the files and of standard input fails (0 means none), and what is written about how often `a`, standard
 /// input and `e` have the word `to`.
 struct Failing {
     calls: [u64; 3],
@@ -251,14 +251,14 @@ const FAILING: [Failing; 10] = [
     },
 ];
 
-/// This call alone.
+/// The number of this one call.
 fn call(alloc: Global, number: u64) -> Result<Vec<u64>, AllocError> {
     let mut calls = Vec::new(alloc);
     calls.push(number)?;
     Ok(calls)
 }
 
-/// The files, and standard input that holds `to be`.
+/// The files, and standard input holding `to be`.
 fn with_input(
     alloc: Global,
     file: u64,

@@ -1,12 +1,12 @@
--- What the exit statuses say.
-use Rattle.std.specs.Prelude.{◌≡◌, ℕ, List, Option, IfSome}
+-- What the exit statuses mean.
+use Rattle.std.specs.Prelude.{ℕ, List, Option, IfSome}
 use Rattle.shared_edit.specs.Books.{ClosedContent, IsClosed}
 use Rattle.share_run.specs.Shares.{IsShared}
 use Rattle.share_run.specs.declared.options.ShareOptions.{ShareOptions}
 use Rattle.gclshare.specs.declared.words.WordFault.{WordFault}
 use Rattle.gclshare.specs.declared.words.WordFault.TheVariants.{NotText, NoMemory}
 
--- the exit status where the words were not read
+-- the exit status if the words were not read
 abbrev pub word_status : WordFault → ℕ
 word_status NotText = 2
 word_status NoMemory = 6

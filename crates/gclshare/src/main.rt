@@ -1,7 +1,7 @@
-//! Makes a corpus by several editors in threads of one collection, and prints what it came to.
+//! Has several editors, in threads over one collection, make a corpus, and prints the result.
 //!
-//! The words `--made X --count C --editors N` ask for it. Five lines go to standard output, and one line on standard error says what was
-//! wrong where the status is not 0. What the program promises of the objects that it is lent is the contract of `answer`: that of
+//! The words `--made X --count C --editors N` ask for it. Five lines go to standard output, and if the status is not 0 one line on
+//! standard error says what was wrong. What the program promises about the objects that it borrows is the contract of `answer`: that of
 //! `share_run::share`, with the exit status in place of the run's.
 #![tactic(auto)]
 

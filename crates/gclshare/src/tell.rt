@@ -13,7 +13,7 @@ pub const USAGE: &str =
 
 const OUT_OF_MEMORY: &str = "gclshare: out of memory: ask for fewer files";
 
-/// One line on standard error for each status but 0: what was wrong, and what to see to.
+/// Writes one line on standard error for each status except 0: what was wrong, and what to do about it.
 pub fn tell<R: Eprint>(rt: &R, status: ShareStatus) {
     let _ = match status {
         ShareStatus::Done => Ok(()),
@@ -32,7 +32,7 @@ pub fn exit(status: ShareStatus) -> ExitCode
     ExitCode::from(status.number())
 }
 
-/// The exit status of a run that did not begin, with its line on standard error.
+/// The exit status of a run that did not begin. Also writes its line on standard error.
 pub fn refuse<R: Eprint>(rt: &R, fault: WordFault) -> ExitCode
     ensures { exit_status result ≡ word_status fault }
 {

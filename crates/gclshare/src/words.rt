@@ -11,7 +11,7 @@ use std::io::ErrorKind;
 pub enum WordFault {
     /// A word is not UTF-8.
     NotText,
-    /// There was no memory for them.
+    /// There was no memory for the words.
     NoMemory,
 }
 
@@ -32,7 +32,7 @@ pub fn words<R: Env + AllocGlobal>(rt: &R) -> Result<Vec<Bytes>, WordFault> {
     Ok(copied(rt.alloc(), after_name(args.as_slice()))?)
 }
 
-/// The words after the program's name, where there is one.
+/// The words after the program's name, if there is one.
 fn after_name(args: &[String]) -> &[String]
     ensures { result.now ≡ drop 1 args.now }
 {

@@ -23,26 +23,26 @@ use Rattle.grep_run.specs.declared.definitions_file.FileStop.TheVariants.{Failed
 abbrev pub is_equals : ℕ → Bool
 is_equals b = b == 61
 
--- a name in front of a query, which begins behind a byte; none where the name is none
+-- a name in front of a query, which begins after one byte; None if the name is not a name
 abbrev pub parts_at : List ℕ → List ℕ → Option (List ℕ × List ℕ)
 parts_at name [] = None
 parts_at name (b ∷ query) = if is_name name then Some (name, query) else None
 
--- the name and the query of `NAME=QUERY`, none where there is no `=`, or no name in front of the first one
+-- the name and the query of `NAME=QUERY`, None if there is no `=`, or no name in front of the first one
 abbrev pub parts_of : List ℕ → Option (List ℕ × List ℕ)
 parts_of text = parts_at (take (position_or_len is_equals text) text) (drop (position_or_len is_equals text) text)
 
--- a name, defined as a text in which all names are put in, where that is a query
+-- a name, defined as a text in which all names are put in, if that is a query
 abbrev pub defined_as : Defined → List ℕ → List ℕ → Option QueryFault → Result Defined DefineRefusal
 defined_as defined name query None = Ok ((name, query) ∷ defined)
 defined_as defined name query (Some fault) = Err (Query fault)
 
--- the same, where the names can be put in
+-- the same, if the names can be put in
 abbrev pub defined_with : Defined → List ℕ → Result (List ℕ) NameFault → Result Defined DefineRefusal
 defined_with defined name (Ok query) = defined_as defined name query (refused query)
 defined_with defined name (Err fault) = Err (Name fault)
 
--- the same, of a name and a query, where there are some
+-- the same, for a name and a query, if there are any
 abbrev pub defined_by_parts : Defined → Option (List ℕ × List ℕ) → Result Defined DefineRefusal
 defined_by_parts defined None = Err NoName
 defined_by_parts defined (Some parts) = defined_with defined parts.0 (put_in defined parts.1)
@@ -66,7 +66,7 @@ abbrev pub IsStopOf : Result Defined DefineRefusal → DefineStop → Type 0
 IsStopOf result (Refused refusal) = result ≡ Err refusal
 IsStopOf result NoMemory = ⊤
 
--- what a fault of a definition is called here
+-- the stop that a definition's fault becomes
 abbrev pub stop_of : DefineFault → DefineStop
 stop_of (FaultName fault) = Refused (Name fault)
 stop_of (FaultQuery fault) = Refused (Query fault)
@@ -79,7 +79,7 @@ abbrev pub says_something : List ℕ → Bool
 says_something [] = false
 says_something (b ∷ rest) = not (b == 35)
 
--- how many definitions a file has at most
+-- the most definitions that a file may have
 abbrev pub most_definitions : ℕ
 most_definitions = 256
 
@@ -91,16 +91,16 @@ definition_lines bytes = filter says_something (map (λ line. line.bytes) (lines
 abbrev pub are_short : List ℕ → Bool
 are_short bytes = list_all (λ line. not line.long) (lines most_query bytes)
 
--- the definitions of a file, none where a line is too long or there are too many
+-- the definitions of a file, None if a line is too long or there are too many
 abbrev pub definitions_in : List ℕ → Option (List (List ℕ))
 definitions_in bytes = if are_short bytes && nat_le (length (definition_lines bytes)) most_definitions then Some (definition_lines bytes) else None
 
--- where it is told what the files hold: these are the definitions of the file of this name, where one is named
+-- if it is known what the files hold: these are the definitions of the file of this name, or none if no file is named
 abbrev pub AreOfFile : Option Contents → Option (List ℕ) → List (List ℕ) → Type 0
 AreOfFile told None texts = texts ≡ []
 AreOfFile told (Some name) texts = (bytes : List ℕ) × (length bytes ≤ most_file) × IfSome told (λ contents. contents name ≡ Some bytes) × (definitions_in bytes ≡ Some texts)
 
--- why there are none: the file cannot be loaded, is longer than a file may be, or its lines are none
+-- why there are no definitions: the file cannot be loaded, is longer than a file may be, or its lines give none
 abbrev pub HasFileStopCause : Option Contents → Option (List ℕ) → ℕ → ℕ → FileStop → Type 0
 HasFileStopCause told None faults faults' stop = stop ≡ FileNoMemory
 HasFileStopCause told (Some name) faults faults' Failed = Rose faults faults'

@@ -1,4 +1,4 @@
--- What a fault of the sink is called where a search ends with it.
+-- What a fault of the sink becomes when a search ends with it.
 use Rattle.outside.specs.declared.faults.WriteError.{WriteError}
 use Rattle.outside.specs.declared.faults.WriteError.TheVariants.{Failed as WriteFailed, NoMemory as WriteNoMemory}
 use Rattle.grep_run.specs.declared.fault.SearchFault.{SearchFault}

@@ -10,7 +10,7 @@ use Rattle.file_answers.specs.Outputs.{output_of}
 use Rattle.file_answers.specs.declared.mode.Mode.{Mode}
 use Rattle.grep_run.specs.declared.wish.Wish.{Wish}
 
--- what is written, whether names and numbers stand in front of it, how many answers of a file count at most, and the query
+-- what is written, whether names and numbers are in front of it, the most answers of a file that count, and the query
 pub record Request : Type 0 where
   pub mode : Mode
   pub named : Bool
@@ -26,15 +26,15 @@ request_of wish = record { mode = wish.asking.mode; named = wish.named; numbered
 abbrev pub shown_name : List ℕ → List ℕ
 shown_name name = if bytes_eq name (codes "-") then codes "(standard input)" else name
 
--- what stands in front of a line of it
+-- what is in front of each of its lines
 abbrev pub shown_of : Request → List ℕ → Shown
 shown_of r name = record { name = if r.named then Some (shown_name name) else None; numbered = r.numbered }
 
--- the answers of a file, which is searched by itself; a prefix term stands for each of its words that begin so
+-- the answers of a file, which is searched by itself; a prefix term stands for each of the file's words that begin with it
 abbrev pub answers_of : Request → List ℕ → List Extent
 answers_of r bytes = take r.most (wide (file_text bytes) r.form)
 
--- whether it has one
+-- whether it has an answer
 abbrev pub has_answer : Request → List ℕ → Bool
 has_answer r bytes = nat_lt 0 (length (answers_of r bytes))
 

@@ -41,7 +41,7 @@ pub record IsSearchedBy (told : Option Contents) (words : SearchWords) (status :
   pub is : IsAskedBy words asked
   pub ends : Ends told asked defined words.query status old new faults faults' steps steps'
 
--- what is so where a search that the words ask for ends as it does
+-- what holds if a search that the words ask for ends as it does
 abbrev pub WordsEnd : Option Contents → SearchWords → Ended → Option (List ℕ) → Option (List ℕ) → ℕ → ℕ → ℕ → ℕ → Type 0
 WordsEnd told words BadWords old new f f' s s' = ⊥
 WordsEnd told words Help old new f f' s s' = ⊥
@@ -55,7 +55,7 @@ WordsEnd told words NoMemory old new f f' s s' = ⊥
 abbrev pub SearchEnds : Option Contents → List (List ℕ) → Ended → Option (List ℕ) → Option (List ℕ) → ℕ → ℕ → ℕ → ℕ → Type 0
 SearchEnds told words ended old new f f' s s' = (search : SearchWords) × (task_of words ≡ Some (task.Search search)) × WordsEnd told search ended old new f f' s s'
 
--- what is so where a run ends as it does: the words are outside the grammar, ask for help or the version, or ask for a search
+-- what holds if a run ends as it does: the words are outside the grammar, ask for help or the version, or ask for a search
 abbrev pub RunEnds : Option Contents → List (List ℕ) → Ended → Option (List ℕ) → Option (List ℕ) → ℕ → ℕ → ℕ → ℕ → Type 0
 RunEnds told words BadWords old new f f' s s' = task_of words ≡ None
 RunEnds told words Help old new f f' s s' = task_of words ≡ Some task.Help
@@ -65,7 +65,7 @@ RunEnds told words (BadDefinition stop) old new f f' s s' = SearchEnds told word
 RunEnds told words (Searched status) old new f f' s s' = SearchEnds told words (Searched status) old new f f' s s'
 RunEnds told words NoMemory old new f f' s s' = ⊤
 
--- it ended before a file was gone to
+-- it ended before it loaded a file
 abbrev pub IsBeforeFiles : Ended → Type 0
 IsBeforeFiles BadWords = ⊤
 IsBeforeFiles Help = ⊤

@@ -16,12 +16,12 @@ use Rattle.grep_run.specs.declared.outcome.Summary.{Summary}
 use Rattle.grep_run.specs.declared.status.Status.{Status}
 use Rattle.grep_run.specs.declared.status.Status.TheVariants.{Found, NotFound, LeftOut, BadName, BadQuery, WriteFault, NoMemory}
 
--- the form of a text, where the names were put in
+-- the form of a text, if the names were put in
 abbrev pub form_of_text : Result (List ℕ) NameFault → Option Form
 form_of_text (Ok text) = query_form text
 form_of_text (Err fault) = None
 
--- the form of a query with its definitions, none where it is refused
+-- the form of a query with its definitions, None if it is refused
 abbrev pub form_asked : Defined → List ℕ → Option Form
 form_asked defined query = form_of_text (put_in defined query)
 
@@ -47,7 +47,7 @@ is_quiet Count = false
 is_quiet Names = false
 is_quiet Quiet = true
 
--- how a search ends that came to its end: where nothing is to be written, an answer is enough
+-- how a search that came to its end ended: if nothing is to be written, one answer is enough
 abbrev pub end_of : Mode → Summary → Status
 end_of mode summary = if summary.found && is_quiet mode then Found else (if summary.left_out then LeftOut else (if summary.found then Found else NotFound))
 
@@ -59,13 +59,13 @@ pub record IsSearched (told : Option Contents) (asked : Asked) (read : Option Fo
   pub status_is : status ≡ end_of asked.mode summary
   pub searched : AreSearched told (request_with asked form) asked.names.now summary old new faults faults' steps steps'
 
--- a query was read, and its files were searched as far as it went
+-- a query was read, and its files were searched as far as the search went
 pub record IsBegun (told : Option Contents) (asked : Asked) (read : Option Form) (old new : Option (List ℕ)) : Type 0 where
   pub form : Form
   pub form_is : read ≡ Some form
   pub begun : AreBegun told (request_with asked form) asked.names.now old new
 
--- what is so where a text ends as it does
+-- what holds if the search for a text ends as it does
 abbrev pub TextEnds : Option Contents → Asked → List ℕ → Status → Option (List ℕ) → Option (List ℕ) → ℕ → ℕ → ℕ → ℕ → Type 0
 TextEnds told asked text Found old new f f' s s' = IsSearched told asked (query_form text) Found old new f f' s s'
 TextEnds told asked text NotFound old new f f' s s' = IsSearched told asked (query_form text) NotFound old new f f' s s'
@@ -75,7 +75,7 @@ TextEnds told asked text (BadQuery fault) old new f f' s s' = refused text ≡ S
 TextEnds told asked text WriteFault old new f f' s s' = IsBegun told asked (query_form text) old new
 TextEnds told asked text NoMemory old new f f' s s' = Unit {0}
 
--- what is so where a search ends as it does: what was written, and why it ended
+-- what holds if a search ends as it does: what was written, and why it ended
 abbrev pub Ends : Option Contents → Asked → Defined → List ℕ → Status → Option (List ℕ) → Option (List ℕ) → ℕ → ℕ → ℕ → ℕ → Type 0
 Ends told asked defined query Found old new f f' s s' = IsSearched told asked (form_asked defined query) Found old new f f' s s'
 Ends told asked defined query NotFound old new f f' s s' = IsSearched told asked (form_asked defined query) NotFound old new f f' s s'
@@ -85,7 +85,7 @@ Ends told asked defined query (BadQuery fault) old new f f' s s' = (text : List 
 Ends told asked defined query WriteFault old new f f' s s' = IsBegun told asked (form_asked defined query) old new
 Ends told asked defined query NoMemory old new f f' s s' = Unit {0}
 
--- files were searched to the end, or as far as it went
+-- files were searched to the end, or as far as the search went
 abbrev pub FilesEnd : Option Contents → Request → List (List ℕ) → Status → Option (List ℕ) → Option (List ℕ) → ℕ → ℕ → ℕ → ℕ → Type 0
 FilesEnd told r names Found old new f f' s s' = (summary : Summary) × (Found ≡ end_of r.mode summary) × AreSearched told r names summary old new f f' s s'
 FilesEnd told r names NotFound old new f f' s s' = (summary : Summary) × (NotFound ≡ end_of r.mode summary) × AreSearched told r names summary old new f f' s s'

@@ -1,4 +1,4 @@
--- The files that were gone to, in order, and what became of each.
+-- The files that were visited, in order, and what became of each.
 use Rattle.std.specs.Prelude.{◌≡◌, ℕ, ◌+◌, ◌-◌, ◌^◌, ◌≤◌, min, Bool, true, false, List, [], length, take, map, flat_map, sum_by, count_by, Option, Some, IfSome, MatchBool, ⊤, ◌⊎◌, if◌then◌else◌}
 use Rattle.std.specs.List.{AllByRecursion, list_any}
 use Rattle.std.specs.Io.KnownBytes.{Appends}
@@ -14,7 +14,7 @@ use Rattle.grep_run.specs.declared.outcome.Outcome.{Outcome}
 use Rattle.grep_run.specs.declared.outcome.Outcome.TheVariants.{Found, NotFound, TooLong, Failed}
 use Rattle.grep_run.specs.declared.outcome.Summary.{Summary}
 
--- it was searched, and these are its bytes; it has too many; or it could not be loaded
+-- it was searched, and these are its bytes; it has too many bytes; or it could not be loaded
 pub data Fate : Type 0 where
   searched : List ℕ → Fate
   too_long : Fate
@@ -25,7 +25,8 @@ pub record Visit : Type 0 where
   pub name : List ℕ
   pub fate : Fate
 
--- where it is told what the files hold: what was searched is the whole content, and what was left out for its length has one byte too many
+-- if it is known what the files hold: what was searched is the whole content, and what was left out for its length has at least one byte
+-- too many
 abbrev pub IsFate : Option Contents → List ℕ → Fate → Type 0
 IsFate told name (searched bytes) = (length bytes ≤ most_file) × IfSome told (λ contents. contents name ≡ Some bytes)
 IsFate told name too_long = IfSome told (λ contents. (text : List ℕ) × (length text ≡ most_file + 1) × BeginsContent contents name text)
@@ -40,7 +41,7 @@ fate_text r name failed = []
 abbrev pub visit_text : Request → Visit → List ℕ
 visit_text r v = fate_text r v.name v.fate
 
--- what the search of one file comes to
+-- the outcome of the search of one file
 abbrev pub outcome_of : Request → Fate → Outcome
 outcome_of r (searched bytes) = if has_answer r bytes then Found else NotFound
 outcome_of r too_long = TooLong
@@ -63,14 +64,14 @@ is_failed (searched bytes) = false
 is_failed too_long = false
 is_failed failed = true
 
--- how many look-ups the search of a file takes at most: those of a merge of the lists of all parts of the query, with each prefix term one of
--- the words that begin so; of "to".."be" over `to be or not to be` 18
+-- the most look-ups that the search of a file takes: those of a merge of the lists of all parts of the query, with each prefix term as one of
+-- the words that begin with it; for "to".."be" over `to be or not to be` 18
 abbrev pub look_ups : Request → Fate → ℕ
 look_ups r (searched bytes) = merge_cost (file_text bytes) 1 (expansion (file_text bytes) r.form)
 look_ups r too_long = 0
 look_ups r failed = 0
 
--- the names were gone to in order, as far as it went, and each fate is that of its file
+-- the names were visited in order, as far as it went, and each fate is that of its file
 pub record AreVisits (told : Option Contents) (names : List (List ℕ)) (visits : List Visit) : Type 0 where
   pub within : length visits ≤ length names
   pub named : map (λ v. v.name) visits ≡ take (length visits) names
@@ -91,11 +92,11 @@ text_of_visits r visits = flat_map (visit_text r) visits
 abbrev pub failures : List Visit → ℕ
 failures visits = count_by (λ v. is_failed v.fate) visits
 
--- how many look-ups the visits take at most
+-- the most look-ups that the visits take
 abbrev pub all_look_ups : Request → List Visit → ℕ
 all_look_ups r visits = sum_by (λ v. look_ups r v.fate) visits
 
--- one file was visited: what was written, what it came to, whether the files failed, and how many look-ups it took
+-- one file was visited: what was written, its outcome, whether the files failed, and how many look-ups it took
 pub record IsVisited (told : Option Contents) (r : Request) (name : List ℕ) (outcome : Outcome) (old new : Option (List ℕ)) (faults faults' steps steps' : ℕ) : Type 0 where
   pub fate : Fate
   pub is : IsFate told name fate
@@ -110,7 +111,7 @@ pub record IsBegun (told : Option Contents) (r : Request) (name : List ℕ) (old
   pub is : IsFate told name fate
   pub part : GetsPart old new (fate_text r name fate)
 
--- files were visited: all of them, or as many as it takes to know that there is an answer where nothing is written
+-- files were visited: all of them, or, if nothing is to be written, enough to know that there is an answer
 pub record AreSearched (told : Option Contents) (r : Request) (names : List (List ℕ)) (summary : Summary) (old new : Option (List ℕ)) (faults faults' steps steps' : ℕ) : Type 0 where
   pub visits : List Visit
   pub are : AreVisits told names visits

@@ -1,4 +1,4 @@
-ghost use Rattle.std.specs.Prelude.{◌≡◌, ℕ, [], List, length, Option, IfOk, OnOk};
+ghost use Rattle.std.specs.Prelude.{◌≡◌, [], Option, IfOk, OnOk};
 ghost use Rattle.std.specs.List.{AllByRecursion};
 ghost use Rattle.outside.specs.Contents.{Contents};
 ghost use Rattle.gcl_model.specs.FormOf.{form_of};
@@ -18,22 +18,22 @@ use outside::Files;
 use std::alloc::{AllocError, Global};
 use std::thread::{Threads, for_each_mut};
 
-/// After how many bytes the first files are written, so that the first answers come soon; others after two times as many as before.
+/// After this many loaded bytes the first files are written, so that the first answers come soon. Each later round loads twice as many.
 const FIRST_LOADED: u64 = 1 << 20;
 
-/// After how many bytes files are written at the latest.
+/// The most that this number grows to.
 const MOST_LOADED: u64 = 1 << 26;
 
-/// What threads found of files whose turn comes, the first of them last.
+/// What threads found in the files whose turn comes next, in reverse order.
 #[derive(Drop)]
 pub(crate) struct Ahead {
     pub(crate) ready: Vec<Option<Work>>,
-    /// How many files were gone to.
+    /// How many files were visited.
     gone: usize,
     most_loaded: u64,
 }
 
-/// Hands for so many threads, if the files give so many handles.
+/// Hands for `threads` threads, or fewer if the files give fewer handles.
 pub(crate) fn hands_on<F: SharedFiles>(
     alloc: Global,
     files: &F,
@@ -56,7 +56,7 @@ pub(crate) fn hands_on<F: SharedFiles>(
     Ok(hands)
 }
 
-/// Puts what was found of a file at its place.
+/// Puts what was found in a file at its place.
 fn put(ready: &mut Vec<Option<Work>>, work: Work)
     ensures { (told : Option Contents) (r : Request) → AreReady told r ready.old.items → IsSound told r work →
         AreReady told r ready.new.items }
@@ -96,7 +96,7 @@ fn gather<D: Files>(ready: &mut Vec<Option<Work>>, hands: &mut [Hand<D>]) -> boo
     lacks_memory | others_lack
 }
 
-/// So many files of which nothing is found.
+/// `count` files in which nothing is found.
 fn nothing(alloc: Global, count: usize) -> Result<Vec<Option<Work>>, AllocError>
     ensures { IfOk result (λ ready. (told : Option Contents) (r : Request) → AreReady told r ready.items) }
 {
@@ -107,7 +107,7 @@ fn nothing(alloc: Global, count: usize) -> Result<Vec<Option<Work>>, AllocError>
     Ok(ready)
 }
 
-/// Searches files in threads, each of which takes the next one until that is enough.
+/// Searches files in threads. Each takes the next file until `taking` has enough.
 fn search_all<R: Threads + Sync, D: Files + Send>(
     context: &Context<'_, R>,
     wish: &Wish<'_>,
@@ -132,7 +132,7 @@ fn search_all<R: Threads + Sync, D: Files + Send>(
 }
 
 impl Ahead {
-    /// Nothing was searched yet.
+    /// Nothing has been searched yet.
     pub(crate) fn new(alloc: Global) -> Self
         ensures { result.ready.items ≡ [] }
     {
@@ -144,7 +144,7 @@ impl Ahead {
     }
 }
 
-/// Searches those of these files in threads that come next.
+/// Searches the next of these files in threads.
 fn search_ahead<R: Threads + Sync, D: Files + Send>(
     context: &Context<'_, R>,
     wish: &Wish<'_>,
@@ -171,7 +171,7 @@ fn search_ahead<R: Threads + Sync, D: Files + Send>(
     Ok(())
 }
 
-/// What was found of the next file; None where it is to be gone to now.
+/// What was found in the next file. Returns None if the file is to be visited now.
 fn next(ready: &mut Vec<Option<Work>>) -> Option<Work>
     ensures { (told : Option Contents) (r : Request) → AreReady told r ready.old.items →
         IsReady told r result × AreReady told r ready.new.items }
@@ -180,7 +180,7 @@ fn next(ready: &mut Vec<Option<Work>>) -> Option<Work>
     work
 }
 
-/// What was found of the next of these files, after a search of more of them where nothing is left.
+/// What was found in the next of these files. Searches more of them first if nothing is left.
 pub(crate) fn take<R: Threads + Sync, D: Files + Send>(
     context: &Context<'_, R>,
     wish: &Wish<'_>,

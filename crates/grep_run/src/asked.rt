@@ -8,11 +8,11 @@ pub struct Asked<'a> {
     pub mode: Mode,
     /// Whether each line begins with its file's name.
     pub named: bool,
-    /// Whether each line begins with its number, behind the name.
+    /// Whether each line begins with its number, after the name.
     pub numbered: bool,
-    /// How many answers of a file count at most.
+    /// The most answers of a file that count.
     pub most: u64,
-    /// How many files are searched side by side at most.
+    /// The most files that are searched concurrently.
     pub threads: usize,
     /// The files' names, in the order in which they are searched.
     pub names: &'a [Bytes],

@@ -1,4 +1,4 @@
-ghost use Rattle.std.specs.Prelude.{◌≡◌, ◌≤◌, ◌+◌, length, IfOk, OnOk, OnErr, IsErrOf, if◌then◌else◌};
+ghost use Rattle.std.specs.Prelude.{◌≡◌, ◌≤◌, ◌+◌, IfOk, OnOk, OnErr, IsErrOf, if◌then◌else◌};
 ghost use Rattle.std.specs.Io.KnownBytes.{Appends};
 ghost use Rattle.outside.specs.Causes.{Rose};
 ghost use Rattle.gcl_model.specs.FormOf.{form_of};
@@ -24,7 +24,7 @@ use outside::{Files, Sink};
 use std::alloc::Global;
 use std::thread::Threads;
 
-/// Writes the text of a file that was searched, and says whether it has an answer.
+/// Writes the text of a file that was searched, and returns whether it has an answer.
 fn write_answered<K: Sink>(sink: &mut K, answered: &Answered) -> Result<bool, SearchFault>
     ensures written { OnOk result (Appends (K.written sink.old) (K.written sink.new) answered.now.text) }
     ensures part { GetsPart (K.written sink.old) (K.written sink.new) answered.now.text }
@@ -36,7 +36,7 @@ fn write_answered<K: Sink>(sink: &mut K, answered: &Answered) -> Result<bool, Se
     Ok(answered.found)
 }
 
-/// What a search comes to.
+/// The outcome of a search.
 fn outcome_for(found: bool) -> Outcome
     ensures { result ≡ (if found then Outcome.Found else Outcome.NotFound) }
 {
@@ -47,7 +47,7 @@ fn outcome_for(found: bool) -> Outcome
     }
 }
 
-/// Writes what was found of a file.
+/// Writes what was found in a file.
 fn write_work<K: Sink, S: Ledger>(
     alloc: Global,
     sink: &mut K,
@@ -80,7 +80,7 @@ fn write_work<K: Sink, S: Ledger>(
     }
 }
 
-/// Writes what was found of a file; where nothing was, goes to it now.
+/// Writes what was found in a file, or visits it now if nothing was.
 fn visit<F: Files, K: Sink, S: Ledger>(
     alloc: Global,
     files: &mut F,
@@ -108,9 +108,9 @@ fn visit<F: Files, K: Sink, S: Ledger>(
     search_one(alloc, files, sink, steps, wish, name, &mut Vec::new(alloc))
 }
 
-/// Searches the files of these names as `search_files` does, in threads that go to files before their turn. Each thread has one buffer,
-/// and what is found of a file is held until it is written: at most 2 MiB of texts, and one more for each thread. A file that a thread
-/// cannot load is asked for once more in its turn, and what comes of that counts.
+/// Searches the files of these names as `search_files` does, in threads that visit files before their turn. Each thread has one buffer,
+/// and what is found in a file is held until it is written: at most 2 MiB of texts, plus one text for each thread. A file that a thread
+/// cannot load is loaded again in its turn, and that result counts.
 pub(crate) fn search_beside<R: Threads + Sync, F: SharedFiles, K: Sink, S: Ledger, N: Remarks>(
     context: &Context<'_, R>,
     files: &mut F,

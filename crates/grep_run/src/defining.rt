@@ -11,11 +11,11 @@ use std::alloc::Global;
 /// Why a definition is refused.
 #[derive(Clone, Copy, Debug, PartialEq, Eq)]
 pub enum DefineRefusal {
-    /// It has no `=`, or no name in front of the first one.
+    /// It has no `=`, or no name in front of the first `=`.
     NoName,
     /// A name in its text is not defined, or with the names the text is too long.
     Name(NameFault),
-    /// Its text, with all names put in, is no query.
+    /// Its text, with all names put in, is not a query.
     Query(QueryFault),
 }
 
@@ -27,7 +27,7 @@ pub enum DefineStop {
     NoMemory,
 }
 
-/// What a fault of a definition is called here.
+/// The stop that a definition's fault becomes.
 fn stop_of(fault: DefineFault) -> DefineStop
     ensures { result ≡ stop_of fault }
 {
@@ -45,7 +45,7 @@ fn is_no_equals(b: u8) -> bool
     b != b'='
 }
 
-/// How many bytes are in front of the first `=`, all where there is none.
+/// How many bytes are in front of the first `=`, or all of them if there is none.
 fn front_len(text: &[u8]) -> usize
     ensures value { result ≡ position_or_len is_equals text.now }
     ensures bound { result ≤ length text.now }
@@ -53,7 +53,7 @@ fn front_len(text: &[u8]) -> usize
     text.iter().take_while(|b| is_no_equals(**b)).count()
 }
 
-/// The name and the query of `NAME=QUERY`, None where there is no `=`, or no name in front of the first one.
+/// The name and the query of `NAME=QUERY`. Returns None if there is no `=`, or no name in front of the first `=`.
 pub fn definition_parts(text: &[u8]) -> Option<(&[u8], &[u8])>
     ensures { option_map (λ parts. (parts.0.now, parts.1.now)) result ≡ parts_of text.now }
 {

@@ -1,4 +1,4 @@
-ghost use Rattle.std.specs.Prelude.{◌≡◌, IfErr, IfOk, IsNone, IfSome, None, OnOk, Some};
+ghost use Rattle.std.specs.Prelude.{◌≡◌, IfErr, IfOk, None, OnOk, Some};
 ghost use Rattle.grep_run.specs.Definitions.{AreOfFile, HasFileStopCause, definitions_in, says_something};
 ghost use Rattle.grep_run.specs.declared.definitions_file.FileStop.TheVariants.{NoMemory};
 
@@ -9,13 +9,13 @@ use outside::{FileError, Files, Loaded};
 use script_lang::line_at;
 use std::alloc::{AllocError, Global};
 
-/// How many bytes a line has at most: those of a query.
+/// The most bytes that a line may have: as many as a query.
 const MOST_LINE: usize = 65_536;
 
-/// How many definitions a file has at most.
+/// The most definitions that a file may have.
 const MOST_DEFINITIONS: usize = 256;
 
-/// Why there are no definitions of a file.
+/// Why a file gave no definitions.
 #[derive(Clone, Copy, Debug, PartialEq, Eq)]
 pub enum FileStop {
     /// It cannot be loaded.
@@ -46,7 +46,7 @@ fn says_something(line: &[u8]) -> bool
     }
 }
 
-/// The definitions of a file with these bytes, None where a line is too long or there are too many.
+/// The definitions of a file with these bytes. Returns None if a line is too long or there are too many definitions.
 fn definitions_in(alloc: Global, bytes: &[u8]) -> Result<Option<WordList>, AllocError>
     ensures { IfOk result (λ texts. texts ≡ definitions_in bytes.now) }
 {
@@ -68,7 +68,7 @@ fn definitions_in(alloc: Global, bytes: &[u8]) -> Result<Option<WordList>, Alloc
     Ok(Some(texts))
 }
 
-/// The definitions of the file of this name, none where no file is named.
+/// The definitions of the file of this name, or no definitions if no file is named.
 pub(crate) fn file_definitions<F: Files>(
     alloc: Global,
     files: &mut F,

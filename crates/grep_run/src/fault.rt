@@ -5,7 +5,7 @@ ghost use Rattle.grep_run.specs.declared.fault.SearchFault.TheVariants.{NoMemory
 use outside::WriteError;
 use std::alloc::AllocError;
 
-/// What ends a search before its end.
+/// What ends a search early.
 #[derive(Clone, Copy, Debug, PartialEq, Eq)]
 pub enum SearchFault {
     /// The sink failed.

@@ -1,4 +1,4 @@
-ghost use Rattle.std.specs.Prelude.{◌≡◌, ◌≤◌, ◌||◌, length, IfOk, OnOk, OnErr, IsErrOf};
+ghost use Rattle.std.specs.Prelude.{◌≡◌, ◌||◌, IfOk, OnOk, OnErr, IsErrOf};
 ghost use Rattle.outside.specs.Causes.{Rose};
 ghost use Rattle.gcl_model.specs.FormOf.{form_of};
 ghost use Rattle.gcl_model.specs.WellFormed.{IsWellFormed};
@@ -15,7 +15,7 @@ use gcl_model::{Bytes, Ledger, Steps};
 use outside::{Files, Sink};
 use std::alloc::Global;
 
-/// With one outcome more.
+/// The summary with one more outcome.
 pub(crate) fn after(summary: Summary, outcome: Outcome) -> Summary
     ensures found { result.found ≡ (summary.found || is_found outcome) }
     ensures left_out { result.left_out ≡ (summary.left_out || is_left_out outcome) }
@@ -27,8 +27,8 @@ pub(crate) fn after(summary: Summary, outcome: Outcome) -> Summary
 }
 
 /// Searches the files of these names one after another, and writes what is asked of each. A file that cannot be loaded, or has too many
-/// bytes, is left out, and the search goes on with the next one; a write that fails ends it. Where nothing is written, the first answer
-/// ends it.
+/// bytes, is left out, and the search goes on with the next one; a write that fails ends it. If nothing is to be written, the first
+/// answer ends it.
 pub fn search_files<F: Files, K: Sink, S: Ledger, N: Remarks>(
     alloc: Global,
     files: &mut F,

@@ -17,7 +17,7 @@ use std::alloc::{AllocError, Global};
 use std::mem;
 use std::snapshot::Snapshot;
 
-/// What one thread has: its own handle on the files, a buffer that they are loaded into, and what it found.
+/// What one thread has: its own handle to the files, a buffer that they are loaded into, and what it found.
 #[derive(Drop)]
 pub(crate) struct Hand<D> {
     pub(crate) files: D,
@@ -27,7 +27,7 @@ pub(crate) struct Hand<D> {
     pub(crate) lacks_memory: bool,
 }
 
-/// Searches what was loaded. Where there is no room for its text, the bytes are kept.
+/// Searches what was loaded. If there is no room or memory for its text, the bytes are kept.
 fn search(alloc: Global, wish: &Wish<'_>, name: &[u8], buffer: &mut Vec<u8>) -> Gone
     requires well_formed { IsWellFormed (form_of wish.now.asking.expr.now) }
     requires short { length buffer.old.items ≤ most_file }
@@ -40,7 +40,7 @@ fn search(alloc: Global, wish: &Wish<'_>, name: &[u8], buffer: &mut Vec<u8>) -> 
     }
 }
 
-/// Loads and searches a file; None where it cannot be loaded.
+/// Loads and searches a file. Returns None if it cannot be loaded.
 fn load<D: Files>(
     alloc: Global,
     wish: &Wish<'_>,
@@ -60,7 +60,7 @@ fn load<D: Files>(
     }
 }
 
-/// Goes to a file, and keeps what is found. A file that cannot be loaded is left to its turn.
+/// Visits a file, and keeps what is found. A file that cannot be loaded is left for its turn.
 fn go_to<D: Files>(
     alloc: Global,
     wish: &Wish<'_>,
@@ -95,7 +95,7 @@ fn go_to<D: Files>(
     Ok(())
 }
 
-/// Goes to files as long as there are some to take.
+/// Visits files while there are some to take.
 pub(crate) fn go_to_taken<D: Files>(
     alloc: Global,
     wish: &Wish<'_>,

@@ -18,10 +18,10 @@ use passages::Shown;
 use std::alloc::{AllocError, Global};
 use text_search::{QueryText, expanded};
 
-/// How many bytes a file has at most.
+/// The most bytes that a file may have.
 pub const MOST_FILE: u64 = 1 << 26;
 
-/// The name that a file is shown by: that of standard input is `(standard input)`.
+/// The name that a file is shown by: `(standard input)` for standard input.
 fn shown_name(name: &[u8]) -> &[u8]
     ensures { result.now ≡ shown_name name.now }
 {
@@ -32,7 +32,7 @@ fn shown_name(name: &[u8]) -> &[u8]
     }
 }
 
-/// What of a file's name stands in front of its lines.
+/// The shown name of a file, and what is in front of its lines.
 fn label(alloc: Global, wish: &Wish<'_>, name: &[u8]) -> Result<Label, AllocError>
     ensures name { IfOk result (λ label. label.name ≡ shown_name name.now) }
     ensures shown { IfOk result (λ label. label.shown ≡ shown_of (request_of wish.now) name.now) }
@@ -52,7 +52,7 @@ fn label(alloc: Global, wish: &Wish<'_>, name: &[u8]) -> Result<Label, AllocErro
     })
 }
 
-/// Writes what is asked of a file with these bytes, and says whether it has an answer.
+/// Writes what is asked of a file with these bytes, and returns whether it has an answer.
 pub(crate) fn search_bytes<K: Sink, S: Ledger>(
     alloc: Global,
     sink: &mut K,

@@ -1,4 +1,4 @@
-/// What the search of one file comes to.
+/// The outcome of the search of one file.
 #[derive(Clone, Copy, Debug, PartialEq, Eq)]
 pub enum Outcome {
     /// The file has an answer.
@@ -11,7 +11,7 @@ pub enum Outcome {
     Failed,
 }
 
-/// What the search of files comes to.
+/// The outcome of the search of several files.
 #[derive(Clone, Copy, Debug, PartialEq, Eq)]
 pub struct Summary {
     /// Some file has an answer.

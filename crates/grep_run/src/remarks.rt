@@ -6,25 +6,25 @@ use crate::tally::Tally;
 use grep_words::SearchWords;
 use query_names::Definitions;
 
-/// Is told what became of each file, and which definition or query is refused, for messages. It tells nothing.
+/// Receives what became of each file, and which definition or query is refused, for messages. It returns nothing.
 pub trait Remarks {
     /// The words ask for this search.
     fn begins(&mut self, words: &SearchWords);
 
-    /// The file of this name was gone to.
+    /// The file of this name was visited.
     fn visited(&mut self, name: &[u8], outcome: Outcome);
 
-    /// The definition `NAME=QUERY` was not made. These are the ones in front of it.
+    /// The definition `NAME=QUERY` was not made. `definitions` are the ones made before it.
     fn define_refused(&mut self, definitions: &Definitions, text: &[u8], stop: DefineStop);
 
-    /// The search ended so, and the files that were searched have this of what the query names.
+    /// The search ended with this status. `tally` has what the searched files have of what the query names.
     fn counted(&mut self, tally: &Tally, status: Status);
 
-    /// The search for this query ended so.
+    /// The search for this query ended with this status.
     fn ended(&mut self, query: &Query<'_>, status: Status);
 }
 
-/// Says nothing.
+/// Ignores all remarks.
 #[derive(Clone, Copy, Debug)]
 pub struct NoRemarks;
 

@@ -5,7 +5,7 @@ use gcl_model::Bytes;
 use outside::{Sink, WriteError};
 use std::alloc::Global;
 
-/// Keeps what is written, as long as there is room for it: what has no room is refused for want of memory.
+/// Keeps what is written while there is room for it. A piece that has no room is refused as out of memory.
 #[derive(Drop)]
 pub(crate) struct RoomSink {
     taken: Vec<u8>,
@@ -13,7 +13,7 @@ pub(crate) struct RoomSink {
 }
 
 impl RoomSink {
-    /// Nothing was written yet. It takes no memory.
+    /// Nothing has been written yet. It takes no memory.
     pub(crate) fn new(alloc: Global, room: usize) -> Self
         ensures { ⟦<RoomSink as Sink>⟧.written result ≡ Some [] }
     {

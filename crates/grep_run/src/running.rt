@@ -23,11 +23,11 @@ use std::thread::Threads;
 pub enum Ended {
     /// The words are outside the grammar. Nothing was read or written.
     BadWords,
-    /// The words ask for the text on how the program is used. Nothing was read or written.
+    /// The words ask for the text about how the program is used. Nothing was read or written.
     Help,
     /// The words ask for the program's version. Nothing was read or written.
     Version,
-    /// There are no definitions of the file that the words name. Nothing was written.
+    /// The file that the words name gave no definitions. Nothing was written.
     NoDefinitions(FileStop),
     /// A definition is refused. Nothing was written.
     BadDefinition(DefineStop),
@@ -65,7 +65,7 @@ fn define_both<N: Remarks>(
     }
 }
 
-/// Searches as the words ask for.
+/// Searches as the words ask.
 fn search_by_words<R: Threads + Sync, F: SharedFiles, K: Sink, S: Ledger, N: Remarks>(
     context: &Context<'_, R>,
     words: &SearchWords,
@@ -112,7 +112,7 @@ fn search_by_words<R: Threads + Sync, F: SharedFiles, K: Sink, S: Ledger, N: Rem
     Ended::Searched(status)
 }
 
-/// Does what the words of the command line ask for: all that the program does, but for the texts of `--help` and `--version`.
+/// Does what the words of the command line ask for: all that the program does, except for the texts of `--help` and `--version`.
 ///
 /// Words outside the grammar, and a definition or a query that is refused, write nothing; the search is that of `search`.
 pub fn run<R: Threads + Sync, F: SharedFiles, K: Sink, S: Ledger, N: Remarks>(
@@ -123,11 +123,12 @@ pub fn run<R: Threads + Sync, F: SharedFiles, K: Sink, S: Ledger, N: Remarks>(
     steps: &mut Steps<S>,
     remarks: &mut N,
 ) -> Ended
-    // Why it ended so, and what was written: the words are outside the grammar exactly where that is the answer.
+    // Why it ended so, and what was written. Unless memory ran out, it is `BadWords` exactly if the words are outside the grammar.
     ensures ends { RunEnds (F.held files.old) (map string_bytes words.now) result (K.written sink.old) (K.written sink.new)
         (F.faults files.old) (F.faults files.new) steps.old steps.new }
 
-    // A write fault is one of the sink, and a refusal leaves everything as it was.
+    // A write fault is one of the sink. A run that ends before it reads files leaves them unchanged, and one that ends before it writes
+    // leaves the sink unchanged.
     ensures write_fault { result ≡ Ended.Searched Status.WriteFault → Rose (K.faults sink.old) (K.faults sink.new) }
     ensures unread { IsBeforeFiles result → files.new ≡ files.old }
     ensures unwritten { IsBeforeWriting result → sink.new ≡ sink.old }

@@ -24,8 +24,8 @@ use outside::Sink;
 use query_names::{NameFault, put_in};
 use std::thread::Threads;
 
-/// Searches the files of these names, side by side where that is asked for. Where the first answer ends the search, one file comes after
-/// another, so that no file behind it is gone to.
+/// Searches the files of these names, concurrently if that is asked for. If the first answer ends the search, files are searched one after
+/// another, so that no file after it is visited.
 fn search_each<R: Threads + Sync, F: SharedFiles, K: Sink, S: Ledger, N: Remarks>(
     context: &Context<'_, R>,
     files: &mut F,
@@ -49,7 +49,7 @@ fn search_each<R: Threads + Sync, F: SharedFiles, K: Sink, S: Ledger, N: Remarks
     search_beside(context, files, sink, steps, wish, names, remarks)
 }
 
-/// Searches the files of these names, and says how it ended.
+/// Searches the files of these names, and returns how it ended.
 fn search_for<R: Threads + Sync, F: SharedFiles, K: Sink, S: Ledger, N: Remarks>(
     context: &Context<'_, R>,
     files: &mut F,
@@ -72,7 +72,7 @@ fn search_for<R: Threads + Sync, F: SharedFiles, K: Sink, S: Ledger, N: Remarks>
     }
 }
 
-/// Searches the files for an expression, and tells what they have of the words that it names.
+/// Searches the files for an expression, and reports what they have of the words that it names.
 fn search_expr<R: Threads + Sync, F: SharedFiles, K: Sink, S: Ledger, N: Remarks>(
     context: &Context<'_, R>,
     files: &mut F,

@@ -13,11 +13,11 @@ pub enum Status {
     Found,
     /// No file has an answer, and no file was left out.
     NotFound,
-    /// Some file could not be loaded or is too long; each other one was searched.
+    /// Some file could not be loaded or is too long; all others were searched.
     LeftOut,
     /// A name in the query cannot be put in. Nothing was read or written.
     BadName(NameFault),
-    /// The text is no query. Nothing was read or written.
+    /// The text is not a query. Nothing was read or written.
     BadQuery(QueryFault),
     /// The sink failed.
     WriteFault,
@@ -46,7 +46,7 @@ pub fn number(status: Status) -> u8
     }
 }
 
-/// How a search ended that came to its end: where nothing is to be written, an answer is enough.
+/// How a search that came to its end ended. If nothing is to be written, one answer is enough.
 pub(crate) fn end_of(mode: Mode, summary: Summary) -> Status
     ensures { result ≡ end_of mode summary }
 {

@@ -1,9 +1,9 @@
 use std::sync::atomic::{AtomicU64, Ordering};
 
-/// How many bytes of texts are held until they are written, but for those of one file of each thread.
+/// The most bytes of texts that are held until they are written, except for those of one file for each thread.
 const MOST_HELD: u64 = 1 << 21;
 
-/// Which names threads have taken, and how much they hold. It is for the even use of threads, and no clause speaks of its numbers.
+/// Which names threads have taken, and how much they hold. It keeps threads evenly busy, and no clause mentions its numbers.
 #[derive(Drop)]
 pub(crate) struct Taking {
     next: AtomicU64,
@@ -13,7 +13,7 @@ pub(crate) struct Taking {
 }
 
 impl Taking {
-    /// No name is taken yet. Names are taken until so many bytes were loaded, or the texts are enough to be written.
+    /// No name is taken yet. Names are taken until `most_loaded` bytes are loaded, or there is enough text to write.
     pub(crate) fn new(most_loaded: u64) -> Self {
         Taking {
             next: AtomicU64::new(0),
@@ -23,7 +23,7 @@ impl Taking {
         }
     }
 
-    /// Takes the next name, unless that is enough.
+    /// Takes the next name, unless enough are taken.
     pub(crate) fn take(&self) -> Option<usize> {
         let is_enough = self.held.load(Ordering::SeqCst) >= MOST_HELD
             || self.loaded.load(Ordering::SeqCst) >= self.most_loaded;
@@ -33,7 +33,7 @@ impl Taking {
         Some(self.next.fetch_add(1, Ordering::SeqCst) as usize)
     }
 
-    /// A file of so many bytes was loaded, and so many are held of it.
+    /// A file of `loaded` bytes was loaded, and `held` bytes are held for it.
     pub(crate) fn note(&self, loaded: usize, held: usize) {
         let _ = self.loaded.fetch_add(loaded as u64, Ordering::SeqCst);
         let _ = self.held.fetch_add(held as u64, Ordering::SeqCst);

@@ -3,7 +3,7 @@ use std::alloc::{AllocError, Global};
 use std::sync::atomic::{AtomicU64, Ordering};
 use text_search::QueryText;
 
-/// A word, a tag or a prefix that a query names, and how many places the searched files have of it.
+/// A word, a tag or a prefix that a query names, and how many places it has in the searched files.
 #[derive(Drop)]
 pub struct TermTally {
     token: Bytes,
@@ -11,12 +11,12 @@ pub struct TermTally {
 }
 
 impl TermTally {
-    /// The token; that of a prefix ends with `*`.
+    /// The token. For a prefix it ends with `*`.
     pub fn token(&self) -> &[u8] {
         self.token.as_slice()
     }
 
-    /// How many places there are; of a prefix at least one where there are any.
+    /// How many places there are; for a prefix, how many files have a word that begins with it.
     pub fn places(&self) -> u64 {
         self.places.load(Ordering::SeqCst)
     }
@@ -32,7 +32,8 @@ impl TermTally {
     }
 }
 
-/// An element that a query asks for, as `"<p>".."</p>"`, and how many the searched files have of its opening tags and of such elements.
+/// An element that a query asks for, such as `"<p>".."</p>"`, and how many of its opening tags and of such elements the searched files
+/// have.
 #[derive(Drop)]
 pub struct ElementTally {
     open: Bytes,
@@ -42,12 +43,12 @@ pub struct ElementTally {
 }
 
 impl ElementTally {
-    /// The opening tag, as `<p>`.
+    /// The opening tag, such as `<p>`.
     pub fn open(&self) -> &[u8] {
         self.open.as_slice()
     }
 
-    /// The closing tag, as `</p>`.
+    /// The closing tag, such as `</p>`.
     pub fn close(&self) -> &[u8] {
         self.close.as_slice()
     }
@@ -57,7 +58,7 @@ impl ElementTally {
         self.opens.load(Ordering::SeqCst)
     }
 
-    /// How many opening tags are closed before the next one opens: so many answers the query has.
+    /// How many opening tags are closed before the next one opens: the query has that many answers.
     pub fn elements(&self) -> u64 {
         self.elements.load(Ordering::SeqCst)
     }
@@ -73,13 +74,13 @@ impl ElementTally {
     }
 }
 
-/// Those of rising places that are not in front of this one.
+/// The places that are at or after `place`. `places` is rising.
 fn from_place(places: &[u32], place: u32) -> &[u32] {
     let before = places.iter().take_while(|other| **other < place).count();
     &places[before..]
 }
 
-/// How many openings have a closing in front of the next opening. It goes over both once.
+/// How many openings have a closing before the next opening. It passes over both lists once.
 fn closed_count(opens: &[u32], closes: &[u32]) -> u64 {
     let mut count = 0u64;
     let mut left = closes;
@@ -95,8 +96,8 @@ fn closed_count(opens: &[u32], closes: &[u32]) -> u64 {
     count
 }
 
-/// What the searched files have of the words, tags and elements that a query names. Threads add to it side by side. It is for messages, and
-/// no clause speaks of its numbers.
+/// What the searched files have of the words, tags and elements that a query names. Threads add to it concurrently. It is for messages, and
+/// no clause mentions its numbers.
 #[derive(Drop)]
 pub struct Tally {
     terms: Vec<TermTally>,
@@ -104,7 +105,7 @@ pub struct Tally {
 }
 
 impl Tally {
-    /// The words, tags and elements of a query, of which no file was searched yet. Err comes for want of memory alone.
+    /// The words, tags and elements of a query, before any file is searched. Err means out of memory.
     pub(crate) fn of(alloc: Global, expr: &Expr) -> Result<Self, AllocError> {
         let mut tally = Tally {
             terms: Vec::new(alloc),
@@ -134,7 +135,7 @@ impl Tally {
         }
     }
 
-    /// Puts a token, where it is not there.
+    /// Adds a token, if it is not there yet.
     fn put_term(&mut self, alloc: Global, token: &[u8]) -> Result<(), AllocError> {
         if self.terms.iter().any(|term| term.token.as_slice() == token) {
             return Ok(());
@@ -147,7 +148,7 @@ impl Tally {
         Ok(())
     }
 
-    /// Puts each of these tokens.
+    /// Adds each of these tokens.
     fn put_terms(&mut self, alloc: Global, tokens: &[Bytes]) -> Result<(), AllocError> {
         for token in tokens {
             self.put_term(alloc, token.as_slice())?;
@@ -155,7 +156,7 @@ impl Tally {
         Ok(())
     }
 
-    /// Puts the element that a chain asks for, where it asks for one that is not there.
+    /// Adds the element that a chain asks for, if it asks for one that is not there yet.
     fn put_element(&mut self, alloc: Global, operands: &[Expr]) -> Result<(), AllocError> {
         let [Expr::Term(open), Expr::Term(close)] = operands else {
             return Ok(());
@@ -187,7 +188,7 @@ fn is_element(open: &[u8], close: &[u8]) -> bool {
     }
 }
 
-/// Puts what an expression names.
+/// Adds what an expression names.
 #[cycle(put)]
 fn put_expr(alloc: Global, expr: &Expr, tally: &mut Tally) -> Result<(), AllocError> {
     match expr {
@@ -210,7 +211,7 @@ fn put_expr(alloc: Global, expr: &Expr, tally: &mut Tally) -> Result<(), AllocEr
     }
 }
 
-/// Puts what each operand names.
+/// Adds what each operand names.
 #[cycle(put)]
 fn put_each(alloc: Global, operands: &[Expr], tally: &mut Tally) -> Result<(), AllocError> {
     for operand in operands {

@@ -12,7 +12,7 @@ use gcl_model::{Bytes, Ledger, Question, Steps, uncounted};
 use std::alloc::Global;
 use std::snapshot::Snapshot;
 
-/// How many bytes more than two times its file a text may have to be held until it is written.
+/// A text is held until it is written if it has at most this many bytes more than two times its file.
 const ROOM: usize = 4_096;
 
 /// What a file's search gave: whether there is an answer, and what is written.
@@ -22,27 +22,27 @@ pub(crate) struct Answered {
     pub(crate) text: Bytes,
 }
 
-/// A file that was gone to.
+/// A file that was visited.
 #[derive(Drop)]
 pub(crate) enum Gone {
-    /// What its search gave. Its bytes were let go, and stand in clauses alone.
+    /// What its search gave. Its bytes are not kept, and appear only in clauses.
     Searched(Snapshot<Vec<u8>>, Answered),
     /// Its bytes. Its text is too long to be held, and is made as it is written.
     Loaded(Bytes),
     TooLong,
 }
 
-/// A file that was gone to before its turn.
+/// A file that was visited before its turn.
 #[derive(Drop)]
 pub(crate) struct Work {
-    /// How many names are in front of its own.
+    /// How many names come before its own.
     pub(crate) place: usize,
     pub(crate) name: Bytes,
     pub(crate) gone: Gone,
 }
 
 impl Work {
-    /// As how many bytes it counts until it is written.
+    /// How many bytes it counts for until it is written.
     pub(crate) fn size(&self) -> usize {
         let held = match &self.gone {
             Gone::Searched(_, answered) => answered.text.len(),
@@ -53,7 +53,7 @@ impl Work {
     }
 }
 
-/// As how many bytes a file counts next to its text.
+/// How many bytes a file counts for besides its text.
 const WORK: usize = 256;
 
 /// What is the text of a file?
@@ -97,7 +97,7 @@ impl Question for TextOf<'_> {
     }
 }
 
-/// Searches a file that was loaded; None where there is no room for its text.
+/// Searches a file that was loaded. Returns None if there is no room or memory for its text.
 pub(crate) fn answer(alloc: Global, wish: &Wish<'_>, name: &[u8], bytes: &[u8]) -> Option<Answered>
     requires well_formed { IsWellFormed (form_of wish.now.asking.expr.now) }
     requires short { length bytes.now ≤ most_file }

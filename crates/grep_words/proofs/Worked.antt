@@ -1,7 +1,7 @@
 -- The words, worked out: each is what clap makes of them.
-use Rattle.std.proofs.Common.{◌≡◌, ℕ, List, [], ◌∷◌, true, false, refl, codes, Option, Some, None}
+use Rattle.std.proofs.Common.{◌≡◌, [], ◌∷◌, true, false, refl, codes, Some, None}
 use Rattle.clap.proofs.OnLiterals.{clap_on_literals}
-use Rattle.file_answers.specs.declared.mode.Mode.TheVariants.{Lines, Answers, Count}
+use Rattle.file_answers.specs.declared.mode.Mode.TheVariants.{Lines, Answers}
 use Rattle.grep_words.specs.Grammar.{most_answers, task_of}
 use Rattle.grep_words.specs.declared.task.SearchWords.{SearchWords}
 use Rattle.grep_words.specs.declared.task.Task.TheVariants.{Help, Search}

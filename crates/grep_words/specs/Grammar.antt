@@ -11,15 +11,15 @@ use Rattle.grep_words.specs.declared.task.SearchWords.{SearchWords}
 use Rattle.grep_words.specs.declared.task.Task.{Task}
 use Rattle.grep_words.specs.declared.task.Task.TheVariants.{Help, Version, Search}
 
--- the greatest number that 18 digits write: no file has as many answers
+-- the greatest number of 18 digits: no file has that many answers
 abbrev pub most_answers : ℕ
 most_answers = 999999999999999999
 
--- how many definitions the words have at most
+-- the most definitions that the words may have
 abbrev pub most_defines : ℕ
 most_defines = 256
 
--- how many files are searched side by side at most
+-- the most files that are searched concurrently
 abbrev pub most_threads : ℕ
 most_threads = 16
 
@@ -27,7 +27,7 @@ most_threads = 16
 abbrev pub is_given : Text → List Row → Bool
 is_given name rows = nat_lt 0 (count_of name rows)
 
--- the values of an option, or the words that are none
+-- the values of an option, or the words that are not options
 abbrev pub values_in : Text → List Row → List Text
 values_in name rows = unwrap_or (all_of name rows) []
 
@@ -43,17 +43,17 @@ mode_from _ _ _ _ = None
 abbrev pub mode_in : List Row → Option Mode
 mode_in rows = mode_from (is_given (codes "only-answers") rows) (is_given (codes "count") rows) (is_given (codes "files-with-answers") rows) (is_given (codes "quiet") rows)
 
--- the number of `-m`: all answers where it is not given
+-- the number of `-m`: all answers if it is not given
 abbrev pub most_from : Option Text → Option ℕ
 most_from None = Some most_answers
 most_from (Some text) = number_of text
 
--- the number of `-t`, from 1 to 16: 4 where it is not given
+-- the number of `-t`, from 1 to 16: 4 if it is not given
 abbrev pub threads_from : Option Text → Option ℕ
 threads_from None = Some 4
 threads_from (Some text) = option_and_then (λ n. if nat_le 1 n && nat_le n most_threads then Some n else None) (number_of text)
 
--- the files: standard input, named `-`, where there are none
+-- the files: standard input, named `-`, if there are none
 abbrev pub files_from : List Text → List Text
 files_from [] = codes "-" ∷ []
 files_from (name ∷ names) = name ∷ names
@@ -92,6 +92,6 @@ is_clear (k ∷ ks) = false
 abbrev pub are_taken : List Text → Bool
 are_taken words = is_clear (fault_of program words)
 
--- what the words ask for, none where they are outside the grammar
+-- what the words ask for, or None if they are outside the grammar
 abbrev pub task_of : List Text → Option Task
 task_of words = if are_taken words then task_in (matches_of program words) else None

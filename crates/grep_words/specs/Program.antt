@@ -1,5 +1,5 @@
--- The program's options, as they are told to clap.
-use Rattle.std.specs.Prelude.{ℕ, true, List, [], ◌∷◌, codes, Some}
+-- The program's options, as they are given to clap.
+use Rattle.std.specs.Prelude.{ℕ, true, codes, Some}
 use Rattle.clap.specs.Words.{App, Rule, Text, new_app, new_rule, with_rule}
 use Rattle.clap.specs.Simple.{on_top}
 use Rattle.clap.specs.declared.builder.action.ArgAction.TheVariants.{Append, Count, Set}
@@ -12,7 +12,7 @@ flag name = record (new_rule name) { long = Some name; action = Some Count }
 abbrev pub valued : Text → Rule
 valued name = record (new_rule name) { long = Some name; action = Some Set }
 
--- with a letter beside its name
+-- with a letter in addition to its name
 abbrev pub short : ℕ → Rule → Rule
 short letter rule = record rule { short = Some letter }
 
@@ -20,11 +20,11 @@ short letter rule = record rule { short = Some letter }
 abbrev pub define : Rule
 define = short 100 (record (new_rule (codes "define")) { long = Some (codes "define"); action = Some Append })
 
--- the words that are no options
+-- the words that are not options
 abbrev pub words : Rule
 words = record (new_rule (codes "words")) { action = Some Append }
 
--- no word is the program's name, none asks for clap's own help, and an option that comes again takes the place of the first one
+-- no word is the program's name, none asks for clap's own help, and a repeated option replaces the earlier one
 abbrev pub plain : App → App
 plain = on_top (λ s. record s { no_binary_name = true; disable_help_flag = true; args_override_self = true })
 
@@ -38,7 +38,7 @@ abbrev pub with_flags : App → App
 with_flags app = with_rule (with_rule (with_rule app
     (short 104 (flag (codes "no-filename")))) (short 78 (flag (codes "no-line-number")))) (short 115 (flag (codes "no-messages")))
 
--- those that ask for a text on the program
+-- those that ask for a text about the program
 abbrev pub with_texts : App → App
 with_texts app = with_rule (with_rule app (flag (codes "help"))) (flag (codes "version"))
 
@@ -47,7 +47,7 @@ abbrev pub with_values : App → App
 with_values app = with_rule (with_rule (with_rule app
     (short 109 (valued (codes "max-count")))) (short 68 (valued (codes "definitions")))) (short 116 (valued (codes "threads")))
 
--- definitions, and the words that are no options
+-- definitions, and the words that are not options
 abbrev pub with_words : App → App
 with_words app = with_rule (with_rule app define) words
 

@@ -14,7 +14,7 @@ fn flag<'a>(alloc: Global, name: &'a str) -> Arg<'a>
     Arg::new(alloc, name).long(name).action(ArgAction::Count)
 }
 
-/// The same with a letter beside its name.
+/// The same with a letter in addition to its name.
 fn short_flag<'a>(alloc: Global, name: &'a str, letter: char) -> Arg<'a>
     ensures rule { rule_of result ≡ short letter (flag name.entry.now) }
     ensures local { result.global ≡ false }
@@ -22,7 +22,7 @@ fn short_flag<'a>(alloc: Global, name: &'a str, letter: char) -> Arg<'a>
     flag(alloc, name).short(letter)
 }
 
-/// An option with a value, of which the last one counts.
+/// An option with a value. The last value counts.
 fn valued<'a>(alloc: Global, name: &'a str, letter: char) -> Arg<'a>
     ensures rule { rule_of result ≡ short letter (valued name.entry.now) }
     ensures local { result.global ≡ false }
@@ -33,7 +33,7 @@ fn valued<'a>(alloc: Global, name: &'a str, letter: char) -> Arg<'a>
         .short(letter)
 }
 
-/// The option for definitions, each of which counts.
+/// The option for definitions. Each one counts.
 fn define<'a>(alloc: Global) -> Arg<'a>
     ensures rule { rule_of result ≡ define }
     ensures local { result.global ≡ false }
@@ -44,7 +44,7 @@ fn define<'a>(alloc: Global) -> Arg<'a>
         .short('d')
 }
 
-/// The words that are no options: the query and the files.
+/// The words that are not options: the query and the files.
 fn words<'a>(alloc: Global) -> Arg<'a>
     ensures rule { rule_of result ≡ words }
     ensures local { result.global ≡ false }
@@ -52,7 +52,7 @@ fn words<'a>(alloc: Global) -> Arg<'a>
     Arg::new(alloc, "words").action(ArgAction::Append)
 }
 
-/// The command with no option yet. No word is its name, and an option that comes again takes the place of the first one.
+/// The command with no options yet. None of the words is its name, and a repeated option replaces the earlier one.
 fn bare<'a>(alloc: Global) -> Command<'a>
     ensures { app_of result ≡ plain (new_app (codes "gclgrep")) }
 {
@@ -85,7 +85,7 @@ fn with_flags<'a>(alloc: Global, command: Command<'a>) -> Result<Command<'a>, Al
     Ok(command)
 }
 
-/// With the options that ask for a text on the program.
+/// With the options that ask for a text about the program.
 fn with_texts<'a>(alloc: Global, command: Command<'a>) -> Result<Command<'a>, AllocError>
     ensures { IfOk result (λ after. app_of after ≡ with_texts (app_of command.entry)) }
 {
@@ -106,7 +106,7 @@ fn with_values<'a>(alloc: Global, command: Command<'a>) -> Result<Command<'a>, A
     Ok(command)
 }
 
-/// With definitions, and the words that are no options.
+/// With definitions, and the words that are not options.
 fn with_words<'a>(alloc: Global, command: Command<'a>) -> Result<Command<'a>, AllocError>
     ensures { IfOk result (λ after. app_of after ≡ with_words (app_of command.entry)) }
 {

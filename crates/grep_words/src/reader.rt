@@ -15,13 +15,13 @@ use gcl_model::Bytes;
 use script_lang::number_of;
 use std::alloc::{AllocError, Global};
 
-/// How many definitions the words have at most.
+/// The most definitions that the words may have.
 const MOST_DEFINES: usize = 256;
 
-/// How many files are searched side by side at most.
+/// The most files that are searched concurrently.
 const MOST_THREADS: u64 = 16;
 
-/// The greatest number that 18 digits write: no file has as many answers.
+/// The greatest number of 18 digits: no file has that many answers.
 const MOST_ANSWERS: u64 = 999_999_999_999_999_999;
 
 /// Whether an option is given.
@@ -31,7 +31,7 @@ fn is_given(matches: &ArgMatches<'_>, name: &str) -> bool
     matches.get_count(name) > 0
 }
 
-/// The mode that the options ask for, None where they ask for two.
+/// The mode that the options ask for. Returns None if they ask for two or more.
 fn mode_in(matches: &ArgMatches<'_>) -> Option<Mode>
     ensures { result ≡ mode_in (rows_of (found_of matches.now)) }
 {
@@ -50,7 +50,7 @@ fn mode_in(matches: &ArgMatches<'_>) -> Option<Mode>
     }
 }
 
-/// The number of `-m`, None where its value is none.
+/// The number of `-m`. Returns None if its value is not a number.
 fn most_from(value: Option<&str>) -> Option<u64>
     ensures { result ≡ most_from (option_map (λ text. text.now) value.entry) }
 {
@@ -60,7 +60,7 @@ fn most_from(value: Option<&str>) -> Option<u64>
     }
 }
 
-/// The number of `-t`, None where its value is none from 1 to 16.
+/// The number of `-t`. Returns None if its value is not a number from 1 to 16.
 fn threads_from(value: Option<&str>) -> Option<u64>
     ensures { result ≡ threads_from (option_map (λ text. text.now) value.entry) }
 {
@@ -73,7 +73,7 @@ fn threads_from(value: Option<&str>) -> Option<u64>
     }
 }
 
-/// Copies of the values of an option, or of the words that are none.
+/// Copies of the values of an option, or of the words that are not options.
 fn values_in(alloc: Global, matches: &ArgMatches<'_>, name: &str) -> Result<WordList, AllocError>
     ensures { IfOk result (λ values. values ≡ values_in name.now (rows_of (found_of matches.now))) }
 {
@@ -83,7 +83,7 @@ fn values_in(alloc: Global, matches: &ArgMatches<'_>, name: &str) -> Result<Word
     }
 }
 
-/// The names of the files, that of standard input where there are none.
+/// The names of the files, or that of standard input if there are none.
 fn files_from(alloc: Global, names: &[Bytes]) -> Result<WordList, AllocError>
     ensures { IfOk result (λ files. files ≡ files_from names.now) }
 {
@@ -103,7 +103,7 @@ fn definitions_in(alloc: Global, matches: &ArgMatches<'_>) -> Result<Option<Byte
     }
 }
 
-/// The search with this mode and these numbers, None where there is no query or there are too many definitions.
+/// The search with this mode and these numbers. Returns None if there is no query or there are too many definitions.
 fn search_with(
     alloc: Global,
     matches: &ArgMatches<'_>,
@@ -182,7 +182,7 @@ fn task_in(alloc: Global, matches: &ArgMatches<'_>) -> Result<Option<Task>, Allo
     }
 }
 
-/// None for words that clap refuses, but not where it wanted memory.
+/// Returns None for words that clap refuses, and `Err` if clap ran out of memory.
 fn refusal(kind: ErrorKind) -> Result<Option<Task>, AllocError>
     ensures { IfOk result (λ task. IsNone task × ¬ (kind ≡ OutOfMemory)) }
 {
@@ -192,7 +192,7 @@ fn refusal(kind: ErrorKind) -> Result<Option<Task>, AllocError>
     }
 }
 
-/// What the words ask for, None where they are outside the grammar. `Err` is out of memory.
+/// What the words ask for. Returns None if they are outside the grammar. `Err` means out of memory.
 pub fn task_of(alloc: Global, words: &[String]) -> Result<Option<Task>, AllocError>
     ensures { IfOk result (λ task. task ≡ task_of (map string_bytes words.now)) }
 {

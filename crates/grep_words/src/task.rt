@@ -8,13 +8,13 @@ pub struct SearchWords {
     pub mode: Mode,
     /// Whether each line begins with its file's name.
     pub named: bool,
-    /// Whether each line begins with its number, behind the name.
+    /// Whether each line begins with its number, after the name.
     pub numbered: bool,
-    /// Whether it is said which files were left out, and what may be wrong with a query.
+    /// Whether to say which files were left out, and what may be wrong with a query.
     pub messages: bool,
-    /// How many answers of a file count at most.
+    /// The most answers of a file that count.
     pub most: u64,
-    /// How many files are searched side by side at most, from 1 to 16.
+    /// The most files that are searched concurrently, from 1 to 16.
     pub threads: u64,
     /// The name of a file of definitions.
     pub definitions: Option<Bytes>,
@@ -28,7 +28,7 @@ pub struct SearchWords {
 /// What the words of the command line ask for.
 #[derive(Drop)]
 pub enum Task {
-    /// The text on how the program is used.
+    /// The text about how the program is used.
     Help,
     /// The program's version.
     Version,

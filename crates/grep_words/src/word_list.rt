@@ -4,7 +4,7 @@ use gcl_model::Bytes;
 use std::alloc::{AllocError, Global};
 use std::marker::Model;
 
-/// Words in order. Contracts see a list of their bytes.
+/// Words in order. Contracts see a list with the bytes of each.
 #[derive(Drop)]
 pub struct WordList {
     items: Vec<Bytes>,
@@ -19,7 +19,7 @@ impl Model for WordList {
 }
 
 impl WordList {
-    /// No word. It takes no memory.
+    /// No words. It allocates nothing.
     pub fn new(alloc: Global) -> Self
         ensures { result ≡ [] }
     {

@@ -15,14 +15,14 @@ use std::sync::ledger::Blank;
 use std::sync::{Wait, ledger};
 use std::test::*;
 
-/// No test goes on from a greater number.
+/// No test continues from a greater number.
 const MOST: u64 = 1 << 61;
 
 /// A call of an engine.
 #[derive(Clone, Copy, Debug)]
 enum Call {
     Add(&'static str),
-    /// The file with this id goes, where there is one.
+    /// Deletes the file with this id, if there is one.
     Delete(u64),
     Merge,
 }
@@ -104,7 +104,7 @@ fn made<R: Wait>(rt: &R, engine: &mut Engine, call: Call) -> bool {
     }
 }
 
-/// Whether the same call of the plain collection was accepted. A merge changes nothing.
+/// Whether the same call on the plain collection was accepted. A merge changes nothing.
 fn made_plainly(plain: &mut PlainFiles, call: Call) -> Result<bool, AllocError> {
     match call {
         Add(text) => {
@@ -151,19 +151,19 @@ fn finds_all<B: ledger::Ledger>(version: &Version, plain: &PlainFiles, blank: Bl
     finds_terms(version, plain, &mut steps) && finds_words(version, plain, &mut steps)
 }
 
-/// The steps are kept nowhere.
+/// The steps are not kept.
 fn looks_up(version: &Version, plain: &PlainFiles) -> bool {
     finds_all::<Brand>(version, plain, Blank::new(1))
 }
 
-/// What differs after these calls: a call that one alone accepts, or a look-up.
+/// What differs after these calls: a call that only one of them accepts, or a look-up.
 #[derive(Clone, Copy, Debug, PartialEq)]
 enum Unlike {
     Accepts(usize),
     LooksUp,
 }
 
-/// Both make the calls up to the first one that is refused.
+/// Both make the calls up to the first that is refused.
 fn played<R: Wait>(
     rt: &R,
     engine: &mut Engine,
@@ -221,7 +221,7 @@ fn script(mut place: usize) -> [Call; 5] {
     calls
 }
 
-/// A script of fewer calls is among them: it goes on with a call that is refused, as the deletion of no file.
+/// Scripts of fewer calls are among them: they continue with a call that is refused, such as the deletion of no file.
 #[test]
 fn every_script_of_five_calls_answers_as_the_plain_collection(rt: HostRuntime) -> Result<(), Fail> {
     for place in 0..16_807usize {
@@ -265,7 +265,7 @@ fn merges_between_change_no_look_up(rt: HostRuntime) -> Result<(), Fail> {
     Ok(())
 }
 
-/// A thousand adds, and a deletion of an older file after each third one.
+/// A thousand adds, and a deletion of an older file after each third add.
 fn long_script(alloc: Global) -> Result<Vec<Call>, AllocError> {
     let mut calls = Vec::new(alloc);
     for id in 0..1_000usize {

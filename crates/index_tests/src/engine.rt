@@ -15,10 +15,10 @@ use std::process::Abort;
 use std::sync::Wait;
 use std::test::*;
 
-/// No test goes on from a greater number.
+/// No test continues from a greater number.
 const MOST: u64 = 1 << 61;
 
-/// Adds a file: it gives the id, and the first and last address.
+/// Adds a file, and returns its id, and its first and last address.
 fn added<R: Wait>(rt: &R, engine: &mut Engine, bytes: &[u8]) -> Result<(FileId, u64, u64), AddFault>
     ensures { engine.new.publisher ≡ engine.old.publisher }
 {
@@ -29,7 +29,7 @@ fn added<R: Wait>(rt: &R, engine: &mut Engine, bytes: &[u8]) -> Result<(FileId, 
     Ok((added.id, added.first, added.last))
 }
 
-/// Merges, where numbers are left for it. It says whether it did.
+/// Merges, if there are numbers left for it, and returns whether it did.
 fn merged<R: Wait, G: Gate>(rt: &R, engine: &mut Engine, gate: &G) -> bool {
     engine.version().number() < MOST && engine.merge_all(rt, gate).is_ok()
 }
@@ -65,7 +65,7 @@ fn image(alloc: Global) -> Result<Version, AllocError>
     Ok(version)
 }
 
-/// Puts the image in the place of what is there, where numbers are left for it.
+/// Puts the image in the place of what is there, if there are numbers left for it.
 fn adopted<R: Wait>(rt: &R, alloc: Global, engine: &mut Engine) -> Result<u64, AdoptFault> {
     let version = image(alloc)?;
     if MOST <= engine.version().number() {
@@ -86,7 +86,7 @@ enum Step {
     Numbers([u64; 6]),
 }
 
-/// An add, a deletion or a merge answers so.
+/// An add, a deletion or a merge gives the answer of the step.
 fn is_made<R: Wait + Abort>(rt: &R, engine: &mut Engine, place: usize, step: &Step) {
     match step {
         Step::Add(bytes, want) => same(rt, &place, &added(rt, engine, bytes), want),
@@ -99,7 +99,7 @@ fn is_made<R: Wait + Abort>(rt: &R, engine: &mut Engine, place: usize, step: &St
     }
 }
 
-/// The step at a place answers so, or the engine has that.
+/// The step at a place gives its answer, or the engine has its numbers.
 fn is_so<R: Wait + Abort>(rt: &R, alloc: Global, engine: &mut Engine, place: usize, step: &Step) {
     match step {
         Step::Adopt(want) => same(rt, &place, &adopted(rt, alloc, engine), want),
@@ -108,7 +108,7 @@ fn is_so<R: Wait + Abort>(rt: &R, alloc: Global, engine: &mut Engine, place: usi
     }
 }
 
-/// An engine that is opened from this address on goes through these steps.
+/// An engine that is opened at this address passes these steps.
 fn goes<R: Wait + Abort>(
     rt: &R,
     alloc: Global,
@@ -123,7 +123,7 @@ fn goes<R: Wait + Abort>(
     Ok(())
 }
 
-/// The slots have so many addresses each, and these are the numbers.
+/// The slots have these widths, and these are the numbers.
 fn has<R: Abort>(
     rt: &R,
     alloc: Global,
@@ -190,7 +190,7 @@ fn the_last_addresses_are_given(rt: HostRuntime) -> Result<(), Fail> {
     Ok(())
 }
 
-/// After so many adds of a file without words each slot has so many addresses, and each add was published once.
+/// After `adds` adds of a file without words the slots have these widths, and each add was published once.
 fn grows<R: Wait + Abort>(
     rt: &R,
     alloc: Global,
@@ -226,7 +226,7 @@ fn the_last_slots_are_made_one_and_each_add_publishes_once(rt: HostRuntime) -> R
     Ok(())
 }
 
-/// What a gate was told: before a publication, and after one.
+/// What a gate was called with: before a publication, and after one.
 #[derive(Drop)]
 struct Told {
     before: Cell<Option<u64>>,
@@ -251,7 +251,7 @@ impl Gate for Told {
     }
 }
 
-/// What a gate was told of the merge that is made now: None where it was told out of order.
+/// The number that a gate was called with after the merge made here. Returns None if it was called out of order.
 fn told_of_merge<R: Wait>(rt: &R, engine: &mut Engine) -> Option<u64> {
     let gate = Told {
         before: Cell::new(None),
@@ -266,7 +266,7 @@ fn told_of_merge<R: Wait>(rt: &R, engine: &mut Engine) -> Option<u64> {
     }
 }
 
-/// Adds these files, and deletes so many of the first ones.
+/// Adds these files, and deletes the first `deletions` of them.
 fn filled<R: Wait>(rt: &R, engine: &mut Engine, files: &[&[u8]], deletions: u64) {
     for bytes in files {
         let _ = added(rt, engine, bytes);
@@ -276,7 +276,7 @@ fn filled<R: Wait>(rt: &R, engine: &mut Engine, files: &[&[u8]], deletions: u64)
     }
 }
 
-/// After these files, so many deletions and a merge the slots and the numbers are these, and the gate was told.
+/// After these files, this number of deletions and a merge, the slots and the numbers are these, and the gate was called.
 fn merges<R: Wait + Abort>(
     rt: &R,
     alloc: Global,
@@ -294,7 +294,7 @@ fn merges<R: Wait + Abort>(
 
 const LONG: &[u8] = b"to be or not to be";
 
-// Files, how many of the first ones are deleted, and the widths of the slots and the numbers after a merge.
+// Files, how many of the first are deleted, and the widths of the slots and the numbers after a merge.
 const MERGED: [(&[&[u8]], u64, &[u64], [u64; 6]); 6] = [
     (&[], 0, &[], [1, 0, 5, 5, 0, 0]),
     (&[LONG], 0, &[8], [2, 1, 5, 13, 1, 0]),
@@ -324,7 +324,7 @@ fn enters<R: Abort>(rt: &R, reader: &mut Reader) {
     same(rt, &"entered", &entered(reader), &Some([1, 1, 8]));
 }
 
-/// A file is added. The first reader learns the receipt and enters, then the second one enters, which learnt nothing.
+/// A file is added. The first reader learns the receipt and enters, then the second, which learnt nothing, enters.
 fn both_enter<R: Wait + Abort>(rt: &R, engine: &mut Engine, first: &mut Reader, second: &mut Reader)
     requires { first.old.publisher ≡ engine.old.publisher }
 {

@@ -114,9 +114,12 @@ impl Question for ListFrom<'_> {
 
     ghost can_ask = { λ asked. IsWellFormed (form_of asked.expr.now) × (asked.k < far) };
 
-    ghost answers = { λ asked answer. IfOk answer (λ members. members ≡ take asked.most (members_from (concordance asked.text.now (form_of asked.expr.now)) asked.k)) };
+    ghost answers = { λ asked answer. IfOk answer (λ members. members ≡
+        take asked.most (members_from (concordance asked.text.now (form_of asked.expr.now)) asked.k)) };
 
-    ghost most = { λ asked _. (length (take asked.most (members_from (concordance asked.text.now (form_of asked.expr.now)) asked.k)) + 1) * cost asked.text.now 1 (form_of asked.expr.now) };
+    ghost most = { λ asked _.
+        (length (take asked.most (members_from (concordance asked.text.now (form_of asked.expr.now)) asked.k)) + 1) *
+        cost asked.text.now 1 (form_of asked.expr.now) };
 
     fn ask<L: Ledger>(&self, steps: &mut Steps<L>) -> Result<IntervalList, AllocError> {
         list_from(self.alloc, self.expr, self.text, self.k, self.most, steps)
@@ -142,9 +145,11 @@ impl Question for List<'_> {
 
     ghost can_ask = { λ asked. IsWellFormed (form_of asked.expr.now) };
 
-    ghost answers = { λ asked answer. IfOk answer (λ members. members ≡ take (2 ^ 64 - 1) (concordance asked.text.now (form_of asked.expr.now))) };
+    ghost answers = { λ asked answer. IfOk answer (λ members. members ≡
+        take (2 ^ 64 - 1) (concordance asked.text.now (form_of asked.expr.now))) };
 
-    ghost most = { λ asked _. (length (take (2 ^ 64 - 1) (concordance asked.text.now (form_of asked.expr.now))) + 1) * cost asked.text.now 1 (form_of asked.expr.now) };
+    ghost most = { λ asked _. (length (take (2 ^ 64 - 1) (concordance asked.text.now (form_of asked.expr.now))) + 1) *
+        cost asked.text.now 1 (form_of asked.expr.now) };
 
     fn ask<L: Ledger>(&self, steps: &mut Steps<L>) -> Result<IntervalList, AllocError> {
         list(self.alloc, self.expr, self.text, u64::MAX, steps)
@@ -168,7 +173,7 @@ fn text_of<R: Abort>(
     of_tokens(alloc, first, tokens)
 }
 
-/// The text of these words from this address on.
+/// The text of these words, starting at this address.
 fn words_from<R: Abort>(
     rt: &R,
     alloc: Global,
@@ -190,7 +195,7 @@ fn are<R: Abort>(rt: &R, asked: &str, members: &[Interval], want: &[Ends]) {
     }
 }
 
-/// The access by a look at each member.
+/// The access, by looking at each member.
 fn plain_access(members: &[Interval], access: Access, k: u64) -> Option<Interval> {
     let mut found = None;
     for member in members {
@@ -228,7 +233,7 @@ fn accesses_are<R: Abort>(rt: &R, expr: &Expr, text: &PlainText, members: &[Inte
     }
 }
 
-/// Of these members the first `most` that start at `k` or later.
+/// The first `most` of these members that start at or after `k`.
 fn front(
     alloc: Global,
     members: &[Interval],
@@ -244,7 +249,7 @@ fn front(
     Ok(front)
 }
 
-/// The list from an address on is the front of the members that start there or later.
+/// The list from an address is the front of the members that start at or after it.
 fn page_is<R: Abort>(
     rt: &R,
     alloc: Global,
@@ -336,7 +341,7 @@ fn has<R: Abort>(
     follows(rt, alloc, &expr, text, members.as_slice())
 }
 
-/// Over a text of these words from 0 on each query has its members.
+/// Over a text of these words, starting at 0, each query has its members.
 fn each_has<R: Abort>(
     rt: &R,
     alloc: Global,
@@ -397,7 +402,7 @@ const ALPHABET: [&str; 17] = [
     "a", "b", "c", "d", "e", "f", "g", "h", "i", "j", "k", "l", "m", "n", "o", "p", "q",
 ];
 
-/// The number of members is this, and found in so many look-ups.
+/// The number of members and the look-ups that find it are these.
 fn is_counted<R: Abort>(rt: &R, expr: &Expr, text: &PlainText, want: (u64, u64))
     requires { IsWellFormed (form_of expr.now) }
 {
@@ -415,7 +420,7 @@ fn one_of(alloc: Global, words: &[&str]) -> Result<String, AllocError> {
     Ok(query)
 }
 
-/// Over `LETTERS` one of these words has the places of each, which are counted in so many look-ups.
+/// Over `LETTERS` one of these words has the places of each, which are counted in `look_ups` look-ups.
 fn one_of_has<R: Abort>(
     rt: &R,
     alloc: Global,
@@ -463,7 +468,7 @@ fn one_of_longer_operands_has_the_members_of_the_plain_list(rt: HostRuntime) -> 
     Ok(())
 }
 
-// Of `"to" ^ "be"` those with "not" or without, and of "to" those in `"be" .. "to"` or not.
+// The members of `"to" ^ "be"` with "not" or without it, and the places of "to" in `"be" .. "to"` or not in it.
 const CONTAINMENTS: [Row; 4] = [
     ("(\"to\" ^ \"be\") > \"not\"", &[(2, 5)]),
     ("(\"to\" ^ \"be\") /> \"not\"", &[(1, 2), (5, 6)]),
@@ -480,7 +485,7 @@ fn each_kind_of_containment_has_the_members_of_the_plain_list(rt: HostRuntime) -
 /// A query, an access, its address, the interval that it answers and the look-ups that it takes.
 type Taken = (&'static str, Access, u64, Option<Ends>, u64);
 
-/// The access of the query has this answer, and takes so many look-ups.
+/// The access of the query has this answer, and takes this number of look-ups.
 fn takes<R: Abort>(rt: &R, alloc: Global, text: &PlainText, taken: &Taken) {
     let (asked, access, k, want, look_ups) = *taken;
     assert!(rt; k <= 10);
@@ -494,7 +499,7 @@ fn takes<R: Abort>(rt: &R, alloc: Global, text: &PlainText, taken: &Taken) {
     same(rt, &(asked, k), &found, &(want, look_ups));
 }
 
-/// Over a text of these words from this address on each access has its answer, and takes so many look-ups.
+/// Over a text of these words, starting at this address, each access has its answer, and takes its number of look-ups.
 fn each_takes<R: Abort>(
     rt: &R,
     alloc: Global,
@@ -544,8 +549,8 @@ const IN_ORDER: [Taken; 8] = [
     ("\"b\" .. \"c\"", Access::LastStart, 8, Some((4, 6)), 5),
 ];
 
-/// The last operand is asked first, then the way goes back and on again: three look-ups in place of four to six where it ends
-/// as it began, and one where the last operand has no answer. Else the next member is looked for, past that way or from the edge.
+/// The last operand is asked first, then the way goes back and forward again: three look-ups in place of four to six if it ends
+/// as it began, and one if the last operand has no answer. Else the next member is looked for, past that way or from the edge.
 #[test]
 fn a_far_access_of_followed_by_asks_its_last_operand_first(rt: HostRuntime) -> Result<(), Fail> {
     each_takes(&rt, rt.alloc(), 3, &FROM_THREE, &IN_ORDER)?;
@@ -560,7 +565,7 @@ fn three_words_in_order_have_the_members_of_the_plain_list(rt: HostRuntime) -> R
     Ok(())
 }
 
-/// Over a text of these words from 0 on the members of the query are counted in so many look-ups.
+/// Over a text of these words, starting at 0, the members of the query are counted in this number of look-ups.
 fn counts<R: Abort>(
     rt: &R,
     alloc: Global,
@@ -632,7 +637,7 @@ fn push_times(
     Ok(())
 }
 
-/// So many times "x", then "y", and so many times "x" again.
+/// `times` times "x", then "y", and `times` times "x" again.
 fn around_a_rare_word(alloc: Global, times: u64) -> Result<TokenList, AllocError> {
     let mut tokens = TokenList::new(alloc);
     push_times(alloc, &mut tokens, "x", times)?;

@@ -92,12 +92,12 @@ fn three_files(alloc: Global, shard: Shard) -> Result<Slot, AllocError>
     files.push(file(alloc, 0, 0, 1000)?)?;
     files.push(file(alloc, 1, 1000, 1000)?)?;
     files.push(file(alloc, 2, 2000, 1000)?)?;
-    // any call of the index tells that it is one
+    // any call of the index shows that it is one
     let _terms = shard.term_count();
     Slot::new(alloc, range, shard, files)
 }
 
-/// The version with one file more, in which a term comes so many times, at every third address.
+/// The version with one more file, in which a term occurs `times` times, at every third address.
 fn added(
     alloc: Global,
     version: &Version,
@@ -214,7 +214,7 @@ fn look_ups_in_no_order_are_those_of_the_version(rt: HostRuntime) -> Result<(), 
     Ok(())
 }
 
-/// The next of the numbers that stand for chance.
+/// The next pseudo-random number.
 fn chance(state: u64) -> u64 {
     state
         .wrapping_mul(6364136223846793005)
@@ -224,7 +224,7 @@ fn chance(state: u64) -> u64 {
 /// Words of which two are in the phrase, so it comes about once in sixteen words.
 const WORDS: [&str; 4] = ["of", "the", "a", "king"];
 
-/// So many of these words as chance wants them.
+/// `count` of these words, chosen at random.
 fn chance_words(alloc: Global, seed: u64, count: usize) -> Result<TokenList, AllocError> {
     let mut words = TokenList::new(alloc);
     let mut state = seed;
@@ -236,7 +236,7 @@ fn chance_words(alloc: Global, seed: u64, count: usize) -> Result<TokenList, All
     Ok(words)
 }
 
-/// The version with one file more of such words, in a slot of its own.
+/// The version with one more file of such words, in a slot of its own.
 fn with_words(
     alloc: Global,
     version: &Version,
@@ -281,7 +281,7 @@ fn chance_slots<R: Abort>(rt: &R, alloc: Global) -> Result<Version, AllocError> 
     deleted(rt, &deleted(rt, &version, 1)?, 4)
 }
 
-/// Where the second word next stands right after the first one from `k` on, by look-ups in the version.
+/// Where, at or after `k`, the first word next occurs with the second one right after it, by look-ups in the version.
 fn next_pair(version: &Version, first: &str, second: &str, k: u64) -> Option<u64> {
     let mut at = k;
     for _ in 0..10_000u32 {
@@ -294,7 +294,7 @@ fn next_pair(version: &Version, first: &str, second: &str, k: u64) -> Option<u64
     None
 }
 
-/// Where the two words may stand next from `start` on, as the fingers say: no pair is passed over.
+/// Where the two words may next occur at or after `start`, as the fingers report: no pair is skipped.
 fn told_from<J: Naming, R: Abort>(
     rt: &R,
     version: &Version,
@@ -311,7 +311,7 @@ fn told_from<J: Naming, R: Abort>(
     told.at
 }
 
-/// Where a phrase goes on that was told to look from `at` on.
+/// Where a phrase that is to look at or after `at` continues.
 fn start_behind<J: Naming>(
     fingers: &Fingers<'_, J>,
     (first, second): (&str, &str),
@@ -323,7 +323,7 @@ fn start_behind<J: Naming>(
     Some(start.max(q.saturating_sub(1)))
 }
 
-/// Walks on from `k` as a phrase does, and gives over how many addresses it went without a look-up.
+/// Walks from `k` as a phrase does, and returns how many addresses it passed without a look-up.
 fn went_over<J: Naming, R: Abort>(
     rt: &R,
     version: &Version,
@@ -344,7 +344,7 @@ fn went_over<J: Naming, R: Abort>(
     over
 }
 
-/// Two words with fingers in either order, one beside itself, and words of which one has no finger.
+/// Two words with fingers in either order, one next to itself, and words of which one has no finger.
 const ASIDE: [(&str, &str); 5] = [
     ("of", "the"),
     ("the", "of"),
@@ -353,7 +353,7 @@ const ASIDE: [(&str, &str); 5] = [
     ("who", "of"),
 ];
 
-/// Over how many addresses walks from `k` on went without a look-up.
+/// How many addresses walks from `k` passed without a look-up.
 fn went_over_all<J: Naming, R: Abort>(
     rt: &R,
     version: &Version,
@@ -392,13 +392,13 @@ fn no_pair_is_passed_over(rt: HostRuntime) -> Result<(), Fail> {
     Ok(())
 }
 
-/// The word comes at `k` or later.
+/// The word occurs at or after `k`.
 fn is_found<J: Naming, R: Abort>(rt: &R, fingers: &Fingers<'_, J>, term: &str, k: u64) {
     let (place, _) = found(fingers, term, k, Direction::Forward);
     holds(rt, &(term, k), place.is_some());
 }
 
-/// The next pair from `k` on is told, and believed or not.
+/// The next pair at or after `k` is reported, and believed or not.
 fn is_told<J: Naming, R: Abort>(
     rt: &R,
     version: &Version,
@@ -414,7 +414,7 @@ fn is_told<J: Naming, R: Abort>(
     same(rt, &k, &fingers.earliest_pair(b"of", b"the", k), &want);
 }
 
-/// A block is unpacked as soon as it is looked into twice. A pair in it is believed where nothing in the slot is dead.
+/// A block is unpacked as soon as it is looked into twice. A pair in it is believed if nothing in the slot is dead.
 fn ask_unpacked<J: Naming, R: Abort>(rt: &R, version: &Version, believed: bool)
     requires { version.now ≡ J.version }
 {
@@ -444,7 +444,7 @@ fn a_pair_is_believed_where_nothing_is_dead(rt: HostRuntime) -> Result<(), Fail>
     Ok(())
 }
 
-/// An interval between two words on one side of `k`, if it is at hand.
+/// An interval between two words on one side of `k`, if the blocks around it are already unpacked.
 #[derive(Drop)]
 struct Element<'a, V: Leaves> {
     leaves: &'a V,
@@ -489,7 +489,7 @@ fn looked_up<V: Leaves>(leaves: &V, k: u64, direction: Direction) -> Option<(u64
     }
 }
 
-/// Whether the interval is at hand after look-ups: then it is theirs, and takes three.
+/// Whether the interval is available after look-ups unpacked its blocks: then it is the one that they found, and counts as three look-ups.
 fn is_at_hand<J: Naming, R: Abort>(
     rt: &R,
     fingers: &Fingers<'_, J>,
@@ -511,7 +511,7 @@ fn is_at_hand<J: Naming, R: Abort>(
     true
 }
 
-/// Of how many addresses the interval was at hand, after look-ups that unpacked the blocks around it.
+/// For how many addresses the interval was available, after look-ups that unpacked the blocks around it.
 fn times_at_hand<J: Naming, R: Abort>(rt: &R, version: &Version, direction: Direction) -> u64
     requires { version.now ≡ J.version }
 {

@@ -97,7 +97,7 @@ const UNMARKED: &[u8] = b"GCLIMG03\
     \x0a\0\0\0\0\0\0\0\x0a\0\0\0\0\0\0\0\
     \0\0\0\0\0\0\0\0\0\0\0\0\0\0\0\0";
 
-// As many as eight bytes say, and as many addresses as there are.
+// As many files as eight bytes can say, as many terms, and as many addresses as there are.
 const MANY_FILES: &[u8] = b"GCLIMG02\
     \0\0\0\0\0\0\0\0\x0a\0\0\0\0\0\0\0\
     \x02\0\0\0\0\0\0\0\xff\xff\xff\xff\xff\xff\xff\xff";
@@ -111,7 +111,7 @@ const HEAD_WIDE: &[u8] = b"GCLIMG02\
 
 const FILE_WIDE: &[u8] = b"\x01\x08\xf6\xff\xff\xff\xff\xff\xff\x7f\x01b";
 
-// `b` with one token, which is none.
+// `b` with one token that is not a token.
 const HEAD_WITH_BE: &[u8] = b"GCLIMG02\
     \0\0\0\0\0\0\0\0\x0b\0\0\0\0\0\0\0\
     \x02\0\0\0\0\0\0\0\x01\0\0\0\0\0\0\0";
@@ -133,7 +133,7 @@ const TWO_IDS: &[u8] = b"GCLIMG02\
 const AT_START: &[u8] = b"\x02\0\0\0\0\0\0\0\
     \x08</file!>\0\x01\x07<file!>\0\0";
 
-// The terms of `b` with a fault each.
+// The terms of `b`, each time with one fault.
 const LONGER: &[u8] = b"\x02\0\0\0\0\0\0\0\
     \x08</file!>\0\x09\x07<file!>\0\x08\0";
 
@@ -152,7 +152,7 @@ const OUTSIDE: &[u8] = b"\x02\0\0\0\0\0\0\0\
 const OTHER_ROLE: &[u8] = b"\x02\0\0\0\0\0\0\0\
     \x08</file!>\0\x09\x02be\0\x08";
 
-// A file `a` with 149 words `a` and as many `b` by turns: lists of more than two blocks each, whose differences are all 2 but the first.
+// A file `a` with 149 words `a` and as many `b` by turns: lists of more than two blocks each, whose differences are all 2 except the first.
 const HEAD_LONG: &[u8] = b"GCLIMG02\
     \0\0\0\0\0\0\0\0\x2c\x01\0\0\0\0\0\0\
     \x01\0\0\0\0\0\0\0\x01\0\0\0\0\0\0\0";
@@ -166,7 +166,7 @@ const A_LONG: &[u8] = b"\x01a\x94\x01\x01";
 
 const B_LONG: &[u8] = b"\x01b\x94\x01\x02";
 
-/// How many differences each of the two words has behind its first.
+/// How many differences each of the two words has after its first address.
 const TWOS: usize = 148;
 
 fn joined(alloc: Global, parts: &Parts) -> Result<Vec<u8>, AllocError> {
@@ -177,7 +177,7 @@ fn joined(alloc: Global, parts: &Parts) -> Result<Vec<u8>, AllocError> {
     Ok(out)
 }
 
-/// The version that the bytes are an image of, and none where they are no image.
+/// The version that the bytes are an image of. Returns None if they are not an image.
 fn read(alloc: Global, bytes: &[u8]) -> Result<Option<Version>, AllocError>
     ensures { IfOk result (λ found. IfSome found CanBeSaved) }
 {
@@ -193,7 +193,7 @@ fn is_image(alloc: Global, bytes: &[u8]) -> Result<bool, AllocError> {
     Ok(read(alloc, bytes)?.is_some())
 }
 
-/// What the version is saved as that the bytes are an image of.
+/// What the version of this image is saved as.
 fn written_back(alloc: Global, bytes: &[u8]) -> Result<Option<Bytes>, AllocError> {
     match read(alloc, bytes)? {
         Some(version) => Ok(Some(image(alloc, &version)?)),
@@ -209,7 +209,7 @@ fn is_written<R: Abort, C: Debug>(rt: &R, case: &C, written: Option<Bytes>, want
     }
 }
 
-/// The parts are an image of a version that is saved as these others, which are an image too.
+/// The parts are an image of a version that is saved as these other parts, which are an image too.
 fn is_written_as<R: Abort>(
     rt: &R,
     alloc: Global,
@@ -260,7 +260,7 @@ fn what_is_read_is_written_as_version_two(rt: HostRuntime) -> Result<(), Fail> {
     Ok(())
 }
 
-/// The parts are no image.
+/// The parts are not an image.
 fn is_refused<R: Abort>(
     rt: &R,
     alloc: Global,
@@ -321,7 +321,7 @@ fn no_front_part_of_an_image_is_one(rt: HostRuntime) -> Result<(), Fail> {
     Ok(())
 }
 
-/// Bytes whose byte at `i` was changed are written back as they are, where they are an image. It says whether they are one.
+/// Bytes whose byte at `i` was changed are written back unchanged, if they are an image. Returns whether they are one.
 fn is_kept<R: Abort>(rt: &R, alloc: Global, bytes: &[u8], i: usize) -> Result<bool, AllocError> {
     let written = written_back(alloc, bytes)?;
     let taken = written.is_some();
@@ -331,7 +331,7 @@ fn is_kept<R: Abort>(rt: &R, alloc: Global, bytes: &[u8], i: usize) -> Result<bo
     Ok(taken)
 }
 
-/// How many of these bytes can be made one greater so that an image is left, which is written back as it is.
+/// How many of these bytes can be made one greater so that the bytes are still an image, which is written back unchanged.
 fn kept_changes<R: Abort>(rt: &R, alloc: Global, bytes: &mut [u8]) -> Result<u64, AllocError> {
     let mut kept = 0u64;
     for i in 0..bytes.len() {
@@ -356,7 +356,7 @@ fn a_changed_byte_is_refused_or_written_back(rt: HostRuntime) -> Result<(), Fail
     Ok(())
 }
 
-/// The image of long lists, with these bytes in place of those at a place of the differences behind the first address of `a`, and others
+/// The image of long lists, with these bytes in place of those at a place of the differences after the first address of `a`, and others
 /// in place of those of `b`.
 fn long_image(alloc: Global, a: (usize, &[u8]), b: (usize, &[u8])) -> Result<Vec<u8>, AllocError> {
     let mut out = joined(alloc, &[HEAD_LONG, FILE_LONG, ENDS_LONG])?;

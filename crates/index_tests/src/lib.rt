@@ -1,14 +1,14 @@
 //! Tests of the public calls of the crates that make, publish and read an index, and of the plain list that answers
 //! are compared with.
 //!
-//! They stand apart from those crates, since a crate that has tests is proved twice. `shards` is of `shard_build`,
-//! `versions` and `version_changes` are of `live_version`, `live_postings` is of `slot_terms` and of what is
-//! counted and merged, `publications` of `manifest_publish`, `passes` of `reader_pass`, `engine` and `call_scripts`
-//! of `collection`, `images` of `image_read`, `plain_lists` of `plain_text`, `evaluation` of `gcl_eval`, and `fingers` of
-//! `term_fingers`.
+//! They are apart from those crates, since a crate that has tests is proved twice. `shards` is for `shard_build`,
+//! `versions` and `version_changes` are for `live_version`, `live_postings` is for `slot_terms` and for what is
+//! counted and merged, `publications` for `manifest_publish`, `passes` for `reader_pass`, `engine` and `call_scripts`
+//! for `collection`, `images` for `image_read`, `plain_lists` for `plain_text`, `evaluation` for `gcl_eval`, and `fingers`
+//! for `term_fingers`.
 //!
-//! Beside them there are `checks`, by which all compare, and `fixtures`: what several tests begin with. Of an engine that
-//! was just opened from 5 on, with two readers, both have seen the empty version that begins at 5.
+//! Besides these there are `checks`, which all compare with, and `fixtures`: what several tests begin with. If an engine was
+//! just opened at 5, with two readers, both have seen the empty version that begins at 5.
 #![tactic(auto)]
 
 #[cfg(test)]

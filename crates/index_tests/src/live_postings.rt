@@ -11,7 +11,7 @@ use std::process::Abort;
 use std::sync::Wait;
 use std::test::Fail;
 
-/// No test goes on from a greater number.
+/// No test continues from a greater number.
 const MOST: u64 = 1 << 61;
 
 /// `to be or not to be`, which is deleted, `be to`, and `be`.
@@ -51,7 +51,7 @@ fn terms_come_in_byte_order_with_their_live_postings(rt: HostRuntime) -> Result<
     Ok(())
 }
 
-/// `be`, so often.
+/// `be`, `count` times.
 fn text(alloc: Global, count: u16) -> Result<Vec<u8>, AllocError> {
     let mut text = Vec::new(alloc);
     for _ in 0..count {
@@ -60,7 +60,7 @@ fn text(alloc: Global, count: u16) -> Result<Vec<u8>, AllocError> {
     Ok(text)
 }
 
-/// Adds a file that has `be` so often. It says whether it did.
+/// Adds a file that has `be` `count` times, and returns whether it did.
 fn added<R: Wait>(rt: &R, alloc: Global, engine: &mut Engine, count: u16) -> bool {
     match text(alloc, count) {
         Ok(bytes) => is_name(b"b") && engine.add(rt, b"b", &bytes).is_ok(),
@@ -68,12 +68,12 @@ fn added<R: Wait>(rt: &R, alloc: Global, engine: &mut Engine, count: u16) -> boo
     }
 }
 
-/// Makes all slots one. It says whether it did.
+/// Makes all slots one, and returns whether it did.
 fn merged<R: Wait>(rt: &R, engine: &mut Engine) -> bool {
     engine.version().number() < MOST && engine.merge_all(rt, &FreeGate).is_ok()
 }
 
-/// Adds a file for each of the counts, all in one slot. It says whether it did.
+/// Adds a file for each of the counts, all in one slot, and returns whether it did.
 fn added_in_one_slot<R: Wait>(rt: &R, alloc: Global, engine: &mut Engine, counts: &[u16]) -> bool {
     for count in counts {
         if !added(rt, alloc, engine, *count) {
@@ -83,7 +83,7 @@ fn added_in_one_slot<R: Wait>(rt: &R, alloc: Global, engine: &mut Engine, counts
     merged(rt, engine) && engine.version().slot_count() == 1
 }
 
-/// Deletes the files with these ids. It says whether there were such.
+/// Deletes the files with these ids, and returns whether all were there.
 fn deleted<R: Wait>(rt: &R, engine: &mut Engine, ids: &[u64]) -> bool {
     for id in ids {
         if engine.delete(rt, FileId(*id)).is_err() {
@@ -100,7 +100,7 @@ fn push_range(places: &mut Vec<u64>, first: u64, last: u64) -> Result<(), AllocE
     Ok(())
 }
 
-/// The places of `be` in files that have it so often, without those with these ids.
+/// The places of `be` in files that have it this number of times each, without the files with these ids.
 fn plain_places(alloc: Global, counts: &[u16], ids: &[u64]) -> Result<Vec<u64>, AllocError> {
     let mut places = Vec::new(alloc);
     let mut next = 0u64;
@@ -114,7 +114,7 @@ fn plain_places(alloc: Global, counts: &[u16], ids: &[u64]) -> Result<Vec<u64>, 
     Ok(places)
 }
 
-/// The places of the third term, which is `be` where there is one.
+/// The places of the third term, which is `be`, if there is one.
 fn third_places(alloc: Global, version: &Version) -> Result<Vec<u64>, AllocError> {
     let mut terms = SlotTerms::new(alloc, version.slots())?;
     let mut places = Vec::new(alloc);
@@ -154,7 +154,7 @@ fn keeps<R: Wait + Abort>(
     has_places(rt, alloc, engine.version(), want)
 }
 
-/// Of files in one slot those that are not deleted have `be` so often together, and keep its places.
+/// The files in one slot that are not deleted have `be` `want` times together, and keep its places.
 fn has_live<R: Wait + Abort>(
     rt: &R,
     alloc: Global,

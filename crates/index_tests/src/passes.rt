@@ -47,13 +47,13 @@ impl Question for Counting<'_> {
     ghost most = { λ q answer. sum_by (λ v. look_ups (version_text v) (access_most v) (form_of q.expr.now) answer) q.pass.now.history };
 
     fn ask<L: Ledger>(&self, steps: &mut Steps<L>) -> u64 {
-        // by it the history is known to have a last version, which bounds the look-ups
+        // this shows that the history has a last version, which bounds the look-ups
         let _version = self.pass.version();
         pass_count(self.pass, self.expr, steps)
     }
 }
 
-/// The first members, from the first one on or from an address.
+/// The first members, from the start or from an address.
 #[derive(Drop)]
 struct Listing<'a> {
     alloc: Global,
@@ -81,7 +81,7 @@ impl Question for Listing<'_> {
     ghost most = { λ q answer. sum_by (λ v. look_ups (version_text v) (access_most v) (form_of q.expr.now) q.most) q.pass.now.history };
 
     fn ask<L: Ledger>(&self, steps: &mut Steps<L>) -> Result<IntervalList, AllocError> {
-        // by it the history is known to have a last version, which bounds the look-ups
+        // this shows that the history has a last version, which bounds the look-ups
         let _version = self.pass.version();
         match self.from {
             None => pass_list(self.alloc, self.pass, self.expr, self.most, steps),
@@ -115,7 +115,7 @@ fn listed(
     Ok(members)
 }
 
-/// Whether the version with one file more, of these bytes, was published.
+/// Whether the version with one more file, of these bytes, was published.
 fn is_published<R: Wait>(rt: &R, alloc: Global, publisher: &mut Publisher, bytes: &[u8]) -> bool {
     match added(alloc, publisher, bytes) {
         Ok(Some(version)) => publisher.publish(rt, version).is_ok(),
@@ -123,7 +123,7 @@ fn is_published<R: Wait>(rt: &R, alloc: Global, publisher: &mut Publisher, bytes
     }
 }
 
-/// A pass with one file more, of these bytes.
+/// A pass with one more file, of these bytes.
 fn next_pass<R: Wait>(
     rt: &R,
     alloc: Global,
@@ -191,7 +191,7 @@ fn a_term_and_one_of_several_terms_are_counted_without_a_look_up(
     Ok(())
 }
 
-/// The first members, from the first one on or from an address, are these.
+/// The first members, from the start or from an address, are these.
 fn lists<R: Abort>(
     rt: &R,
     alloc: Global,
@@ -234,7 +234,7 @@ fn the_first_members_are_listed(rt: HostRuntime) -> Result<(), Fail> {
     Ok(())
 }
 
-/// Adds so many files. It says whether all were published.
+/// Adds `times` files, and returns whether all were published.
 fn add_all<R: Wait>(rt: &R, alloc: Global, publisher: &mut Publisher, times: u64) -> bool {
     for _ in 0..times {
         if !is_published(rt, alloc, publisher, b"to be or not to be") {
@@ -244,7 +244,7 @@ fn add_all<R: Wait>(rt: &R, alloc: Global, publisher: &mut Publisher, times: u64
     true
 }
 
-/// Counts the members on one pass after another, until there are so many. It says whether no count was below the one before.
+/// Counts the members on one pass after another, until there are `all`. Returns whether no count was below the previous one.
 fn count_all(reader: &mut Reader, expr: &Expr, all: u64) -> bool
     requires { IsWellFormed (form_of expr.now) }
 {

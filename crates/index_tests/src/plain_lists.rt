@@ -14,7 +14,7 @@ fn hamlet<R: Abort>(rt: &R, alloc: Global) -> Result<PlainText, AllocError> {
     of_tokens(alloc, 0, &tokens)
 }
 
-/// Places of `to`: the next ones from 2 and from 6, the previous ones up to 4 and up to 0.
+/// Places of `to`: the next at or after 2 and 6, the previous at or before 4 and 0.
 #[derive(Drop)]
 struct PlacesOfTo<'a> {
     text: &'a PlainText,
@@ -75,7 +75,7 @@ fn ends(alloc: Global, list: &IntervalList) -> Result<Vec<(u64, u64)>, AllocErro
     Ok(ends)
 }
 
-/// The members of the query, by a look at every pair of addresses, are these.
+/// The members of the query, by looking at every pair of addresses, are these.
 fn has<R: Abort>(
     rt: &R,
     alloc: Global,

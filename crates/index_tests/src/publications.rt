@@ -16,7 +16,7 @@ use std::test::*;
 use std::thread::{Threads, join};
 use word_tokens::tokens;
 
-/// No test goes on from a greater number.
+/// No test continues from a greater number.
 const MOST: u64 = 1 << 62;
 
 pub(crate) fn shared(alloc: Global, version: Version) -> Result<Arc<Version>, AllocError>
@@ -28,7 +28,7 @@ pub(crate) fn shared(alloc: Global, version: Version) -> Result<Arc<Version>, Al
     }
 }
 
-/// The last version with one file more, of these bytes: None where numbers, addresses or slots are spent.
+/// The last version with one more file, of these bytes. Returns None if numbers, addresses or slots are spent.
 pub(crate) fn added(
     alloc: Global,
     publisher: &Publisher,
@@ -63,7 +63,7 @@ pub(crate) fn added(
     Ok(Some(shared(alloc, version)?))
 }
 
-/// A version of the same collection: None where numbers are spent.
+/// A version of the same collection. Returns None if numbers are spent.
 fn merged(alloc: Global, publisher: &Publisher) -> Result<Option<Arc<Version>>, AllocError>
     ensures { IfOk result (λ next. IfSome next (λ version. IsLawful (publisher.now.history ++ version.value ∷ []))) }
 {
@@ -83,7 +83,7 @@ fn entered(reader: &mut Reader) -> Result<(u64, u64), EnterFault>
     Ok((pass.version().number(), pass.version().edition()))
 }
 
-/// One file is added. The first reader learns the receipt and enters, then the second one enters, which learnt nothing.
+/// One file is added. The first reader learns the receipt and enters, then the second, which learnt nothing, enters.
 fn both_enter<R: Wait>(
     rt: &R,
     alloc: Global,
@@ -122,7 +122,7 @@ fn a_reader_that_learnt_nothing_sees_what_is_published(rt: HostRuntime) -> Resul
     Ok(())
 }
 
-/// How many readers a publisher is made with that is asked for so many.
+/// How many readers a publisher is made with if `readers` are asked for.
 fn readers_made<R: Wait>(rt: &R, alloc: Global, readers: usize) -> Result<usize, AllocError>
     requires { readers ≤ most_readers }
 {
@@ -141,7 +141,7 @@ fn as_many_readers_are_made_as_are_asked_for(rt: HostRuntime) -> Result<(), Fail
     Ok(())
 }
 
-/// Publishes a version of the same collection, of which the reader is told.
+/// Publishes a version of the same collection, and lets the reader learn its receipt.
 fn told<R: Wait>(
     rt: &R,
     alloc: Global,
@@ -158,7 +158,7 @@ fn told<R: Wait>(
     Some(number)
 }
 
-/// The number of the version that the first reader was told, and both readers of a publisher that has ended then.
+/// The number of the version whose receipt the first reader learnt, and both readers of its publisher, which has ended.
 fn told_and_ended<R: Wait>(
     rt: &R,
     alloc: Global,
@@ -205,7 +205,7 @@ impl Named for Brand {
     ghost publisher = { record { number = 0; log_name = 0; cells_name = 0 } };
 }
 
-/// A receipt of the publisher of this name: what lies under a lock is known by its type alone.
+/// A receipt of the publisher of this name: what is under a lock is known only by its type.
 #[derive(Drop)]
 pub struct Posted<N: Named> {
     receipt: Receipt,
@@ -213,7 +213,7 @@ pub struct Posted<N: Named> {
     ghost named: { receipt.publisher ≡ N.publisher },
 }
 
-/// Publishes so many versions, and posts the receipt of each. It gives how many it published.
+/// Publishes `times` versions, and posts the receipt of each. Returns how many it published.
 fn write_all<N: Named, R: Wait>(
     rt: &R,
     alloc: Global,
@@ -239,8 +239,8 @@ fn write_all<N: Named, R: Wait>(
     times
 }
 
-/// Enters so many times, and learns the last receipt before, where there is one. It says whether each number was at least
-/// that of the receipt and that of the version before.
+/// Enters `times` times, and each time first learns the last receipt, if there is one. Returns whether each number was at least
+/// that of the receipt and that of the previous version.
 fn read_all<N: Named, R: Wait>(
     rt: &R,
     reader: &mut Reader,
@@ -303,8 +303,8 @@ fn beside<R: Threads + Wait + Sync>(
     write_and_read::<Brand, R>(rt, alloc, publisher, reader, writes, reads)
 }
 
-/// So many publications beside so many enterings, and then one more entering. It gives how many were published, whether all
-/// numbers rose, and the last one.
+/// `writes` publications concurrently with `reads` enterings, and then one more entering. Returns how many were published,
+/// whether no number fell, and the last number.
 fn numbers_beside<R: Threads + Wait + Sync>(
     rt: &R,
     alloc: Global,

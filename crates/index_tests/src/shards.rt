@@ -62,7 +62,7 @@ impl Question for FirstThree<'_> {
     }
 }
 
-/// The first three postings of the term at a place, and the steps that they took: None where there is no such place.
+/// The first three postings of the term at a place, and the steps that they took. Returns None if there is no such place.
 fn walked(shard: &Shard, place: usize) -> Option<([Option<u64>; 3], u64)> {
     if place < shard.term_count() {
         Some(counted(&FirstThree { shard, place }))
@@ -71,7 +71,7 @@ fn walked(shard: &Shard, place: usize) -> Option<([Option<u64>; 3], u64)> {
     }
 }
 
-/// The term at a place, where there is one.
+/// The term at a place, if there is one.
 fn term_at(shard: &Shard, place: usize) -> Option<&[u8]> {
     if place < shard.term_count() {
         Some(shard.term(place))
@@ -90,7 +90,7 @@ const HAMLET: [(&str, ([Option<u64>; 3], u64)); 6] = [
     ("to", ([Some(1), Some(5), None], 2)),
 ];
 
-/// The shard is that of `to be or not to be` from address 0 on.
+/// The shard is that of `to be or not to be`, starting at address 0.
 fn is_hamlet<R: Abort>(rt: &R, shard: &Shard) {
     same(rt, &"terms", &shard.term_count(), &HAMLET.len());
     for (place, (term, want)) in HAMLET.iter().enumerate() {
@@ -168,7 +168,8 @@ fn put_word(text: &mut Vec<u8>, round: u8, n: u64) -> Result<(), AllocError> {
     }
 }
 
-/// A text of so many words out of 256. Each second has its first eight bytes in common with the others, and each fourth is new in each round.
+/// A text of `words` words out of 256. Every second one has its first eight bytes in common with the others, and every fourth is new in
+/// each round.
 fn mixed_words(
     alloc: Global,
     round: u8,
@@ -221,7 +222,7 @@ const MIXED: [(u64, u64, usize); 10] = [
     (5, 77, 256),
 ];
 
-/// The same of each text of a round.
+/// The same for each text of a round.
 fn each_gives_the_same<R: Abort>(
     rt: &R,
     alloc: Global,
@@ -271,7 +272,7 @@ fn a_file_without_tokens_has_its_boundaries(rt: HostRuntime) -> Result<(), Fail>
     Ok(())
 }
 
-/// The address of the token that is nearest to `k` on one side, by a look at each. The first is at 100.
+/// The address of the token that is nearest to `k` on one side, by looking at each. The first is at 100.
 fn plain_look_up(tokens: &[&str], term: &[u8], k: u64, direction: Direction) -> Option<u64> {
     let mut found = None;
     let mut address = 100u64;
@@ -288,7 +289,7 @@ fn plain_look_up(tokens: &[&str], term: &[u8], k: u64, direction: Direction) -> 
     found
 }
 
-/// Each look-up of the term in the shard is that by a look at each token.
+/// Each look-up of the term in the shard agrees with looking at each token.
 fn agrees<R: Abort>(rt: &R, shard: &Shard, tokens: &[&str], term: &[u8]) {
     for k in 98..115u64 {
         for direction in [Direction::Forward, Direction::Backward] {

@@ -17,7 +17,7 @@ enum Step {
     Follow,
 }
 
-/// The version with one more file, of so many addresses and without words: None where numbers, addresses or slots are spent.
+/// The version with one more file, of `len` addresses and without words. Returns None if numbers, addresses or slots are spent.
 pub(crate) fn added(
     alloc: Global,
     version: &Version,
@@ -122,7 +122,7 @@ fn each_change_counts_what_it_changes(rt: HostRuntime) -> Result<(), Fail> {
     Ok(())
 }
 
-/// The version after these steps, where all may be made.
+/// The version after these steps, if all may be made.
 fn after_steps(alloc: Global, steps: &[Step]) -> Result<Option<Version>, AllocError> {
     let mut version = Version::empty(alloc, 5);
     for step in steps {
@@ -134,7 +134,7 @@ fn after_steps(alloc: Global, steps: &[Step]) -> Result<Option<Version>, AllocEr
     Ok(Some(version))
 }
 
-/// The slot at this place has this range, and all of it is dead, or nothing.
+/// The slot at this place has this range, and all of it is dead, or none of it.
 fn has_slot<R: Abort>(rt: &R, version: &Version, i: usize, range: Range, is_dead: bool) {
     assert!(rt; i < version.slot_count());
     let slot = version.slot(i);

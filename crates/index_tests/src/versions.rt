@@ -18,7 +18,7 @@ use std::process::Abort;
 use std::test::Fail;
 use std::thread::{Threads, join};
 
-/// No test goes on from a greater number.
+/// No test continues from a greater number.
 const MOST: u64 = 1 << 62;
 
 /// Where a term is next and where it was last, seen from an address.
@@ -90,7 +90,7 @@ fn three_files(alloc: Global) -> Result<Slot, AllocError>
     Slot::new(alloc, Range { first: 0, last: 9 }, index, files)
 }
 
-/// The version with one file more, which has these words: None where numbers, addresses or slots are spent.
+/// The version with one more file, which has these words. Returns None if numbers, addresses or slots are spent.
 pub(crate) fn with_words(
     alloc: Global,
     version: &Version,
@@ -113,7 +113,7 @@ pub(crate) fn with_words(
     Ok(Some(version))
 }
 
-/// The version without this file: None where there is no such file, or numbers are spent.
+/// The version without this file. Returns None if there is no such file, or numbers are spent.
 pub(crate) fn without(version: &Version, id: u64) -> Result<Option<Version>, AllocError> {
     if MOST < version.number() || version.find_file(FileId(id)).is_none() {
         return Ok(None);
@@ -164,7 +164,7 @@ const LIVE: [(u64, &str); 7] = [
     (23, "not"),
 ];
 
-/// The nearest word from `k` on and up to `k`, by a look at each.
+/// The nearest places of the word at or after `k` and at or before `k`, by looking at each word.
 fn plain_look_up(term: &str, k: u64) -> (Option<u64>, Option<u64>) {
     let mut next = None;
     let mut previous = None;
@@ -228,7 +228,7 @@ fn a_count_is_of_the_words_that_survive(rt: HostRuntime) -> Result<(), Fail> {
     Ok(())
 }
 
-/// The least term from a bound on, or after it, is this.
+/// The least term at or after a bound, or only after it, is this.
 fn has_term_from<R: Abort>(rt: &R, version: &Version, low: &str, strict: bool, want: Option<&str>) {
     let want = want.map(|term: &str| term.as_bytes());
     same(rt, &low, &version.term_from(low.as_bytes(), strict), &want);
@@ -340,7 +340,7 @@ fn with_widths<R: Abort>(rt: &R, alloc: Global, widths: &[u64]) -> Result<Versio
     Ok(version)
 }
 
-/// Of a version with files of these widths the tail has so many slots.
+/// The tail of a version with files of these widths has `want` slots.
 fn has_tail<R: Abort>(
     rt: &R,
     alloc: Global,

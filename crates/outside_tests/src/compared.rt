@@ -2,7 +2,7 @@
 use std::fmt::Debug;
 use std::process::Abort;
 
-/// In this case what came is what is wanted.
+/// In this case the result is what is expected.
 pub(crate) fn same<R: Abort, C: Debug, T: PartialEq + Debug>(rt: &R, case: &C, got: &T, want: &T) {
     assert_eq!(rt; *got, *want, "{case:?}");
 }

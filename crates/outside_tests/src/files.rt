@@ -1,5 +1,5 @@
-// Each call and what it is to answer stand in one function: a test that makes many such calls in a row would be proved with all of them in
-// sight.
+// Each call and its expected answer are in one function: a test that makes many such calls in a row would be proved with all of them in
+// scope.
 use crate::compared::same;
 use crate::lacking::{LackingDisk, Lacks};
 use outside::{FileError, Files, Loaded};
@@ -10,7 +10,7 @@ use std::path::PathBuf;
 use std::process::Abort;
 use std::{env, fs, io, rt};
 
-/// The files answer so to a load, which leaves these bytes.
+/// A load gets this answer from the files, and leaves these bytes.
 fn loads<R: AllocGlobal + Abort, F: Files>(
     rt: &R,
     files: &mut F,
@@ -28,7 +28,7 @@ fn keeps<R: Abort, F: Files>(rt: &R, files: &mut F, name: &[u8], bytes: &[u8]) {
     same(rt, &name, &files.keep(name, bytes), &Ok(()));
 }
 
-/// The files say that this call failed last, at which name, and why.
+/// The files report that this call failed last, at which name, and why.
 fn failed_at<R: rt::Files + AllocGlobal + Abort>(
     rt: &R,
     files: &StdFiles<'_, R>,
@@ -41,7 +41,7 @@ fn failed_at<R: rt::Files + AllocGlobal + Abort>(
     same(rt, &name, &files.last_cause(), &Some(cause));
 }
 
-/// A keep fails, and the files say why.
+/// A keep fails, and the files report why.
 fn keeps_nothing<R: rt::Files + AllocGlobal + Abort>(
     rt: &R,
     files: &mut StdFiles<'_, R>,
@@ -57,7 +57,7 @@ fn keeps_nothing<R: rt::Files + AllocGlobal + Abort>(
     failed_at(rt, files, FileCall::Keep, name, cause);
 }
 
-/// A load fails, and the files say why.
+/// A load fails, and the files report why.
 fn loads_nothing<R: rt::Files + AllocGlobal + Abort>(
     rt: &R,
     files: &mut StdFiles<'_, R>,
@@ -73,7 +73,7 @@ fn file_count(rt: &HostRuntime, place: &PathBuf) -> io::Result<usize> {
     Ok(fs::read_dir(rt, place)?.count())
 }
 
-/// A folder has so many files.
+/// A folder has `want` files.
 fn counts<R: Abort>(rt: &R, count: usize, want: usize) {
     same(rt, &"files", &count, &want);
 }
@@ -119,7 +119,7 @@ fn loads_in<R: AllocGlobal + Abort, F: Files>(
     Ok(())
 }
 
-/// Five bytes in a folder are loaded whole, and at most four of them are too few.
+/// Five bytes in a folder are loaded whole, and a load of at most four is too short for them.
 fn loads_at_most<R: AllocGlobal + Abort, F: Files>(
     rt: &R,
     files: &mut F,
@@ -172,7 +172,7 @@ fn loads_what_is_kept<R: AllocGlobal + Abort, F: Files>(
     loads_in(rt, files, place, "b", b"to be")
 }
 
-/// Keeps under what is no name of a file fail.
+/// Keeps under what is not a name of a file fail.
 fn keeps_no_other<R: rt::Files + AllocGlobal + Abort>(
     rt: &R,
     files: &mut StdFiles<'_, R>,
@@ -237,7 +237,7 @@ fn takes_the_new_content<R: rt::Files + AllocGlobal + Abort>(
 fn a_full_disk_and_a_killed_program_leave_the_old_content(rt: HostRuntime) -> io::Result<()> {
     let place = empty_folder(&rt, "gclq_outside_std_full")?;
     keeps_in(&rt, &mut StdFiles::new(&rt), &place, "a", b"to be")?;
-    // how many files are left: a killed program leaves what it had written beside the name
+    // how many files are left: a killed program leaves what it had written next to the name
     let cases = [
         (Lacks::Room(0), 1),
         (Lacks::Room(3), 1),
@@ -288,7 +288,7 @@ fn has_mode<R: rt::Files + AllocGlobal + Abort>(
     Ok(())
 }
 
-/// The text of the symbolic link that stands under a name of a folder.
+/// The text of the symbolic link under a name of a folder.
 fn has_text<R: rt::Files + AllocGlobal + Abort>(
     rt: &R,
     place: &PathBuf,
@@ -319,7 +319,7 @@ fn follows_a_link<R: rt::Files + AllocGlobal + Abort>(
     loads_in(rt, files, place, "link", b"or not")
 }
 
-/// A link that leads round is not followed.
+/// A link that leads to itself is not followed.
 fn follows_no_ring<R: rt::Files + AllocGlobal + Abort>(
     rt: &R,
     files: &mut StdFiles<'_, R>,

@@ -1,4 +1,4 @@
-//! A writer that answers as it is told.
+//! A writer that gives preset answers.
 ghost use Rattle.std.specs.Prelude.{◌≡◌, drop};
 ghost use Rattle.std.specs.Io.{WritesAtMost};
 ghost use Rattle.std.specs.Io.KnownBytes.{WriteAppends};
@@ -10,9 +10,9 @@ use std::marker::Model;
 /// One answer of a `TellsWriter`.
 #[derive(Clone, Copy, Debug)]
 pub enum Tells {
-    /// So many bytes are taken.
+    /// This many bytes are taken.
     Takes(usize),
-    /// The write fails so.
+    /// The write fails with this kind.
     Fails(ErrorKind),
 }
 

@@ -8,13 +8,13 @@ use std::rt::Files;
 /// What a disk does not do.
 #[derive(Clone, Copy, Debug, PartialEq, Eq)]
 pub enum Lacks {
-    /// It is full: each file takes so many bytes.
+    /// It is full: each file takes this many bytes.
     Room(usize),
     /// No file is renamed or removed, as if the program had been killed before.
     Time,
 }
 
-/// The files of `rt`, but for what the disk lacks.
+/// The files of `rt`, except for what the disk lacks.
 #[derive(Drop)]
 pub struct LackingDisk<'a> {
     rt: &'a HostRuntime,

@@ -1,5 +1,5 @@
-// Each call and what it is to answer stand in one function: a test that makes many such calls in a row would be proved with all of them in
-// sight.
+// Each call and its expected answer are in one function: a test that makes many such calls in a row would be proved with all of them in
+// scope.
 use crate::compared::same;
 use crate::fixtures::{Tells, TellsWriter};
 use outside::{Sink, Source, WriteError};
@@ -8,7 +8,7 @@ use std::io::ErrorKind;
 use std::process::Abort;
 use std::{env, fs, io};
 
-/// A sink answers so to a write of "to be".
+/// A sink gives this answer to a write of "to be".
 fn writes<R: Abort, S: Sink>(rt: &R, case: &str, sink: &mut S, want: Result<usize, WriteError>) {
     same(rt, &case, &sink.write(b"to be"), &want);
 }

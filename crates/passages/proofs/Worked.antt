@@ -1,7 +1,7 @@
 -- The definitions computed on small files.
 use Rattle.std.specs.Prelude.{◌≡◌, ℕ, List, [], ◌∷◌, ◌++◌, true, false, codes, None, Some, refl}
 use Rattle.std.specs.Fmt.{digits}
-use Rattle.passages.specs.Lines.{Line, lines_of, line_number}
+use Rattle.passages.specs.Lines.{lines_of}
 use Rattle.passages.specs.Texts.{lines_text, answers_text, count_text}
 use Rattle.passages.specs.declared.passage.Passage.{Passage}
 use Rattle.passages.specs.declared.shown.Shown.{Shown}

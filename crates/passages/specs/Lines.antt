@@ -11,12 +11,12 @@ pub record Line : Type 0 where
   pub from : ℕ
   pub bytes : List ℕ
 
--- consecutive lines, the first with this number at this place: a newline stands between each two
+-- consecutive lines, the first with this number at this place: between each two is a newline
 abbrev pub lines_from : ℕ → ℕ → List (List ℕ) → List Line
 lines_from number from [] = []
 lines_from number from (bytes ∷ rest) = record { number = number; from = from; bytes = bytes } ∷ lines_from (number + 1) (from + length bytes + 1) rest
 
--- the lines of a file: of "to", a newline and "be" they are "to" with number 1 at 0, and "be" with number 2 at 3
+-- the lines of a file: for "to", a newline and "be" they are "to" with number 1 at 0, and "be" with number 2 at 3
 abbrev pub lines_of : List ℕ → List Line
 lines_of bytes = lines_from 1 0 (cut_at_newlines bytes)
 
@@ -32,6 +32,6 @@ lines_met ps lines = filter (λ line. list_any (meets line) ps) lines
 abbrev pub line_number : List ℕ → ℕ → ℕ
 line_number bytes place = 1 + count_by (λ b. b == 10) (take place bytes)
 
--- the lines from a cursor on
+-- the lines starting at a cursor
 abbrev pub lines_at : List ℕ → LineCursor → List Line
 lines_at bytes cursor = lines_from cursor.number cursor.at (cut_at_newlines (drop cursor.at bytes))

@@ -1,4 +1,4 @@
--- For proofs alone: where lines and passages begin.
+-- For proofs only: where lines and passages begin.
 use Rattle.std.specs.Prelude.{◌≡◌, ℕ, ◌+◌, ◌≤◌, List, length}
 use Rattle.std.specs.List.{AllByRecursion}
 use Rattle.passages.specs.declared.passage.Passage.{Passage}
@@ -11,7 +11,7 @@ use Rattle.passages.specs.Lines.{line_number}
 abbrev pub BeginFrom : ℕ → List Passage → Type 0
 BeginFrom place ps = AllByRecursion (λ p. place ≤ p.from) ps
 
--- the cursor is within the file, and its number is not above that of a place of so many newlines
+-- the cursor is within the file, and its number is at most one more than its place
 pub record IsLineStart (bytes : List ℕ) (cursor : LineCursor) : Type 0 where
   pub within : cursor.at ≤ length bytes
   pub few : cursor.number ≤ cursor.at + 1

@@ -1,4 +1,4 @@
--- The text that is written of a file's passages, for each way of writing them.
+-- The text that is written for a file's passages, for each way of writing them.
 use Rattle.std.specs.Prelude.{ℕ, ◌+◌, List, [], ◌∷◌, ◌++◌, decimal, flat_map}
 use Rattle.std.specs.List.{slice_range}
 use Rattle.script_lang.specs.Lines.{cut_at_newlines}
@@ -8,7 +8,7 @@ use Rattle.passages.specs.declared.cursors.PartCursor.{PartCursor}
 use Rattle.passages.specs.Lines.{Line, lines_of, lines_met, line_number}
 use Rattle.passages.specs.Shown.{name_head, shown_line}
 
--- lines as they are written, each with `:` behind its name and its number
+-- lines as they are written, each with `:` after its name and after its number
 abbrev pub text_of_met : Shown → List Line → List ℕ
 text_of_met shown lines = flat_map (λ line. shown_line shown 58 line.number line.bytes) lines
 
@@ -21,7 +21,7 @@ abbrev pub parts_of : List ℕ → List (List ℕ)
 parts_of [] = [] ∷ []
 parts_of (b ∷ bytes) = cut_at_newlines (b ∷ bytes)
 
--- parts in consecutive lines: this mark behind the name and the number of the first, and `-` behind those of each further one
+-- parts in consecutive lines: this mark after the name and the number of the first, and `-` after those of each further part
 abbrev pub parts_text : Shown → ℕ → ℕ → List (List ℕ) → List ℕ
 parts_text shown mark number [] = []
 parts_text shown mark number (part ∷ rest) = shown_line shown mark number part ++ parts_text shown 45 (number + 1) rest
@@ -42,6 +42,6 @@ count_text shown count = name_head shown.name 58 ++ decimal count ++ 10 ∷ []
 abbrev pub name_text : List ℕ → List ℕ
 name_text name = name ++ 10 ∷ []
 
--- what is still to come of a passage that ends at a place, where its next part is this
+-- the text still to come of a passage that ends at `to`, with its next part at the cursor
 abbrev pub parts_at : Shown → List ℕ → PartCursor → ℕ → List ℕ
 parts_at shown bytes cursor to = parts_text shown cursor.mark cursor.number (parts_of (slice_range bytes cursor.at to))

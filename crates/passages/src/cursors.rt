@@ -5,7 +5,7 @@ pub struct LineCursor {
     pub number: u64,
 }
 
-/// How much of a passage was written: the place of its next part, the number of that line, and the mark behind them.
+/// How much of a passage was written: the place of its next part, the number of that line, and the mark after name and number.
 #[derive(Clone, Copy, Debug, PartialEq, Eq)]
 pub struct PartCursor {
     pub at: usize,

@@ -3,9 +3,9 @@
 //! A passage is a stretch of a file's bytes. Lines count from 1, end at a newline, and are never trimmed. Contracts see
 //! the text of each way of writing as a definition of `specs/Texts.antt`: a filter of lines, or a map over passages.
 //!
-//! The layers above put passages in rising order, a piece of text at a time: `put_lines` and `put_parts` go over the
-//! file once in all, and their contracts speak of what is still to come. Of `to`, a newline and `be`, with the name `a`,
-//! the passage from 1 to 4 meets both lines: `a:1:to` and `a:2:be`; its parts are `a:1:o` and `a-2-b`.
+//! The layers above put passages in rising order, a piece of text at a time. Over all calls `put_lines` passes the file
+//! once, and so does `begin_parts`, which counts newlines; contracts describe the text still to come. In `to`, a newline
+//! and `be`, with the name `a`, the passage from 1 to 4 meets both lines: `a:1:to` and `a:2:be`; its parts are `a:1:o` and `a-2-b`.
 #![tactic(auto)]
 
 mod cursors;

@@ -1,4 +1,4 @@
-ghost use Rattle.std.specs.Prelude.{◌≡◌, ◌+◌, ◌<◌, ◌≤◌, ◌++◌, ◌∷◌, List, true, false, length, take, drop, OnOk, IfOk};
+ghost use Rattle.std.specs.Prelude.{◌≡◌, ◌+◌, ◌<◌, ◌≤◌, ◌++◌, ◌∷◌, List, true, false, length, OnOk, IfOk};
 ghost use Rattle.passages.specs.declared.passage.Passage.{Passage};
 ghost use Rattle.passages.specs.Lines.{lines_at, lines_met};
 ghost use Rattle.passages.specs.Texts.{text_of_met};
@@ -12,7 +12,7 @@ use crate::shown::Shown;
 use memchr::memchr;
 use std::alloc::AllocError;
 
-/// How many bytes are held back before they are handed over.
+/// The length at which the collected text is handed over.
 pub const PIECE: usize = 65_536;
 
 /// Where the line that begins at `at` ends: at its newline, or at the end.
@@ -28,14 +28,15 @@ pub fn line_end(bytes: &[u8], at: usize) -> usize
     }
 }
 
-/// Goes on to the line that the place belongs to. Lines that end before it meet no passage that begins at or behind it.
+/// Moves to the line that the place belongs to. Lines that end before it meet no passage that begins at or after it.
 fn skip_to(bytes: &[u8], cursor: &mut LineCursor, place: usize)
     requires start { IsLineStart bytes.now cursor.old }
     requires within { place < length bytes.now }
     ensures start { IsLineStart bytes.now cursor.new }
     ensures reached { place ≤ line_end bytes.now cursor.new.at }
     ensures forward { cursor.old.at ≤ cursor.new.at }
-    ensures same { (ps : List Passage) → BeginFrom place ps → lines_met ps (lines_at bytes.now cursor.old) ≡ lines_met ps (lines_at bytes.now cursor.new) }
+    ensures same { (ps : List Passage) → BeginFrom place ps →
+        lines_met ps (lines_at bytes.now cursor.old) ≡ lines_met ps (lines_at bytes.now cursor.new) }
 {
     while cursor.at < place {
         let end = line_end(bytes, cursor.at);
@@ -47,8 +48,8 @@ fn skip_to(bytes: &[u8], cursor: &mut LineCursor, place: usize)
     }
 }
 
-/// Puts the lines up to the one that holds the last byte before `to`, or the first of them until there is a piece, and
-/// says whether all were put.
+/// Puts the lines up to the one that holds the last byte before `p.to`, and stops early once `out` holds a piece. True
+/// means that all were put.
 fn put_met(
     out: &mut Vec<u8>,
     shown: &Shown,
@@ -61,7 +62,8 @@ fn put_met(
     requires within { p.to ≤ length bytes.now }
     requires reached { p.from ≤ line_end bytes.now cursor.old.at }
     ensures start { IsLineStart bytes.now cursor.new }
-    ensures put { OnOk result ((later : List Passage) → out.old.items ++ text_of_met shown.now (lines_met (p ∷ later) (lines_at bytes.now cursor.old))
+    ensures put { OnOk result ((later : List Passage) →
+        out.old.items ++ text_of_met shown.now (lines_met (p ∷ later) (lines_at bytes.now cursor.old))
         ≡ out.new.items ++ text_of_met shown.now (lines_met (p ∷ later) (lines_at bytes.now cursor.new))) }
     ensures all { IfOk result (λ all. all ≡ true → p.to ≤ cursor.new.at) }
     ensures goes { IfOk result (λ all. all ≡ false → cursor.old.at < cursor.new.at) }
@@ -78,8 +80,8 @@ fn put_met(
     Ok(true)
 }
 
-/// Puts the lines that a passage meets and that no earlier one met, or the first of them until there is a piece, and says whether all
-/// were put. Passages come in rising order; where it says false it is called again with the same one.
+/// Puts the lines that a passage meets and that no earlier one met, and stops early once `out` holds a piece. True means that all were
+/// put; after false it is called again with the same passage. Passages come in rising order.
 pub fn put_lines(
     out: &mut Vec<u8>,
     shown: &Shown,

@@ -1,5 +1,4 @@
-ghost use Rattle.std.specs.Prelude.{◌≡◌, ◌<◌, ◌≤◌, ◌++◌, true, false, length, OnOk, IfOk};
-ghost use Rattle.passages.specs.Lines.{line_number};
+ghost use Rattle.std.specs.Prelude.{◌≡◌, ◌<◌, ◌≤◌, ◌++◌, true, false, length, IfOk};
 ghost use Rattle.passages.specs.Order.{IsNumbered, IsPartStart};
 ghost use Rattle.passages.specs.Texts.{parts_at, passage_text};
 
@@ -10,7 +9,7 @@ use crate::put::put_line;
 use crate::shown::Shown;
 use std::alloc::AllocError;
 
-/// Goes on to a place, and counts the newlines on the way.
+/// Moves to a place, and counts the newlines on the way.
 fn count_to(bytes: &[u8], place: &mut NumberedPlace, to: usize)
     requires numbered { IsNumbered bytes.now place.old }
     requires forward { place.old.at ≤ to }
@@ -26,7 +25,7 @@ fn count_to(bytes: &[u8], place: &mut NumberedPlace, to: usize)
     }
 }
 
-/// The first part of a passage. Passages come in rising order, and `place` is that of the one in front.
+/// The first part of a passage. Passages come in rising order, and `place` is that of the previous one.
 pub fn begin_parts(bytes: &[u8], place: &mut NumberedPlace, p: Passage) -> PartCursor
     requires numbered { IsNumbered bytes.now place.old }
     requires forward { place.old.at ≤ p.from }
@@ -45,8 +44,8 @@ pub fn begin_parts(bytes: &[u8], place: &mut NumberedPlace, p: Passage) -> PartC
     }
 }
 
-/// Puts the parts of a passage that ends at `to`, or the first of them until there is a piece, and says whether all were put. Where it
-/// says false it is called again.
+/// Puts the parts of a passage that ends at `to`, stops early once `out` holds a piece, and returns whether all were put. After false it
+/// is called again.
 pub fn put_parts(
     out: &mut Vec<u8>,
     shown: &Shown,

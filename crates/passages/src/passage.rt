@@ -1,4 +1,4 @@
-/// The bytes that an answer covers: the first one's place, and the place behind the last.
+/// The bytes that an answer covers: the place of the first byte, and the place after the last.
 #[derive(Clone, Copy, Debug, PartialEq, Eq)]
 pub struct Passage {
     pub from: usize,

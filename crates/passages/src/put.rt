@@ -1,4 +1,4 @@
-ghost use Rattle.std.specs.Prelude.{◌≡◌, ◌++◌, ◌∷◌, [], decimal, OnOk};
+ghost use Rattle.std.specs.Prelude.{◌≡◌, ◌++◌, [], decimal, OnOk};
 ghost use Rattle.passages.specs.Shown.{name_head, number_head, shown_line};
 ghost use Rattle.passages.specs.Texts.{count_text, name_text};
 
@@ -14,7 +14,7 @@ fn put_number(out: &mut Vec<u8>, n: u64) -> Result<(), AllocError>
     out.extend_from_slice(buffer.format(n).as_bytes())
 }
 
-/// Appends the name, where it is shown, and a mark.
+/// Appends the name and a mark, if names are shown.
 fn put_name_head(out: &mut Vec<u8>, shown: &Shown, mark: u8) -> Result<(), AllocError>
     ensures { OnOk result (out.new.items ≡ out.old.items ++ name_head shown.now.name mark) }
 {
@@ -28,7 +28,7 @@ fn put_name_head(out: &mut Vec<u8>, shown: &Shown, mark: u8) -> Result<(), Alloc
     }
 }
 
-/// Appends a line's number, where numbers are shown, and a mark.
+/// Appends a line's number and a mark, if numbers are shown.
 fn put_number_head(
     out: &mut Vec<u8>,
     numbered: bool,
@@ -44,7 +44,7 @@ fn put_number_head(
     Ok(())
 }
 
-/// Appends a line, with what stands in front of it and a newline.
+/// Appends a line, with its head in front and a newline after it.
 pub fn put_line(
     out: &mut Vec<u8>,
     shown: &Shown,
@@ -61,7 +61,7 @@ pub fn put_line(
     Ok(())
 }
 
-/// Appends how many answers a file has: `a:2` of two in the file `a`.
+/// Appends how many answers a file has: `a:2` for two in the file `a`.
 pub fn put_count(out: &mut Vec<u8>, shown: &Shown, count: u64) -> Result<(), AllocError>
     ensures { OnOk result (out.new.items ≡ out.old.items ++ count_text shown.now count) }
 {

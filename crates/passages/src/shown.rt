@@ -1,6 +1,6 @@
 use gcl_model::Bytes;
 
-/// What stands in front of each line: a file's name, or none, and the line's number, or none.
+/// The head of each line: a file's name or none, and the line's number or none.
 #[derive(Drop)]
 pub struct Shown {
     pub name: Option<Bytes>,

@@ -5,7 +5,7 @@ ghost use Rattle.posting_code.specs.Postings.{ArePostings};
 use posting_code::ADDRESS_END;
 use std::alloc::{AllocError, Global};
 
-/// Some addresses from `first` on, each `gap` above the one before, and no more than fit.
+/// Some addresses, starting at `first`, each `gap` above the previous one, and no more than fit.
 pub fn addresses(alloc: Global, first: u64, count: u16, gap: u64) -> Result<Vec<u64>, AllocError>
     ensures { IfOk result (λ numbers. ArePostings numbers.items) }
 {

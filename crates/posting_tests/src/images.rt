@@ -41,7 +41,7 @@ fn start(alloc: Global, first: u64) -> Version
     Version::empty(alloc, first)
 }
 
-/// The version with one file more: none where it may not be added.
+/// The version with one more file. Returns None if it may not be added.
 #[tactic(auto, using(crate::proofs::images::Shorts::tokens_are))]
 fn added(
     alloc: Global,
@@ -110,7 +110,7 @@ fn are_short(tokens: &[Bytes]) -> bool
     true
 }
 
-/// The version without this file: none where it has no such file.
+/// The version without this file. Returns None if it has no such file, or its number is above 999.
 fn deleted(version: &Version, id: u64) -> Result<Option<Version>, AllocError>
     requires { CanBeSaved version.now }
     ensures { IfOk result (λ found. IfSome found CanBeSaved) }
@@ -140,7 +140,7 @@ fn a_collection_without_files_has_48_bytes(rt: HostRuntime) -> Result<(), Fail> 
     Ok(())
 }
 
-/// The version of the file `a` alone.
+/// The version of only the file `a`.
 fn with_a<R: Abort>(rt: &R, alloc: Global) -> Result<Version, AllocError>
     ensures { IfOk result CanBeSaved }
 {

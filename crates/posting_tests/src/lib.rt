@@ -1,9 +1,9 @@
-//! Tests of the public calls of the crates that pack postings, index texts, merge indexes and spell images, and of objects outside that
-//! lie in memory.
+//! Tests of the public calls of the crates that pack postings, index texts, merge indexes and spell images, and of outside objects that
+//! are in memory.
 //!
-//! They stand apart from those crates, since a crate that has tests is proved twice. `packed` is of `posting_code`, `nearest` of
-//! `posting_access`, `shards` of `index_shard`, `masks` of `delete_mask`, `merged` of `shard_merge`, `images` of `image_file` and
-//! `outsides` of `outside`. `checks` is what all compare by, and
+//! They are apart from those crates, since a crate that has tests is proved twice. `packed` is for `posting_code`, `nearest` for
+//! `posting_access`, `shards` for `index_shard`, `masks` for `delete_mask`, `merged` for `shard_merge`, `images` for `image_file` and
+//! `outsides` for `outside`. `checks` is what all compare with, and
 //! `fixtures` what several begin with. The number 300 is packed as the bytes `ac 02`.
 #![tactic(auto)]
 

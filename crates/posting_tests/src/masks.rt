@@ -22,7 +22,7 @@ fn among(ranges: &[(u64, u64)], p: u64) -> Option<Range> {
     range(first, last)
 }
 
-/// The mask with one range more, which was apart from the others.
+/// The mask with one more range, which was apart from the others.
 fn with_range<R: Abort>(rt: &R, mask: &Mask, first: u64, last: u64) -> Result<Mask, AllocError> {
     let added = range(first, last).expect(rt, "a range of the table");
     assert!(rt; mask.is_apart(added), "{first} to {last}");
@@ -88,7 +88,7 @@ fn a_mask_has_the_ranges_that_it_was_given_joined_where_they_touch(
     Ok(())
 }
 
-/// The mask with two addresses more, from `first` on, which were apart from the others.
+/// The mask with two more addresses, starting at `first`, which were apart from the others.
 fn with_two<R: Abort>(
     rt: &R,
     alloc: Global,
@@ -101,7 +101,7 @@ fn with_two<R: Abort>(
     shared.with(added)
 }
 
-/// The mask with the first two of each four addresses more, or with the other two.
+/// The mask with, in addition, the first two of each four addresses, or the other two.
 fn with_every_second<R: Abort>(
     rt: &R,
     alloc: Global,
@@ -117,7 +117,7 @@ fn with_every_second<R: Abort>(
     Ok(shared)
 }
 
-/// The mask has so many ranges, and the first two of each four addresses are dead, or all.
+/// The mask has `count` ranges, and the first two of each four addresses are dead, or all.
 fn has_every_second<R: Abort>(rt: &R, shared: &SharedMask, between: u64, count: usize) {
     same(rt, &between, &shared.range_count(), &count);
     for p in 0..2802u64 {

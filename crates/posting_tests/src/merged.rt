@@ -1,4 +1,4 @@
-ghost use Rattle.std.specs.Prelude.{◌≡◌, ◌<◌};
+ghost use Rattle.std.specs.Prelude.{◌<◌};
 
 use crate::checks::same;
 use Step::{Add, Del, Merge};
@@ -16,9 +16,9 @@ use word_tokens::tokens;
 #[derive(Clone, Copy)]
 enum Step<'a> {
     Add(&'a str),
-    /// The file with this id goes.
+    /// The file with this id is deleted.
     Del(u64),
-    /// One slot for so many from a place on.
+    /// One slot for a number of slots, starting at a place: the place, and the number.
     Merge(usize, usize),
 }
 
@@ -127,7 +127,7 @@ const TERMS: [&str; 9] = [
     "<file!>", "</file!>", "to", "be", "or", "not", "rose", "a", "none",
 ];
 
-/// None where the step may not be made.
+/// Returns None if the step may not be made.
 fn with_text(alloc: Global, version: &Version, text: &str) -> Result<Option<Version>, AllocError> {
     let tokens = tokens(alloc, text.as_bytes())?;
     if version.slot_count() == 32
@@ -224,7 +224,7 @@ fn put_word<'a>(
     Ok(address.wrapping_add(1))
 }
 
-/// Puts the words of a file after the others, and gives the next address.
+/// Puts the words of a file after the others, and returns the next address.
 fn put_words<'a>(
     words: &mut Vec<PlainWord<'a>>,
     file: u64,

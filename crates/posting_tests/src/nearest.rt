@@ -78,7 +78,7 @@ fn look_up(list: &Postings<'_>, k: u64) -> ((Option<u64>, Option<u64>), (u64, u6
     ((least, greatest), (forward, backward))
 }
 
-/// The least member from `k` on and the greatest up to `k`, by a look at each.
+/// The least member at or after `k` and the greatest at or before `k`, by looking at each.
 fn plain_look_up(members: &[u64], k: u64) -> (Option<u64>, Option<u64>) {
     (
         members.iter().copied().find(|p| k <= *p),
@@ -86,12 +86,12 @@ fn plain_look_up(members: &[u64], k: u64) -> (Option<u64>, Option<u64>) {
     )
 }
 
-/// An address, and those beside it.
+/// An address, and those next to it.
 fn around(address: u64) -> [u64; 3] {
     [address.wrapping_sub(1), address, address.wrapping_add(1)]
 }
 
-/// Look-ups beside each of these members and at it are those of a look at each, with no more probes than digits.
+/// Look-ups next to each of these members and at it agree with looking at each, with no more probes than digits.
 fn are_found<R: Abort>(
     rt: &R,
     list: &Postings<'_>,
@@ -108,7 +108,7 @@ fn are_found<R: Abort>(
     }
 }
 
-/// The same of a list of some addresses.
+/// The same for a list of some addresses.
 fn are_found_in<R: Abort>(rt: &R, alloc: Global, case: (u16, u64, u64)) -> Result<(), AllocError> {
     let members = addresses(alloc, 3, case.0, case.1)?;
     let list = encode(alloc, &members)?;
@@ -140,7 +140,7 @@ fn look_ups_are_those_of_a_look_at_each_address_within_the_digits_of_the_length(
     Ok(())
 }
 
-/// So many members are below `k`, which is found with no more probes than digits.
+/// `want` members are below `k`, which is found with no more probes than digits.
 fn has_rank<R: Abort>(
     rt: &R,
     list: &Postings<'_>,
@@ -153,7 +153,7 @@ fn has_rank<R: Abort>(
     holds(rt, &(k, count, gap), probes <= digits);
 }
 
-/// The ranks of addresses beside each of these members, at it, and at both ends, are those of a look at each.
+/// The ranks of addresses next to each of these members, at it, and at both ends, agree with looking at each.
 fn are_ranked<R: Abort>(rt: &R, list: &Postings<'_>, members: &[u64], case: (u16, u64, u64)) {
     for member in members {
         for k in around(*member) {
@@ -165,7 +165,7 @@ fn are_ranked<R: Abort>(rt: &R, list: &Postings<'_>, members: &[u64], case: (u16
     has_rank(rt, list, u64::MAX, case, members.len());
 }
 
-/// The same of a list of some addresses.
+/// The same for a list of some addresses.
 fn are_ranked_in<R: Abort>(rt: &R, alloc: Global, case: (u16, u64, u64)) -> Result<(), AllocError> {
     let members = addresses(alloc, 3, case.0, case.1)?;
     let list = encode(alloc, &members)?;
@@ -213,7 +213,7 @@ fn two_addresses_far_apart_are_found(rt: HostRuntime) -> Result<(), AllocError> 
     Ok(())
 }
 
-/// A look-up on either side takes so many probes.
+/// A look-up on either side takes this number of probes.
 fn takes<R: Abort>(rt: &R, list: &PostingList, k: u64, probes: (u64, u64)) {
     same(rt, &k, &look_up(&list.as_postings(), k).1, &probes);
 }
@@ -224,7 +224,7 @@ fn takes_one_each<R: Abort>(rt: &R, list: &PostingList) {
     }
 }
 
-/// Two blocks: behind the first one and before the second, the first address of the second is read once more.
+/// Two blocks: after the first one and before the second, the first address of the second is read once more.
 fn is_between_blocks<R: Abort>(rt: &R, alloc: Global) -> Result<(), AllocError> {
     let two = addresses(alloc, 3, 65, 10)?;
     let two = encode(alloc, &two)?;

@@ -19,7 +19,7 @@ fn held(alloc: Global) -> Result<Vec<(Bytes, Bytes)>, AllocError> {
     Ok(held)
 }
 
-/// The counts of five reads of at most three bytes are these, None where one fails.
+/// The counts of five reads of at most three bytes are these, None for one that fails.
 fn reads<R: Abort, S: Source>(rt: &R, source: &mut S, want: [Option<usize>; 5]) {
     let mut counts = [None; 5];
     let mut into = [0u8; 3];
@@ -31,7 +31,7 @@ fn reads<R: Abort, S: Source>(rt: &R, source: &mut S, want: [Option<usize>; 5]) 
 
 const PIECES: [&[u8]; 4] = [b"to", b" ", b"", b"be"];
 
-/// The counts of four writes are these, None where one fails.
+/// The counts of four writes are these, None for one that fails.
 fn writes<R: Abort, K: Sink>(rt: &R, sink: &mut K, want: [Option<usize>; 4]) {
     let mut counts = [None; 4];
     for (count, piece) in counts.iter_mut().zip(&PIECES) {
@@ -78,14 +78,14 @@ fn a_source_and_a_sink_fail_at_their_calls_alone(rt: HostRuntime) -> Result<(), 
     Ok(())
 }
 
-/// What a call answers: a load of at most four bytes, with what it puts into the buffer where it is no fault, or a keep.
+/// What a call answers: a load of at most four bytes, with what it puts into the buffer unless it fails, or a keep.
 #[derive(Clone, Copy)]
 enum Call<'a> {
     Load(&'a [u8], Result<(Loaded, &'a [u8]), FileError>),
     Keep(&'a [u8], &'a [u8], Result<(), FileError>),
 }
 
-/// A load answers so.
+/// A load gives this answer.
 fn loads<R: Abort, F: Files>(
     rt: &R,
     alloc: Global,
@@ -101,7 +101,7 @@ fn loads<R: Abort, F: Files>(
     same(rt, &name, &answer, &want);
 }
 
-/// Each call answers so.
+/// Each call gives its answer.
 fn answers<R: Abort, F: Files>(rt: &R, alloc: Global, files: &mut F, calls: &[Call<'_>]) {
     for call in calls {
         match *call {

@@ -1,4 +1,4 @@
-ghost use Rattle.std.specs.Prelude.{◌≡◌, ◌<◌, ◌∷◌, [], IfOk, length};
+ghost use Rattle.std.specs.Prelude.{◌≡◌, ◌<◌, ◌∷◌, [], length};
 ghost use Rattle.std.specs.List.{concat};
 ghost use Rattle.posting_code.specs.Postings.{ArePostings};
 
@@ -79,7 +79,7 @@ fn lends_blocks<R: Abort, C: Debug>(rt: &R, case: &C, list: &Postings<'_>, membe
     }
 }
 
-/// The same of a list of some addresses.
+/// The same for a list of some addresses.
 fn are_lent<R: Abort>(rt: &R, alloc: Global, count: u16, gap: u64) -> Result<(), AllocError> {
     let addresses = addresses(alloc, 3, count, gap)?;
     let list = encode(alloc, &addresses)?;
@@ -106,7 +106,7 @@ fn ends(list: &Postings<'_>) -> Ends {
     (list.first(), list.last(), list.len())
 }
 
-/// The ends and the numbers of the members below an address and of those from it on.
+/// The ends and the numbers of the members below an address and of those at or after it.
 fn split_ends(list: &Postings<'_>, k: u64) -> (Ends, Ends) {
     if list.len() > BLOCK {
         return ((7, 7, 7), (7, 7, 7));
@@ -115,7 +115,7 @@ fn split_ends(list: &Postings<'_>, k: u64) -> (Ends, Ends) {
     (ends(&below), ends(&from))
 }
 
-// An address, and the ends and the numbers of the members below it and of those from it on.
+// An address, and the ends and the numbers of the members below it and of those at or after it.
 const SPLITS: [(u64, (Ends, Ends)); 7] = [
     (0, ((0, 0, 0), (5, 301, 4))),
     (5, ((0, 0, 0), (5, 301, 4))),
@@ -138,7 +138,7 @@ fn a_list_is_split_before_the_first_member_that_is_not_below(
     Ok(())
 }
 
-/// The greatest member before `k`, and the least from `k` on, by a look at each.
+/// The greatest member before `k`, and the least at or after `k`, by looking at each.
 fn plain_around(members: &[u64], k: u64) -> (Option<u64>, Option<u64>) {
     (
         members.iter().copied().rev().find(|p| *p < k),
@@ -146,7 +146,7 @@ fn plain_around(members: &[u64], k: u64) -> (Option<u64>, Option<u64>) {
     )
 }
 
-/// A walk in a block of these members stops at the answer, beside each of them and at it.
+/// A walk in a block of these members stops at the answer, next to each of them and at it.
 fn stops_around<R: Abort, C: Debug>(
     rt: &R,
     case: &C,
@@ -164,7 +164,7 @@ fn stops_around<R: Abort, C: Debug>(
     }
 }
 
-/// The same of each block of some addresses.
+/// The same for each block of some addresses.
 fn are_walked<R: Abort>(rt: &R, alloc: Global, gap: u64) -> Result<(), AllocError> {
     let addresses = addresses(alloc, 3, 65, gap)?;
     let list = encode(alloc, &addresses)?;
@@ -210,7 +210,7 @@ fn push_three(
     rows.push_joined(&lists, whole.first(), whole.last(), whole.len())
 }
 
-/// The same of members that are lists of their own first.
+/// The same for members that are first made lists of their own.
 fn put_three(
     rows: &mut PostingRows,
     alloc: Global,
@@ -298,7 +298,7 @@ fn lists_that_are_put_in_rows_as_one_have_its_blocks(rt: HostRuntime) -> Result<
     Ok(())
 }
 
-/// A number is put as these bytes behind others, and is read from them, whatever follows.
+/// A number is put as these bytes after others, and is read from them, whatever follows.
 fn is_spelled<R: Abort>(rt: &R, alloc: Global, value: u64, bytes: &[u8]) -> Result<(), AllocError> {
     let mut out = vec![in alloc; 9u8]?;
     assert!(rt; value < ADDRESS_END);

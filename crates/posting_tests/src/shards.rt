@@ -64,7 +64,7 @@ impl Question for FirstThree<'_> {
     }
 }
 
-/// `to be or not to be`, from address 1 on.
+/// `to be or not to be`, starting at address 1.
 fn hamlet(alloc: Global) -> Result<Shard, AllocError> {
     let mut maker = ShardMaker::new(alloc, Range { first: 1, last: 6 });
     maker.push_term(b"be", &[2, 6])?;
@@ -74,7 +74,7 @@ fn hamlet(alloc: Global) -> Result<Shard, AllocError> {
     Ok(maker.finish())
 }
 
-/// Terms that are alike in their first eight bytes, or have fewer.
+/// Terms with the same first eight bytes, or with fewer.
 fn chapters(alloc: Global) -> Result<Shard, AllocError> {
     let mut maker = ShardMaker::new(alloc, Range { first: 1, last: 6 });
     maker.push_term(b"chapter", &[6])?;
@@ -163,13 +163,13 @@ fn a_look_up_is_one_step_whatever_it_finds(rt: HostRuntime) -> Result<(), AllocE
     Ok(())
 }
 
-/// The first three postings of the term at a place are these, and take so many steps.
+/// The first three postings of the term at a place are these, and take this number of steps.
 fn walks<R: Abort>(rt: &R, shard: &Shard, place: usize, want: ([Option<u64>; 3], u64)) {
     assert!(rt; place < shard.term_count());
     same(rt, &place, &counted(&FirstThree { shard, place }), &want);
 }
 
-/// The term at a place is this, and has so many postings.
+/// The term at a place is this, and has `len` postings.
 fn has_term<R: Abort>(rt: &R, shard: &Shard, place: usize, term: &str, len: usize) {
     assert!(rt; place < shard.term_count());
     same(rt, &term, &shard.place(term.as_bytes()), &Some(place));
@@ -225,7 +225,7 @@ fn terms_that_are_alike_in_eight_bytes_are_told_apart(rt: HostRuntime) -> Result
 /// A bound, whether the term is to come after it, and that term.
 type Bound = (&'static str, bool, Option<&'static [u8]>);
 
-/// The least term from each bound on, or after it, is this.
+/// The least term at or after each bound, or only after it, is this.
 fn has_terms_from<R: Abort>(rt: &R, shard: &Shard, bounds: &[Bound]) {
     for (low, strict, want) in bounds {
         same(rt, low, &shard.term_from(low.as_bytes(), *strict), want);

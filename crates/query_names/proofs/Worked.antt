@@ -1,5 +1,5 @@
 -- The definitions computed on small queries.
-use Rattle.std.specs.Prelude.{◌≡◌, true, false, List, [], ◌∷◌, codes, Ok, Err, None, Some, refl}
+use Rattle.std.specs.Prelude.{◌≡◌, false, [], ◌∷◌, codes, Ok, Err, Some, refl}
 use Rattle.query_names.specs.Names.{Defined, is_name, name_of, text_under}
 use Rattle.query_names.specs.PutIn.{put_in, put_from}
 use Rattle.query_names.specs.declared.fault.NameFault.TheVariants.{Unknown, TooLong}

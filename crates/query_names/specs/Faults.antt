@@ -1,4 +1,4 @@
--- What a fault of the names or of the parser is called where a name is defined.
+-- What a fault of the names or of the parser becomes when a name is defined.
 use Rattle.gcl_parser.specs.declared.fault.ParseFault.{ParseFault}
 use Rattle.gcl_parser.specs.declared.fault.ParseFault.TheVariants.{Query as ParseQuery, NoMemory as ParseNoMemory}
 use Rattle.query_names.specs.declared.fault.NameFault.{NameFault}
@@ -12,7 +12,7 @@ of_names (Unknown at) = Name (Unknown at)
 of_names (TooLong at) = Name (TooLong at)
 of_names NamesNoMemory = NoMemory
 
--- the same of the parser
+-- the same for the parser
 abbrev pub of_parse : ParseFault → DefineFault
 of_parse (ParseQuery fault) = Query fault
 of_parse ParseNoMemory = NoMemory

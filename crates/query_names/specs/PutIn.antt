@@ -5,7 +5,7 @@ use Rattle.query_names.specs.Names.{Defined, name_len, name_of, text_under}
 use Rattle.query_names.specs.declared.fault.NameFault.{NameFault}
 use Rattle.query_names.specs.declared.fault.NameFault.TheVariants.{Unknown, TooLong}
 
--- how many bytes a query has at most after all is put in
+-- the most bytes that a query may have once all names are put in
 abbrev pub most_query : ℕ
 most_query = 65536
 
@@ -13,14 +13,14 @@ most_query = 65536
 abbrev pub bracketed : List ℕ → List ℕ
 bracketed text = 40 ∷ text ++ 41 ∷ []
 
--- What comes of a byte: the text in its place, none for a name that is not defined; how many bytes behind it belong to the name; and whether
--- what follows is quoted
+-- What becomes of a byte: the text in its place, None for a name that is not defined; how many bytes after it belong to the name; and
+-- whether what follows is quoted
 pub record Piece : Type 0 where
   pub text : Option (List ℕ)
   pub skip : ℕ
   pub quoted : Bool
 
--- outside quotes `$` and the name behind it are the name's text in brackets; each other byte is itself, and a quote begins or ends quotes
+-- outside quotes `$` and the name after it become the name's text in brackets; each other byte stays, and a quote mark begins or ends quotes
 abbrev pub piece : Defined → Bool → ℕ → List ℕ → Piece
 piece defined quoted b rest = if (b == 36) && not quoted
     then record { text = option_map bracketed (text_under defined (name_of rest)); skip = name_len rest; quoted = false }
@@ -31,7 +31,7 @@ abbrev pub prefixed : List ℕ → Result (List ℕ) NameFault → Result (List 
 prefixed text (Ok more) = Ok (text ++ more)
 prefixed text (Err fault) = Err fault
 
--- a piece in front of others: a fault where it is none, or has no room
+-- a piece in front of others: a fault if it is None, or there is no room for it
 abbrev pub joined : ℕ → ℕ → Option (List ℕ) → Result (List ℕ) NameFault → Result (List ℕ) NameFault
 joined at room None more = Err (Unknown at)
 joined at room (Some text) more = if nat_le (length text) room then prefixed text more else Err (TooLong at)
@@ -41,7 +41,7 @@ abbrev pub taken : Option (List ℕ) → ℕ
 taken None = 0
 taken (Some text) = length text
 
--- the rest of a query from a place on, with so much room, where so many bytes belong to a name that was put in
+-- the rest of a query, starting at place `at`, with `room` bytes left, where the first `skip` bytes belong to a name that was put in
 abbrev pub put_from : Defined → Bool → ℕ → ℕ → ℕ → List ℕ → Result (List ℕ) NameFault
 put_from defined quoted skip at room [] = Ok []
 put_from defined quoted (suc k) at room (b ∷ rest) = put_from defined quoted k (at + 1) room rest

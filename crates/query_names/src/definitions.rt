@@ -11,7 +11,7 @@ use gcl_parser::parse;
 use std::alloc::{AllocError, Global};
 use std::marker::Model;
 
-/// Refuses a text that is no query.
+/// Refuses a text that is not a query.
 fn test(alloc: Global, query: &[u8]) -> Result<(), DefineFault>
     ensures ok { OnOk result (refused query.now ≡ None) }
     ensures err { IfErr result (λ fault. IsRefusal query.now fault) }
@@ -37,7 +37,7 @@ impl Model for Definitions {
 }
 
 impl Definitions {
-    /// No name is defined. It takes no memory.
+    /// No name is defined. It allocates nothing.
     pub fn new(alloc: Global) -> Self
         ensures { result ≡ [] }
     {
@@ -57,7 +57,7 @@ impl Definitions {
             .map(|entry| entry.1.as_slice())
     }
 
-    /// Puts an entry before all others, so that it is the one that counts.
+    /// Puts an entry before all others, so that it counts for its name.
     fn put(&mut self, alloc: Global, name: &[u8], text: Vec<u8>) -> Result<(), AllocError>
         ensures ok { IfOk result (λ _. self.new ≡ (name.now, text.items) ∷ self.old) }
         ensures err { OnErr result (self.new ≡ self.old) }

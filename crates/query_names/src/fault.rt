@@ -9,20 +9,20 @@ use std::alloc::AllocError;
 /// Why the names of a query are not put in.
 #[derive(Clone, Copy, Debug, PartialEq, Eq)]
 pub enum NameFault {
-    /// The `$` at this place has no name behind it that is defined.
+    /// The `$` at this place is not followed by a defined name.
     Unknown(u64),
-    /// With the byte or the name at this place the query is longer than it may be.
+    /// With the byte or the name at this place the query becomes too long.
     TooLong(u64),
     /// There is no memory for the query.
     NoMemory,
 }
 
-/// Why a name is not defined. Its definitions are as before.
+/// Why a name is not defined. The definitions are unchanged.
 #[derive(Clone, Copy, Debug, PartialEq, Eq)]
 pub enum DefineFault {
     /// A name in the text cannot be put in.
     Name(NameFault),
-    /// The text, with all names put in, is no query.
+    /// The text, with all names put in, is not a query.
     Query(QueryFault),
     /// There is no memory for the definition.
     NoMemory,

@@ -9,7 +9,7 @@ fn is_name_byte(b: u8) -> bool
     b.is_ascii_alphanumeric() || b == b'_'
 }
 
-/// How many bytes of names are at the front.
+/// How many bytes at the front may belong to a name.
 fn front_len(bytes: &[u8]) -> usize
     ensures value { result ≡ prefix_len is_name_byte bytes.now }
     ensures bound { result ≤ length bytes.now }
@@ -17,7 +17,7 @@ fn front_len(bytes: &[u8]) -> usize
     bytes.iter().take_while(|b| is_name_byte(**b)).count()
 }
 
-/// How many bytes the name at the front has, 0 where none is there.
+/// The length in bytes of the name at the front, 0 if there is none.
 pub fn name_len(bytes: &[u8]) -> usize
     ensures value { result ≡ name_len bytes.now }
     ensures bound { result ≤ length bytes.now }
@@ -28,7 +28,7 @@ pub fn name_len(bytes: &[u8]) -> usize
     }
 }
 
-/// Whether these bytes are a name: letters, digits and `_` behind a letter.
+/// Whether these bytes are a name: a letter, then letters, digits and `_`.
 pub fn is_name(bytes: &[u8]) -> bool
     ensures { result ≡ is_name bytes.now }
 {

@@ -6,10 +6,10 @@ use crate::fault::NameFault;
 use crate::names::name_len;
 use std::alloc::Global;
 
-/// How many bytes a query has at most after all is put in.
+/// The most bytes that a query may have once all names are put in.
 pub const MOST_QUERY: usize = 65_536;
 
-/// Puts a text in brackets.
+/// Appends a text in brackets. `at` is the place of its `$` in the query.
 fn put_text(out: &mut Vec<u8>, text: &[u8], at: u64) -> Result<(), NameFault>
     requires few { length out.old.items ≤ most_query }
     ensures ok { OnOk result (out.new.items ≡ out.old.items ++ bracketed text.now) }
@@ -26,12 +26,13 @@ fn put_text(out: &mut Vec<u8>, text: &[u8], at: u64) -> Result<(), NameFault>
     Ok(())
 }
 
-/// Puts a byte.
+/// Appends a byte. `at` is its place in the query.
 fn put_byte(out: &mut Vec<u8>, b: u8, at: u64) -> Result<(), NameFault>
     requires few { length out.old.items ≤ most_query }
     ensures ok { OnOk result (out.new.items ≡ out.old.items ++ b ∷ []) }
     ensures few { OnOk result (length out.new.items ≤ most_query) }
-    ensures err { IfErr result (λ fault. (fault ≡ NameFault.NoMemory) ⊎ ((fault ≡ NameFault.TooLong at) × (most_query < length out.old.items + 1))) }
+    ensures err { IfErr result (λ fault. (fault ≡ NameFault.NoMemory)
+        ⊎ ((fault ≡ NameFault.TooLong at) × (most_query < length out.old.items + 1))) }
 {
     if out.len() >= MOST_QUERY {
         return Err(NameFault::TooLong(at));
@@ -40,7 +41,7 @@ fn put_byte(out: &mut Vec<u8>, b: u8, at: u64) -> Result<(), NameFault>
     Ok(())
 }
 
-/// The query with the text of each name put in, in brackets. A refusal has its place in the query as it is given.
+/// The query with the text of each name put in, in brackets. A refusal gives its place in the query as passed in.
 pub fn put_in(alloc: Global, definitions: &Definitions, query: &[u8]) -> Result<Vec<u8>, NameFault>
     ensures ok { IfOk result (λ whole. put_in definitions.now query.now ≡ Ok whole.items) }
     ensures err { IfErr result (λ fault. (fault ≡ NameFault.NoMemory) ⊎ (put_in definitions.now query.now ≡ Err fault)) }

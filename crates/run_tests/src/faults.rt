@@ -1,4 +1,4 @@
-// What is left where something outside fails or is out of memory, where a limit is reached, and where an image is damaged.
+// What is left if something outside fails or is out of memory, if a limit is reached, and if an image is damaged.
 ghost use Rattle.std.specs.Prelude.{◌≡◌, Some};
 ghost use Rattle.outside.specs.Causes.{HasFileCause, CountsFileFault};
 ghost use Rattle.outside.specs.Contents.{IsKept};
@@ -53,7 +53,7 @@ struct Ended {
     same: bool,
 }
 
-/// This call where it is of that object, and none else.
+/// This call if it is of that object, else 0 for none.
 fn call_of(part: Part, whose: Part, call: u64) -> u64 {
     if part == whose { call } else { 0 }
 }
@@ -68,7 +68,7 @@ fn are_same(files: &MemFiles) -> bool {
     true
 }
 
-/// Runs the script where one object fails at one call.
+/// Runs the script with one object failing at one call.
 fn failing<R: Threads + Wait + Sync + RandomSource + AllocGlobal>(
     rt: &R,
     part: Part,
@@ -97,7 +97,7 @@ fn lines_before(call: u64) -> &'static [u8] {
     }
 }
 
-/// The lines before this call of the source are answered where it fails, and no more.
+/// If this call of the source fails, the lines before it are answered, and no more.
 fn fails_at_read<R: Threads + Wait + Sync + RandomSource + AllocGlobal + Abort>(
     rt: &R,
     call: u64,
@@ -126,15 +126,15 @@ fn whichever_call_of_the_source_fails_the_lines_before_it_are_answered(
     Ok(())
 }
 
-/// A beginning is written, and each name but that of the image holds what it held.
+/// A beginning of the text is written, and each name except that of the image holds what it held.
 fn begins<R: Abort>(rt: &R, part: Part, call: u64, ended: &Ended) {
     let case = (part, call);
     holds(rt, &case, TEXT.starts_with(ended.written.as_slice()));
     holds(rt, &case, ended.same);
 }
 
-/// Whether all is written; where it is not, the run ended with this status, and the image is kept where at least this number of bytes is
-/// written.
+/// Whether all is written. If it is not, the run ended with this status, and the image is kept exactly if at least this number of bytes
+/// is written.
 fn is_whole<R: Abort>(rt: &R, call: u64, ended: &Ended, want: Status, bytes: usize) -> bool {
     let written = ended.written.as_slice();
     if ended.status == Status::Done {
@@ -168,7 +168,7 @@ fn calls_that_fail<R: Threads + Wait + Sync + RandomSource + AllocGlobal + Abort
 fn whichever_call_fails_a_beginning_is_written_and_the_image_is_kept_or_not(
     rt: HostRuntime,
 ) -> Result<(), Fail> {
-    // after how many bytes the image is kept: where the save itself fails it is not
+    // after how many bytes the image is kept: if the save itself fails it is not
     let sink = calls_that_fail(&rt, Part::Sink, Status::WriteFault, BEFORE_SAVED.len())?;
     holds(&rt, &"sink", sink > 2);
     let files = calls_that_fail(&rt, Part::Files, Status::FileFault, TEXT.len())?;
@@ -209,9 +209,10 @@ struct HungryFiles {
 }
 
 impl HungryFiles {
-    /// Keeps the bytes, also where this call is out of memory: after an error the name may hold something else.
+    /// Keeps the bytes, even if this call is out of memory: after an error the name may hold something else.
     fn put(&mut self, name: &[u8], bytes: &[u8]) -> Result<(), FileError>
-        ensures kept { IsKept (⟦<SureFiles as Files>⟧.held self.old.inner) (⟦<SureFiles as Files>⟧.held self.new.inner) name.now bytes.now result }
+        ensures kept { IsKept (⟦<SureFiles as Files>⟧.held self.old.inner) (⟦<SureFiles as Files>⟧.held self.new.inner)
+            name.now bytes.now result }
         ensures cause { HasFileCause 0 0 result }
         ensures counts { CountsFileFault 0 0 result }
         ensures unkept { self.new.unkept ≡ self.old.unkept }
@@ -263,7 +264,7 @@ fn are_sure_same(files: &SureFiles) -> bool {
     true
 }
 
-/// Runs the script where one object is out of memory at one call.
+/// Runs the script with one object out of memory at one call.
 fn hungry<R: Threads + Wait + Sync + RandomSource + AllocGlobal>(
     rt: &R,
     part: Part,

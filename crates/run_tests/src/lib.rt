@@ -1,11 +1,11 @@
 //! Tests of whole runs: of the calls `serve` and `run` of `query_run`, over scripts, words, files and faults.
 //!
-//! They stand apart from that crate, since a crate that has tests is proved twice. `scripts` has scripts with their outputs,
+//! They are apart from that crate, since a crate that has tests is proved twice. `scripts` has scripts with their outputs,
 //! `plain_answers` queries that are compared with the plain program, `mixed` scripts whose lines mix edits and queries,
-//! `streams` scripts that come in pieces and answers that go out in pieces, `faults` what is left where something outside
+//! `streams` scripts that come in pieces and answers that go out in pieces, `faults` what is left if something outside
 //! fails, and `made` runs over a made corpus. `trials` is what these share.
 //!
-//! Apart from them there are `fixtures`: what each script is served on. An engine of no file with four readers has
+//! Besides these there are `fixtures`: what each script is served on. An engine of no file with four readers has
 //! completed no line, and each reader is of that engine.
 #![tactic(auto)]
 

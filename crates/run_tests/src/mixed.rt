@@ -1,4 +1,4 @@
-// What is written where the lines of a script mix edits and queries, and what is left where something fails between them.
+// What is written if the lines of a script mix edits and queries, and what is left if something fails between them.
 use crate::streams::{PIECE, files_with_words, in_pieces};
 use crate::trials::{
     Served, holds, joined, mem_files, mem_sink, repeated, served, served_from, served_over, serves,
@@ -21,7 +21,7 @@ const TURNS: &[u8] =
 const ANSWERS: &[u8] =
     b"file 0 0 7\n= 2\nfile 1 8 9\n2 2\n6 6\n= 2\nfile 2 10 17\n= 4\nsaved 117\n= 2\n";
 
-// Scripts whose lines mix edits and queries: the status, the number of lines, and the output, where a line may have 30 bytes.
+// Scripts whose lines mix edits and queries: the status, the number of lines, and the output, if a line may have 30 bytes.
 const MIXED: [(&str, &[u8], (Status, u64, &[u8])); 3] = [
     (
         "edits and queries in turns",
@@ -48,8 +48,8 @@ const MIXED: [(&str, &[u8], (Status, u64, &[u8])); 3] = [
     ),
 ];
 
-/// Each script is answered so with this number of readers, with at most this number of queries in a batch, and with at most `most` bytes from
-/// each call of the source.
+/// Each script is answered as the table has it, with this number of readers, at most this number of queries in a batch, and at most `most`
+/// bytes from each call of the source.
 fn each_is_answered_in_order<R: Threads + Wait + Sync + RandomSource + AllocGlobal + Abort>(
     rt: &R,
     readers: usize,
@@ -88,16 +88,16 @@ fn lines_are_answered_in_their_order_with_any_readers_and_batches(
     Ok(())
 }
 
-// Which call of the sink and of the files fails, none where it is 0; the status, the lines that are completed, how many bytes are written,
+// Which call of the sink and of the files fails, none if it is 0; the status, the lines that are completed, how many bytes are written,
 // and whether the image is kept. A change is completed once it is made, a query once its answer is made.
 const FAULTS: [(u64, u64, Status, u64, usize, bool); 13] = [
     (0, 0, Status::Done, 8, 69, true),
-    // where the files fail all that is due is written
+    // if the files fail, all that is due is written
     (0, 1, Status::FileFault, 0, 0, false),
     (0, 2, Status::FileFault, 2, 15, false),
     (0, 3, Status::FileFault, 4, 38, false),
     (0, 4, Status::FileFault, 6, 55, false),
-    // where the sink fails the line before it is completed, and nothing after it is done
+    // if the sink fails, the line before it is completed, and nothing after it is done
     (1, 0, Status::WriteFault, 1, 0, false),
     (2, 0, Status::WriteFault, 2, 11, false),
     (3, 0, Status::WriteFault, 3, 15, false),
@@ -108,7 +108,7 @@ const FAULTS: [(u64, u64, Status, u64, usize, bool); 13] = [
     (8, 0, Status::WriteFault, 8, 65, true),
 ];
 
-/// How `serve` ends where these calls of the sink and of the files fail, and whether the image was kept.
+/// How `serve` ends if these calls of the sink and of the files fail, and whether the image was kept.
 fn failing<R: Threads + Wait + Sync + RandomSource + AllocGlobal + Abort>(
     rt: &R,
     sink: u64,
@@ -136,7 +136,7 @@ fn a_fault_between_edits_and_queries_leaves_the_answers_before_it(
     Ok(())
 }
 
-/// What is written where a list of 5,000 words is asked for, and their number once they are there twice.
+/// What is written if a list of 5,000 words is asked for, and their number once they are there twice.
 fn listed(alloc: Global) -> Result<Vec<u8>, AllocError> {
     let mut want = Vec::new(alloc);
     put_file(&mut want, 0, 0, 5_001)?;

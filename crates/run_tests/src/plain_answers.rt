@@ -281,7 +281,7 @@ impl Play {
     }
 }
 
-/// The script is answered as it is to be, over the file of a sample.
+/// The script is answered as expected, over the file of a sample.
 fn is_played<R: Threads + Wait + Sync + RandomSource + AllocGlobal + Abort>(
     rt: &R,
     sample: Sample,

@@ -119,7 +119,7 @@ fn merges_all_along_give_the_same_bytes_with_any_readers(rt: HostRuntime) -> Res
     Ok(())
 }
 
-// Prefix terms, each of which stands for all words that begin so.
+// Prefix terms, each of which stands for all words that begin with it.
 const PREFIXES: [Row; 6] = [
     (
         "each word that begins so is found",
@@ -361,7 +361,7 @@ fn structure_is_found_in_a_play(rt: HostRuntime) -> Result<(), Fail> {
     Ok(())
 }
 
-// Texts that are no query, each with the place of its first fault and what is wrong there.
+// Texts that are not queries, each with the place of its first fault and what is wrong there.
 const FAULTS: [(&[u8], &[u8]); 12] = [
     (b"(\"to\"", b"5: operator or close expected"),
     (b"\"to\" ..", b"7: operand expected"),
@@ -377,7 +377,7 @@ const FAULTS: [(&[u8], &[u8]); 12] = [
     (b"(((((((((((((", b"12: too deep"),
 ];
 
-/// A text after `find` is refused so.
+/// A text after `find` is refused with this fault.
 fn is_no_query<R: Threads + Wait + Sync + RandomSource + AllocGlobal + Abort>(
     rt: &R,
     query: &[u8],
@@ -461,7 +461,7 @@ fn a_line_of_65_537_bytes_is_long(rt: HostRuntime) -> Result<(), Fail> {
     Ok(())
 }
 
-// A script; which call of the source, the sink and the files fails, none where it is 0; and how the run ends.
+// A script; which call of the source, the sink and the files fails, none if it is 0; and how the run ends.
 const ENDS: [(&str, &[u8], [u64; 3], Status, &[u8]); 10] = [
     (
         "the first read fails",
@@ -535,7 +535,7 @@ const ENDS: [(&str, &[u8], [u64; 3], Status, &[u8]); 10] = [
     ),
 ];
 
-/// How a run ends whose objects fail at these calls.
+/// How a run ends if its objects fail at these calls.
 fn ends_at<R: Threads + Wait + Sync + RandomSource + AllocGlobal + Abort>(
     rt: &R,
     name: &str,
@@ -618,7 +618,7 @@ fn put_additions(script: &mut Vec<u8>, want: &mut Vec<u8>) -> Result<(), AllocEr
     Ok(())
 }
 
-/// A file is deleted: the command is the answer but for its word.
+/// A file is deleted: the command is the answer except for its word.
 fn put_deletion(
     alloc: Global,
     script: &mut Vec<u8>,

@@ -1,4 +1,4 @@
-// What is written where a script comes in pieces, and where the answers go out in pieces.
+// What is written if a script comes in pieces, and if the answers go out in pieces.
 ghost use Rattle.std.specs.Prelude.{None, Some};
 
 use crate::scripts::SCRIPTS;
@@ -100,8 +100,8 @@ fn limited(script: u64) -> Limits {
     }
 }
 
-/// How `serve` ends with this number of readers and by these limits, where `x` has `words` words and the source hands over at most `most`
-/// bytes a call.
+/// How `serve` ends with this number of readers and these limits, if `x` has `words` words and the source hands over at most `most` bytes
+/// a call.
 pub(crate) fn in_pieces<R: Threads + Wait + Sync + RandomSource + AllocGlobal + Abort>(
     rt: &R,
     readers: usize,
@@ -117,14 +117,14 @@ pub(crate) fn in_pieces<R: Threads + Wait + Sync + RandomSource + AllocGlobal + 
     Ok((status, lines, sink.taken))
 }
 
-// A script whose lines end in every way, and its output where a line may have 20 bytes.
+// A script whose lines end in every way, and its output if a line may have 20 bytes.
 const LINES: &[u8] =
     b"add a\r\nadd b\n\nfind \"to\"\ncount \"be\"\r\ntop 1 \"to be\"\nfind \"to\"..\"be\" + \"or\" + \"not\"\nmerge\ncount \"or\"\nfrob\nshards\r\n\r\ncount \"not\"";
 
 const ANSWERS: &[u8] =
     b"file 0 0 7\nfile 1 8 9\n1 1\n5 5\n= 2\n= 2\n1 2\n= 1\n! long line\nmerging\n= 1\n! command\nshards 1\n= 1\n";
 
-/// Each script has its output where the source hands over at most `most` bytes a call.
+/// Each script has its output if the source hands over at most `most` bytes a call.
 fn each_is_answered_in_pieces<R: Threads + Wait + Sync + RandomSource + AllocGlobal + Abort>(
     rt: &R,
     most: usize,
@@ -320,7 +320,7 @@ fn lists_longer_than_a_page_are_written_to_their_ends(rt: HostRuntime) -> Result
     Ok(())
 }
 
-/// This is written where the sink takes at most `most` bytes a call, and no call gets more than a piece.
+/// This is written if the sink takes at most `most` bytes a call, and no call gets more than a piece.
 fn is_written_in_pieces<R: Threads + Wait + Sync + RandomSource + AllocGlobal + Abort>(
     rt: &R,
     script: &[u8],

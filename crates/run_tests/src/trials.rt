@@ -1,5 +1,5 @@
-// What the tests share: objects in memory, runs over them, and how one is to end. Each long contract and each comparison stands in one
-// function here: a test that makes several such calls in a row would be proved with all of them in sight.
+// What the tests share: objects in memory, runs over them, and how a run should end. Each long contract and each comparison is in one
+// function here: a test that makes several such calls in a row would be proved with all of them in scope.
 use crate::fixtures::opened;
 use collection::Opened;
 use gcl_model::Bytes;
@@ -69,7 +69,7 @@ pub(crate) fn files_and(
     Ok(SureFiles::new(alloc, files))
 }
 
-/// No file but this one.
+/// Only this file.
 pub(crate) fn one_file(
     alloc: Global,
     name: &[u8],
@@ -80,7 +80,7 @@ pub(crate) fn one_file(
     Ok(files)
 }
 
-/// The number of a call that is to fail, and none where it is 0.
+/// The number of a call that is to fail, or none if it is 0.
 pub(crate) fn failing_call(alloc: Global, number: u64) -> Result<Vec<u64>, AllocError> {
     let mut calls = Vec::new(alloc);
     if number > 0 {
@@ -89,12 +89,12 @@ pub(crate) fn failing_call(alloc: Global, number: u64) -> Result<Vec<u64>, Alloc
     Ok(calls)
 }
 
-/// The files that are held; the call with this number fails, none where it is 0.
+/// The files that are held; the call with this number fails, none if it is 0.
 pub(crate) fn mem_files(alloc: Global, fails: u64) -> Result<MemFiles, AllocError> {
     Ok(MemFiles::new(alloc, held(alloc)?, failing_call(alloc, fails)?))
 }
 
-/// A script; the call with this number fails, none where it is 0.
+/// A script; the call with this number fails, none if it is 0.
 pub(crate) fn mem_source(
     alloc: Global,
     script: &[u8],
@@ -107,7 +107,7 @@ pub(crate) fn mem_source(
     ))
 }
 
-/// A sink; the call with this number fails, none where it is 0.
+/// A sink; the call with this number fails, none if it is 0.
 pub(crate) fn mem_sink(alloc: Global, fails: u64) -> Result<MemSink, AllocError> {
     Ok(MemSink::new(alloc, failing_call(alloc, fails)?))
 }
@@ -158,7 +158,7 @@ pub(crate) fn counts<R: Abort, C: Debug>(rt: &R, case: &C, number: u64, want: u6
     assert_eq!(rt; number, want, "{case:?}");
 }
 
-/// This is so.
+/// This holds.
 pub(crate) fn holds<R: Abort, C: Debug>(rt: &R, case: &C, is_so: bool) {
     assert!(rt; is_so, "{case:?}");
 }
@@ -234,7 +234,7 @@ pub(crate) fn run_over<
     Ok((status, sink.written().to_vec(rt.alloc())?))
 }
 
-/// A run with these words of this script, over the files that are held, ends so.
+/// A run with these words of this script, over the files that are held, ends as given.
 pub(crate) fn answers<R: Threads + Wait + Sync + RandomSource + AllocGlobal + Abort, C: Debug>(
     rt: &R,
     case: &C,

@@ -1,6 +1,3 @@
-ghost use Rattle.std.specs.Prelude.{◌≡◌};
-ghost use Rattle.query_lanes.specs.Readers.{AreOf};
-
 use crate::batches::{MOST, opened, query};
 use address_space::is_name;
 use collection::{Engine, Opened};
@@ -13,7 +10,7 @@ use std::sync::Wait;
 use std::test::Fail;
 use std::thread::Threads;
 
-/// Of a page the number of its members, the start of the first and the end of the last one, or 0 where there is none.
+/// The number of members of a page, the start of the first and the end of the last, or 0 if there is none.
 type Summary = (u64, u64, u64);
 
 fn summary(page: &IntervalList) -> Summary {
@@ -34,7 +31,7 @@ fn added<R: Wait>(rt: &R, alloc: Global, engine: &mut Engine) -> bool {
     is_name(b"a") && engine.add(rt, b"a", bytes.as_slice()).is_ok()
 }
 
-/// An engine of that file alone.
+/// An engine with only that file.
 fn engine_of_words<R: Wait>(rt: &R, alloc: Global) -> Result<Engine, AllocError> {
     let Opened {
         mut engine,
@@ -60,7 +57,7 @@ fn pages_of(alloc: Global, listing: &mut Listing) -> Result<Vec<Summary>, AllocE
     Ok(pages)
 }
 
-/// The pages of an answer, or its total alone.
+/// The pages of an answer, or only its total.
 fn pages_found(alloc: Global, found: &mut Found) -> Result<Vec<Summary>, AllocError> {
     let mut pages = Vec::new(alloc);
     match found {
@@ -99,7 +96,7 @@ fn found_of_words<R: Threads + Wait + Sync>(
     pages_found(alloc, found)
 }
 
-/// What is found of 5,000 words `x` from address 1 on.
+/// What is found of 5,000 words `x`, starting at address 1.
 const CASES: [(Asked, &[Summary]); 7] = [
     (Asked::All, &[(4_096, 1, 4_096), (904, 4_097, 5_000)]),
     (

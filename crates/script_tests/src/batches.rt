@@ -18,11 +18,11 @@ use std::sync::{Arc, Wait};
 use std::test::Fail;
 use std::thread::Threads;
 
-/// No test goes on from a greater number.
+/// No test continues from a greater number.
 pub(crate) const MOST: u64 = 1 << 61;
 
-/// Queries over `to be or not to be` from address 0 on, and what each finds: the first and last address of each member, their number, or the place of a
-/// fault.
+/// Queries over `to be or not to be`, starting at address 0, and what each finds: the first and last address of each member, their number,
+/// or the place of a fault.
 const TABLE: [(Asked, &[u8], &[u64]); 7] = [
     (Asked::All, b"\"to\"", &[1, 1, 5, 5]),
     (Asked::Number, b"\"be\"", &[2]),
@@ -145,7 +145,7 @@ fn are_those_of_the_table(
     Ok(true)
 }
 
-/// Whether batches of all queries, of one, and of none are answered as the table has it, beside a merge and without one.
+/// Whether batches of all queries, of one, and of none are answered as the table has it, concurrently with a merge and without one.
 fn answers_batches<R: Threads + Wait + Sync>(
     rt: &R,
     alloc: Global,
@@ -198,8 +198,8 @@ fn any_number_of_readers_gives_the_same_answers(rt: HostRuntime) -> Result<(), F
     Ok(())
 }
 
-/// On which versions the first two queries of a batch beside a merge were answered, where the merge waits for the second and the second
-/// for the merge, and all answers are those of the table.
+/// On which versions the first two queries of a batch concurrent with a merge were answered, if the merge waits for the second and the
+/// second for the merge, and all answers are those of the table.
 fn take_turns<R: Threads + Wait + Sync>(
     rt: &R,
     alloc: Global,

@@ -29,7 +29,7 @@ fn loads<R: Abort, F: Files>(
     Ok(())
 }
 
-/// So many files.
+/// `count` made files.
 fn made<R: Abort>(rt: &R, alloc: Global, start: u64, count: u64) -> MadeFiles {
     assert!(rt; count <= 10_000);
     MadeFiles::new(alloc, start, count)
@@ -43,7 +43,7 @@ fn a_made_file_has_its_content_and_every_other_name_none(rt: HostRuntime) -> Res
         (0, 1, b"m0", 125, false, FIRST),
         (0, 1, b"m0", 3, false, b"w592"),
         (0, 1, b"m0", 0, false, b"w"),
-        // The numbers go round.
+        // The numbers wrap around.
         (u64::MAX, 2, b"m1", 1000, true, FIRST),
         (u64::MAX - 8, 10, b"m9", 1000, true, FIRST),
         (u64::MAX - 9, 11, b"m10", 1000, true, FIRST),
@@ -83,7 +83,7 @@ fn a_kept_name_has_its_bytes_and_every_other_name_what_it_had(rt: HostRuntime) -
     Ok(())
 }
 
-/// The script over so many files is this.
+/// The script over `count` files is this.
 fn is_made<R: Abort>(
     rt: &R,
     alloc: Global,

@@ -7,7 +7,7 @@ use collection::{Engine, Opened};
 use std::alloc::{AllocError, Global};
 use std::sync::Wait;
 
-/// An engine of no file, and so many readers.
+/// An engine of no file, opened for `readers` readers.
 pub fn opened<R: Wait>(rt: &R, alloc: Global, readers: usize) -> Result<Opened, AllocError>
     requires { readers ≤ most_readers }
     ensures of { IfOk result (λ opened. AreOf opened.engine.publisher opened.readers.items) }

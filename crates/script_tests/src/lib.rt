@@ -1,10 +1,10 @@
 //! Tests of the public calls of the crates that read scripts and words, make a corpus, answer batches and watch queries.
 //!
-//! They stand apart from those crates, since a crate that has tests is proved twice. `script` is of `script_lang`,
-//! `corpus` of `made_corpus`, `options` of `command_words`, `batches` and `batch_pages` of `query_lanes`, `readers`
-//! and `prefixes` of `query_search`, and `watches` of `standing_query`.
+//! They are apart from those crates, since a crate that has tests is proved twice. `script` is for `script_lang`,
+//! `corpus` for `made_corpus`, `options` for `command_words`, `batches` and `batch_pages` for `query_lanes`, `readers`
+//! and `prefixes` for `query_search`, and `watches` for `standing_query`.
 //!
-//! Beside them there are `fixtures`: what several tests begin with. Of an engine of no file with four readers each
+//! Besides these there are `fixtures`: what several tests begin with. If an engine of no file has four readers, each
 //! reader is of that engine.
 #![tactic(auto)]
 

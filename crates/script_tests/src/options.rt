@@ -23,7 +23,7 @@ fn words_of(alloc: Global, line: &[u8]) -> Result<Vec<Bytes>, AllocError> {
     Ok(words)
 }
 
-/// The words of the line write these options, or none.
+/// The words of the line ask for these options, or for none.
 fn writes<R: Abort>(
     rt: &R,
     alloc: Global,

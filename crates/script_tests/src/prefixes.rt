@@ -1,5 +1,4 @@
 //! Searches with prefix terms, against the plain program over the same query with the words in their place.
-ghost use Rattle.std.specs.Prelude.{◌≤◌};
 ghost use Rattle.gcl_model.specs.FormOf.{form_of};
 ghost use Rattle.gcl_model.specs.WellFormed.{IsWellFormed};
 
@@ -15,7 +14,7 @@ use std::sync::{Arc, Wait};
 use std::test::Fail;
 
 /// Files, and whether they stay. The first one is more than four times as long as the others together, so it keeps a slot of its own. `@`
-/// stands for the words `w00` to `w19`, more than fingers are for. `dead` and `toad` stand in a dead range alone.
+/// stands for the words `w00` to `w19`, more than fingers are for. `dead` and `toad` occur only in a dead range.
 const FILES: [(&str, bool); 3] = [
     (
         "to tower tea be bees or orb to be not note @ x x x x x x x x x x x x x x x x x x x x x x x x x x x x x x x x x x x x x x x x",
@@ -245,7 +244,7 @@ fn a_prefix_finds_what_its_words_do(rt: HostRuntime) -> Result<(), Fail> {
     Ok(())
 }
 
-/// Each third number from `first` on and below 3,000, as a word of `w` and four digits.
+/// Every third number below 3,000, starting at `first`, as a word of `w` and four digits.
 fn third_of_the_words(alloc: Global, first: u64) -> Result<Vec<u8>, AllocError> {
     let mut words = Vec::new(alloc);
     for turn in 0..1_000u64 {
@@ -285,7 +284,7 @@ fn counted_and_listed(
     Ok((counting.count(), members.len() as u64))
 }
 
-/// Queries over 3,000 words of one prefix, a third of them in a dead range alone, and how many members each has.
+/// Queries over 3,000 words of one prefix, a third of them only in a dead range, and how many members each has.
 const MANY: [(&str, u64); 4] = [
     ("\"w\"*", 2_000),
     ("\"w1\"*", 666),

@@ -1,5 +1,5 @@
 //! Searches that readers answer, against the plain program that looks at all pairs.
-ghost use Rattle.std.specs.Prelude.{◌≡◌, ◌<◌};
+ghost use Rattle.std.specs.Prelude.{◌<◌};
 ghost use Rattle.gcl_model.specs.FormOf.{form_of};
 ghost use Rattle.gcl_model.specs.WellFormed.{IsWellFormed};
 
@@ -13,7 +13,7 @@ use std::alloc::{AllocError, Global};
 use std::sync::{Arc, Wait};
 use std::test::Fail;
 
-/// The next of the numbers that stand for chance.
+/// The next pseudo-random number.
 fn chance(state: &mut u64, below: u64) -> u64
     requires { 0 < below }
     ensures { result < below }
@@ -39,7 +39,7 @@ const LEAVES: [&[u8]; 7] = [
 
 const OPERATORS: [&[u8]; 7] = [b"^", b"+", b"..", b">", b"<", b"/>", b"/<"];
 
-/// A query of this depth at most.
+/// A random query of at most this depth.
 fn put_query(query: &mut Vec<u8>, state: &mut u64, depth: u64) -> Result<(), AllocError> {
     if depth == 0 || chance(state, 6) == 0 {
         return query.extend_from_slice(LEAVES[chance(state, 7) as usize]);
@@ -53,7 +53,7 @@ fn put_query(query: &mut Vec<u8>, state: &mut u64, depth: u64) -> Result<(), All
     Ok(())
 }
 
-/// Words that chance takes, as a file, and as the tokens of a text with that file alone.
+/// Random words, as a file, and as the tokens of a text with only that file.
 #[derive(Drop)]
 struct Sample {
     bytes: Vec<u8>,
@@ -149,7 +149,7 @@ fn is_found(
     Ok(rest.len() as u64 == left && two.len() + rest.len() == plain.len())
 }
 
-/// Whether queries that chance makes are found in such samples; the number of the first that is not.
+/// The number of the first random query that is not found in such a sample.
 fn first_difference<R: Wait>(rt: &R, alloc: Global, turns: u64) -> Result<Option<u64>, AllocError> {
     let mut state = 11;
     for turn in 0..turns {
@@ -176,7 +176,7 @@ fn a_search_finds_what_the_plain_program_lists(rt: HostRuntime) -> Result<(), Fa
     Ok(())
 }
 
-/// How many members nested queries have over so many times `a`.
+/// How many members nested queries have over `words` times `a`.
 fn nested_counts<R: Wait>(rt: &R, alloc: Global, words: u64) -> Result<Vec<u64>, AllocError> {
     let mut counts = Vec::new(alloc);
     let mut bytes = Vec::new(alloc);
@@ -235,7 +235,7 @@ const WAYS: [(&[u8], bool); 15] = [
     (b"\"d\" > (\"a\" + (\"b\" + (\"c\" + \"e\")))", true),
 ];
 
-/// The number of the first of these that goes another way.
+/// The number of the first of these that is not answered in its way.
 fn goes_another_way(alloc: Global, engine: &Engine) -> Result<Option<usize>, AllocError> {
     for (number, (text, is_read)) in WAYS.iter().enumerate() {
         let Ok(expr) = query(alloc, text)? else {

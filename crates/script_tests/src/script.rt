@@ -26,7 +26,7 @@ fn long_cut(at: usize, after: usize) -> Option<LineCut> {
     })
 }
 
-/// The line at a place is cut so.
+/// The line at a place is cut like this.
 fn is_cut<R: Abort>(rt: &R, bytes: &[u8], at: usize, most: usize, want: Option<LineCut>) {
     assert!(rt; at <= bytes.len());
     assert_eq!(rt; line_at(bytes, at, most), want, "{bytes:?} from {at}");
@@ -138,7 +138,7 @@ fn each_command_takes_its_argument_and_no_other(rt: HostRuntime) -> Result<(), F
     Ok(())
 }
 
-/// What is answered where files come and go, and to queries.
+/// What is answered when files come and go, and to queries.
 fn put_found(out: &mut Vec<u8>) -> Result<(), AllocError> {
     put_file(out, 0, 0, 7)?;
     put_gone(out, 12)?;
@@ -156,7 +156,7 @@ fn put_named(alloc: Global, out: &mut Vec<u8>) -> Result<(), AllocError> {
     put_record(out, &record)
 }
 
-/// What is answered where slots are merged and counted, and images saved and opened.
+/// What is answered when slots are merged and counted, and images saved and opened.
 fn put_numbers(out: &mut Vec<u8>) -> Result<(), AllocError> {
     put_merging(out)?;
     put_shards(out, 2)?;
@@ -264,7 +264,7 @@ fn put_lines(out: &mut Vec<u8>, text: &[u8], most: u64) -> Result<(), Fail> {
     Ok(())
 }
 
-/// The lines of a text that comes in pieces of so many bytes: after each piece all whole lines, and then the rest.
+/// The lines of a text that comes in pieces of `len` bytes: after each piece all whole lines, and then the rest.
 fn whole_lines_of_pieces(
     rt: &impl Abort,
     alloc: Global,
@@ -336,7 +336,7 @@ fn a_text_has_the_same_lines_however_it_is_cut(rt: HostRuntime) -> Result<(), Fa
     Ok(())
 }
 
-/// Of a feed of lines of at most three bytes that was given a piece, these whole lines are lent, and this is left.
+/// A feed of lines of at most three bytes that was given a piece lends these whole lines, and this is left.
 fn lends<R: Abort>(
     rt: &R,
     alloc: Global,

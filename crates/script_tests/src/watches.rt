@@ -3,7 +3,7 @@ use standing_query::{NoWatch, WatchFault, WatchList};
 use std::process::Abort;
 use std::test::Fail;
 
-/// No test goes on from a greater number.
+/// No test continues from a greater number.
 const MOST: u64 = 1 << 62;
 
 #[derive(Clone, Copy, Debug)]

@@ -1,5 +1,5 @@
 -- The names of made files are names.
-use Rattle.std.proofs.Common.{◌≡◌, ℕ, zero, suc, ◌+◌, ◌*◌, ◌%◌, ◌<◌, ◌≤◌, ◌^◌, Bool, true, false, not, ◌&&◌, ◌==◌, List, [], ◌∷◌, ◌++◌, length, codes, nat_le, refl, sym, ap, ◌∙◌, subst, arith, length-append, leb-true}
+use Rattle.std.proofs.Common.{◌≡◌, ℕ, zero, suc, ◌+◌, ◌%◌, ◌<◌, ◌≤◌, ◌^◌, Bool, true, false, ◌&&◌, ◌==◌, List, [], ◌∷◌, ◌++◌, length, codes, nat_le, refl, ap, ◌∙◌, arith, leb-true}
 use Rattle.std.specs.Prelude.{decimal}
 use Rattle.std.specs.List.{list_all}
 use Rattle.std.specs.Str.{is_utf8, IsAscii}
@@ -10,7 +10,7 @@ use Rattle.std.proofs.lemmas.List.Folds.{list_all-append}
 use Rattle.std.proofs.lemmas.Str.{IsUtf8-from_ascii, is_utf8-from_IsUtf8}
 use Rattle.gcl_model.specs.Limits.{most_name}
 use Rattle.gcl_model.specs.Names.{is_name, is_plain_byte}
-use Rattle.gcl_model.specs.Tokens.{starts_with_byte, ends_with_byte}
+use Rattle.gcl_model.specs.Tokens.{ends_with_byte}
 use Rattle.made_corpus.specs.MadeFiles.{name_of}
 
 -- a digit of ASCII

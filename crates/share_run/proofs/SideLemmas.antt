@@ -1,10 +1,10 @@
 -- Sides that are made of editors, and editors that are taken back.
-use Rattle.std.proofs.Common.{◌≡◌, ℕ, zero, suc, ◌+◌, ◌<◌, ◌≤◌, Bool, true, false, ◌&&◌, List, [], ◌∷◌, ◌++◌, length, Option, None, Some, slice_index_or, take, drop, refl, sym, ap, ◌∙◌, subst, arith, append_assoc, append-nil, length-append}
+use Rattle.std.proofs.Common.{◌≡◌, ℕ, suc, ◌+◌, ◌<◌, ◌≤◌, Bool, true, false, ◌&&◌, List, [], ◌∷◌, ◌++◌, length, Option, None, Some, slice_index_or, take, drop, refl, sym, ap, ◌∙◌, subst, arith, append_assoc, append-nil, length-append}
 use Rattle.std.specs.Prelude.{option_to_list}
 use Rattle.std.proofs.lemmas.Bool.{and_parts}
 use Rattle.shared_edit.specs.Editors.{EditorContent, new_editors}
 use Rattle.share_run.specs.Sides.{EditorHasWorked, HasWorked, SideContent, are_done, editors_from}
-use Rattle.share_run.specs.Work.{HasEdited, HaveEdited}
+use Rattle.share_run.specs.Work.{HaveEdited}
 use Rattle.share_run.proofs.WorkLemmas.{edited_together, new_length}
 
 -- the editor of the last side is the first one

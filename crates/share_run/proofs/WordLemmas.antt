@@ -1,11 +1,10 @@
 -- Words and the options that they write.
-use Rattle.std.proofs.Common.{◌≡◌, ◌≢◌, ◌⊎◌, ℕ, ◌+◌, ◌<◌, Bool, true, false, ◌||◌, List, [], ◌∷◌, length, Option, None, Some, option_map, option_and_then, cond, not, suc, refl, sym, ap, ◌∙◌, subst, arith, nat_lt, take, drop}
+use Rattle.std.proofs.Common.{◌≡◌, ℕ, ◌+◌, ◌<◌, Bool, true, false, ◌||◌, List, [], ◌∷◌, length, Option, None, Some, option_map, option_and_then, cond, not, suc, refl, sym, ap, ◌∙◌, subst, arith, nat_lt, take, drop}
 use Rattle.std.specs.List.{position, position_or_len}
 use Rattle.std.proofs.lemmas.Bool.Decides.{nat_tests}
 use Rattle.command_words.specs.Grammar.{Given, is_equals, is_joined, pairs_of, parted}
 use Rattle.command_words.proofs.PairLemmas.{pairs_of-joined, pairs_of-last, pairs_of-spaced}
 use Rattle.share_run.specs.Words.{options_in, options_of}
-use Rattle.share_run.specs.declared.options.ShareOptions.{ShareOptions}
 
 -- a word is joined where an `=` stands in it
 joined : (word : List ℕ) → is_joined word ≡ nat_lt (position_or_len is_equals word) (length word)

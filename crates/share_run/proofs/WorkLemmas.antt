@@ -1,10 +1,10 @@
 -- The numbers of several editors together.
-use Rattle.std.proofs.Common.{◌≡◌, ℕ, zero, suc, ◌+◌, ◌*◌, ◌%◌, ◌<◌, ◌≤◌, ◌==◌, Bool, true, false, List, [], ◌∷◌, ◌++◌, length, refl, sym, ap, ◌∙◌, subst, arith, eqb-true, length-append, ◌⊎◌, inl, inr}
+use Rattle.std.proofs.Common.{◌≡◌, ℕ, zero, suc, ◌+◌, ◌*◌, ◌%◌, ◌<◌, ◌≤◌, ◌==◌, Bool, true, false, List, [], ◌∷◌, ◌++◌, length, refl, ap, arith, eqb-true, length-append, ◌⊎◌, inl, inr}
 use Rattle.std.proofs.lemmas.Bool.{cases_lt, eq-eqb, ne_eqb}
 use Rattle.std.specs.List.{sum_by}
 use Rattle.std.proofs.lemmas.List.Sums.{sum_by-append}
 use Rattle.shared_edit.specs.Editors.{EditorContent, editor_content, new_editors}
-use Rattle.share_run.specs.Work.{AreSums, answers_of, files_for, HasEdited, HaveEdited, one_where}
+use Rattle.share_run.specs.Work.{AreSums, files_for, HaveEdited, one_where}
 
 -- the work of some editors, and of others after them
 pub edited_together : (editors files : ℕ) (xs ys us vs : List EditorContent) → HaveEdited editors files xs ys → HaveEdited editors files us vs → HaveEdited editors files (xs ++ us) (ys ++ vs)

@@ -1,5 +1,5 @@
 -- What a share leaves.
-use Rattle.std.specs.Prelude.{◌≡◌, ℕ, ◌+◌, List, Option, Some, IfSome}
+use Rattle.std.specs.Prelude.{ℕ, List, Option}
 use Rattle.std.specs.Io.KnownBytes.{Appends}
 use Rattle.shared_edit.specs.Books.{ClosedContent}
 use Rattle.shared_edit.specs.Histories.{count_of, is_added, is_gone, is_refused}

@@ -1,4 +1,4 @@
--- What is written of a share.
+-- What is written about a share.
 use Rattle.std.specs.Prelude.{◌≡◌, ℕ, List, [], ◌∷◌, ◌++◌, Option, length, codes, decimal}
 use Rattle.std.specs.Io.KnownBytes.{Appends}
 use Rattle.live_version.specs.Contents.{files_of}

@@ -1,4 +1,4 @@
--- What an editor's work leaves of its numbers.
+-- What an editor's work does to its numbers.
 use Rattle.std.specs.Prelude.{◌≡◌, ℕ, zero, suc, ◌+◌, ◌*◌, ◌%◌, ◌<◌, ◌≤◌, ◌==◌, Bool, true, false, List, [], ◌∷◌}
 use Rattle.shared_edit.specs.Editors.{EditorContent}
 
@@ -6,18 +6,18 @@ use Rattle.shared_edit.specs.Editors.{EditorContent}
 abbrev pub answers_of : EditorContent → ℕ
 answers_of e = e.added + e.gone + e.refused
 
--- 1 where it is so, and else 0
+-- 1 if it is true, else 0
 abbrev pub one_where : Bool → ℕ
 one_where true = 1
 one_where false = 0
 
--- how many of the files below some number are an editor's, whose number they leave when they are divided by the number of editors:
--- of 9 files and 2 editors number 0 has 5
+-- how many of the files below some number are an editor's: their number divided by the number of editors leaves its number.
+-- Of 9 files and 2 editors number 0 has 5
 abbrev pub files_for : ℕ → ℕ → ℕ → ℕ
 files_for editors number zero = 0
 files_for editors number (suc i) = files_for editors number i + one_where (i % editors == number)
 
--- one file was added or refused, and where it was the third that was accepted, a deletion was called
+-- one file was added or refused, and if it was the third accepted since the last deletion, a deletion was called
 pub record TakesOne (before : EditorContent) (taken dels : ℕ) (after : EditorContent) (taken' dels' : ℕ) : Type 0 where
   pub number : after.number ≡ before.number
   pub answers : answers_of after + dels ≡ answers_of before + 1 + dels'
@@ -44,8 +44,8 @@ HaveEdited editors files [] (y ∷ ys) = ⊥
 HaveEdited editors files (x ∷ xs) [] = ⊥
 HaveEdited editors files (x ∷ xs) (y ∷ ys) = HasEdited editors files x y × HaveEdited editors files xs ys
 
--- The numbers of all editors together: each file was added once, and one deletion was called for three
--- adds that were accepted
+-- The numbers of all editors together: each file was added or refused once, and one deletion was called for each three of an editor's
+-- accepted adds
 pub record AreSums (files editors added gone refused : ℕ) : Type 0 where
   pub dels : ℕ
   pub answers : added + gone + refused ≡ files + dels

@@ -11,7 +11,7 @@ use std::sync::ledger::Ledger;
 // How often the lane enters and settles.
 const ROUNDS: u64 = 8;
 
-/// The readers that plan merges: one, or none. They are of one publisher.
+/// The reader that plans merges, if there is one. It is of the publisher of `J`.
 #[derive(Drop)]
 pub struct Lane<J: Naming> {
     reader: Option<Reader>,
@@ -52,7 +52,7 @@ fn settle_all<A: Ledger, G: Ledger, S: Ledger, J: Naming, R: Wait>(
     }
 }
 
-/// Eight rounds of entering and settling. A round whose entering gives no entry ends there.
+/// Eight rounds of entering and settling. A round ends there if entering fails.
 fn settle_rounds<A: Ledger, G: Ledger, S: Ledger, J: Naming, R: Wait>(
     rt: &R,
     alloc: Global,
@@ -72,7 +72,7 @@ fn settle_rounds<A: Ledger, G: Ledger, S: Ledger, J: Naming, R: Wait>(
 }
 
 impl<J: Naming> Lane<J> {
-    /// With the last of these readers.
+    /// A lane with the last of these readers, if there are any.
     pub fn of(mut readers: Vec<Reader>) -> Lane<J>
         requires { AllByRecursion (λ reader. reader.publisher ≡ J.publisher) readers.items }
     {
@@ -82,7 +82,7 @@ impl<J: Naming> Lane<J> {
         }
     }
 
-    /// Its rounds, where it has a reader.
+    /// Runs its rounds, if it has a reader.
     pub fn settle<A: Ledger, G: Ledger, S: Ledger, R: Wait>(
         &mut self,
         rt: &R,

@@ -1,4 +1,4 @@
-/// How many editors share a collection at most.
+/// The most editors that may share a collection.
 pub const MOST_EDITORS: u64 = 16;
 
 /// What the words of the command line ask for.

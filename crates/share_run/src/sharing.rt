@@ -1,6 +1,5 @@
-ghost use Rattle.std.specs.Prelude.{◌≡◌, ◌<◌, ◌≤◌, true, length, IfSome};
+ghost use Rattle.std.specs.Prelude.{◌≡◌, ◌<◌, true, IfSome};
 ghost use Rattle.std.specs.List.{AllByRecursion};
-ghost use Rattle.gcl_model.specs.Limits.{most_made};
 ghost use Rattle.shared_edit.specs.Books.{IsClosed};
 ghost use Rattle.shared_edit.specs.Editors.{new_editors};
 ghost use Rattle.share_run.specs.Shares.{HasSums};
@@ -17,13 +16,13 @@ use std::sync::Wait;
 use std::sync::ledger::{Blank, Ledger};
 use std::thread::Threads;
 
-/// What was closed, and whether all edits were answered. They were not where there was no memory for one.
+/// What was closed, and whether all edits were answered. They were not if there was no memory for one of them.
 pub struct Outcome {
     pub closed: Closed,
     pub done: bool,
 }
 
-/// Lets the editors and the lane work in threads of their own, and closes.
+/// Lets the editors and the lane work in threads of their own, and closes the engine.
 fn share_named<
     A: Ledger + Send + Sync,
     G: Ledger + Send + Sync,
@@ -62,7 +61,7 @@ fn share_named<
     }
 }
 
-/// Opens an engine with a reader and the editors, and shares it. None where it was not opened, for which there was no memory.
+/// Opens an engine with a reader and the editors, and shares it. Returns None if there was no memory to open it.
 fn share_counted<
     A: Ledger + Send + Sync,
     G: Ledger + Send + Sync,
@@ -93,8 +92,8 @@ fn share_counted<
     Some(share_named::<A, G, S, Brand, R, W>(rt, alloc, opened, gate, options))
 }
 
-/// Lets the editors add the made files to one collection while a lane merges, each in a thread of its own. None where there was no memory for
-/// the engine.
+/// Lets the editors add the made files to one collection while a lane merges, each in a thread of its own. Returns None if there was no
+/// memory for the engine.
 pub fn share_edits<R: Threads + Wait + Sync, W: Gate + Sync>(
     rt: &R,
     alloc: Global,

@@ -23,7 +23,7 @@ pub enum Task<A: Ledger, G: Ledger, S: Ledger, J: Naming> {
     Settle(Lane<J>),
 }
 
-/// A thread's part of a share: what it does, and whether that is done. An editor's is not done where there was no memory for an edit.
+/// A thread's part of a share: what it does, and whether that is done. An editor's work is not done if there was no memory for an edit.
 #[derive(Drop)]
 pub struct Side<A: Ledger, G: Ledger, S: Ledger, J: Naming> {
     task: Task<A, G, S, J>,
@@ -52,7 +52,7 @@ impl<A: Ledger, G: Ledger, S: Ledger, J: Naming> Side<A, G, S, J> {
         self.done
     }
 
-    /// Its editor, where it has one.
+    /// Its editor, if it has one.
     fn into_editor(self) -> Option<Editor<A, G, S>>
         ensures { result ≡ self.editor }
     {
@@ -63,7 +63,7 @@ impl<A: Ledger, G: Ledger, S: Ledger, J: Naming> Side<A, G, S, J> {
         }
     }
 
-    /// Its work. An editor calls the gate as before the query after its number, and the lane as around a publication.
+    /// Does its work. An editor calls the gate as before query `number` + 1, and the lane as around publication 1.
     fn work<R: Wait, W: Gate>(
         &mut self,
         rt: &R,
@@ -91,7 +91,7 @@ impl<A: Ledger, G: Ledger, S: Ledger, J: Naming> Side<A, G, S, J> {
     }
 }
 
-/// Puts an item last, where there is room for it.
+/// Puts an item last. There must be room for it.
 fn put<T: Drop>(list: &mut Vec<T>, item: T)
     requires { vec_len list.old < vec_capacity list.old }
     ensures items { list.new.items ≡ list.old.items ++ item ∷ [] }
@@ -104,7 +104,7 @@ fn put<T: Drop>(list: &mut Vec<T>, item: T)
     }
 }
 
-/// Makes a side of the lane and of each editor, where there is room for them. No editors are left.
+/// Makes a side of the lane and of each editor. There must be room for them. No editors are left.
 pub fn deal<A: Ledger, G: Ledger, S: Ledger, J: Naming>(
     editors: &mut Vec<Editor<A, G, S>>,
     lane: Lane<J>,
@@ -122,7 +122,7 @@ pub fn deal<A: Ledger, G: Ledger, S: Ledger, J: Naming>(
     }
 }
 
-/// Takes the editors back from their sides, where there is room for them, and says whether all work is done.
+/// Takes the editors back from their sides, and returns whether all work is done. There must be room for the editors.
 pub fn gather<A: Ledger, G: Ledger, S: Ledger, J: Naming>(
     mut sides: Vec<Side<A, G, S, J>>,
     editors: &mut Vec<Editor<A, G, S>>,
@@ -142,7 +142,7 @@ pub fn gather<A: Ledger, G: Ledger, S: Ledger, J: Naming>(
     all_done
 }
 
-/// The work of all sides, each in a thread of its own.
+/// Does the work of all sides, each in a thread of its own.
 pub fn work_all<
     A: Ledger + Send + Sync,
     G: Ledger + Send + Sync,

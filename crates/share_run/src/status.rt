@@ -15,7 +15,7 @@ impl ShareStatus {
     ghost use Rattle.std.specs.Prelude.{◌≡◌};
     ghost use Rattle.share_run.specs.Statuses.{number_of};
 
-    /// The exit status of the program: 0 of `Done`, and 2 of `Usage`.
+    /// The exit status of the program: 0 for `Done`, 2 for `Usage`.
     pub fn number(&self) -> u8
         ensures { result ≡ number_of self.now }
     {

@@ -1,4 +1,4 @@
-ghost use Rattle.std.specs.Prelude.{◌≡◌, ◌≤◌, ◌∷◌, ◌++◌, [], OnOk, IfOk, IsErrOf, decimal};
+ghost use Rattle.std.specs.Prelude.{◌≡◌, ◌∷◌, ◌++◌, [], OnOk, IfOk, decimal};
 ghost use Rattle.std.specs.Io.KnownBytes.{Appends};
 ghost use Rattle.outside.specs.Causes.{HasWriteCause};
 ghost use Rattle.share_run.specs.Text.{GetsPart, summary};
@@ -8,7 +8,7 @@ use outside::{Sink, WriteError};
 use shared_edit::Closed;
 use std::alloc::{AllocError, Global};
 
-/// A number after its name, on a line of its own.
+/// Appends a name and its number, on a line of their own.
 fn put_line(out: &mut Vec<u8>, name: &[u8], n: u64) -> Result<(), AllocError>
     ensures { OnOk result (out.new.items ≡ out.old.items ++ name.now ++ decimal n ++ 10 ∷ []) }
 {

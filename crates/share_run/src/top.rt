@@ -18,7 +18,7 @@ use std::alloc::Global;
 use std::sync::Wait;
 use std::thread::Threads;
 
-/// Writes the five lines of what was closed, where all edits were answered.
+/// Writes the five lines of what was closed, if all edits were answered.
 fn tell<K: Sink>(
     alloc: Global,
     editors: u64,
@@ -44,9 +44,9 @@ fn tell<K: Sink>(
     }
 }
 
-/// Makes a corpus by several editors in threads of their own, which add its files to one collection and delete every third one again, beside a
-/// lane that merges, and writes five lines of what it came to. `--made 7 --count 9 --editors 3` writes `editors 3`, `added 9`, `gone 3`,
-/// `refused 0` and `files 6`.
+/// Makes a corpus by several editors in threads of their own, which add its files to one collection and delete every third one again,
+/// concurrently with a lane that merges, and writes five lines about the result. `--made 7 --count 9 --editors 3` writes `editors 3`,
+/// `added 9`, `gone 3`, `refused 0` and `files 6`.
 pub fn share<R: Threads + Wait + Sync, K: Sink, W: Gate + Sync>(
     rt: &R,
     alloc: Global,
@@ -54,24 +54,24 @@ pub fn share<R: Threads + Wait + Sync, K: Sink, W: Gate + Sync>(
     sink: &mut K,
     gate: &W,
 ) -> Share
-    // 2 exactly where the words are outside the grammar; without an engine nothing was written.
+    // 2 exactly if the words are outside the grammar; without an engine nothing was written.
     ensures usage { result.status ≡ ShareStatus.Usage ↔ (options_of words.now ≡ None) }
     ensures unopened { result.status ≡ ShareStatus.Usage → IsNone result.closed }
     ensures untouched { IsNone result.closed → sink.new ≡ sink.old }
 
-    // 0 where the whole text was written, whose numbers are those of the journal and the engine that were closed.
+    // 0 only if the whole text was written. Its numbers are those of the journal and the engine that were closed.
     ensures done { result.status ≡ ShareStatus.Done → IsSome result.closed }
     ensures shared { result.status ≡ ShareStatus.Done → IfSome (options_of words.now) (λ options. IfSome result.closed (λ closed.
         IsShared options closed (K.written sink.old) (K.written sink.new))) }
     ensures calm { result.status ≡ ShareStatus.Done → K.faults sink.new ≡ K.faults sink.old }
 
-    // Whatever the status, the journal is a history of one thread at whose end the engine stands, as many files are there as were added and not
-    // deleted, and what was written is the beginning of the text.
+    // Whatever the status, if there is an engine, the journal is a history of one thread and the engine stands for the collection at its
+    // end, as many files survive as were added and not deleted, and what was written is the beginning of the text.
     ensures closed { IfSome result.closed IsClosed }
     ensures part { IfSome (options_of words.now) (λ options. IfSome result.closed (λ closed.
         GetsPart (K.written sink.old) (K.written sink.new) (summary options.editors closed))) }
 
-    // 4 only where the sink failed, and then the engine is there. Where it did not, the status is 0, or there was no memory.
+    // 4 only if the sink failed, and then there is an engine. If it did not, the status is 0, or there was no memory.
     ensures write_fault { result.status ≡ ShareStatus.WriteFault → Rose (K.faults sink.old) (K.faults sink.new) × IsSome result.closed }
     ensures complete { IsSome (options_of words.now) → ¬ Rose (K.faults sink.old) (K.faults sink.new) →
         (result.status ≡ ShareStatus.Done) ⊎ (result.status ≡ ShareStatus.NoMemory) }

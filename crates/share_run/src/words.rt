@@ -12,7 +12,7 @@ use script_lang::number_of;
 /// An option of some words: its name, the text of its value, and the words after it.
 type First<'a> = (&'a [u8], &'a [u8], &'a [Bytes]);
 
-/// Where the first `=` of a word stands.
+/// Where the first `=` of a word is.
 fn equals_at(word: &[u8]) -> Option<usize>
     ensures { result ≡ position is_equals word.now }
 {
@@ -31,9 +31,10 @@ fn cut_at<'a>(word: &'a [u8], at: usize, rest: &'a [Bytes]) -> First<'a>
     (name, value, rest)
 }
 
-/// The first option of the words. None where there is no whole one.
+/// The first option of the words. Returns None if there is no whole option.
 fn first_of(words: &[Bytes]) -> Option<First<'_>>
-    ensures some { IfSome result (λ first. pairs_of words.entry.now ≡ option_map (λ pairs. (first.0.now, first.1.now) ∷ pairs) (pairs_of first.2.now)) }
+    ensures some { IfSome result (λ first. pairs_of words.entry.now ≡
+        option_map (λ pairs. (first.0.now, first.1.now) ∷ pairs) (pairs_of first.2.now)) }
     ensures none { IsNone result → (pairs_of words.entry.now ≡ None) ⊎ (pairs_of words.entry.now ≡ Some []) }
 {
     let (word, rest) = words.split_first()?;
@@ -63,7 +64,7 @@ fn value_of<'a>(name: &[u8], one: First<'a>, two: First<'a>, three: First<'a>) -
     None
 }
 
-/// The number that a value writes, where it lies within these bounds.
+/// The number that a value writes, if it is within these bounds.
 fn number_within(least: u64, most: u64, value: &[u8]) -> Option<u64>
     ensures { result ≡ number_within least most value.now }
 {
@@ -88,7 +89,7 @@ fn options_in(one: First<'_>, two: First<'_>, three: First<'_>) -> Option<ShareO
     })
 }
 
-/// What the words ask for, None where they are outside the grammar: `--editors=3 --made 7 --count 9` asks for 3 editors of 9 files.
+/// What the words ask for: `--editors=3 --made 7 --count 9` asks for 3 editors of 9 files. Returns None if they are outside the grammar.
 /// It takes no memory.
 pub fn options_of(words: &[Bytes]) -> Option<ShareOptions>
     ensures value { result ≡ options_of words.now }

@@ -16,10 +16,10 @@ use std::sync::ledger::Ledger;
 // A made file has at most 219 items of at most four bytes, with spaces between them.
 const FILE_MOST: u64 = 65_536;
 
-/// How far an editor is.
+/// How far an editor has come.
 #[derive(Drop)]
 struct Progress {
-    // how many of its adds were accepted since it called a deletion
+    // how many of its adds were accepted since it last called a deletion
     taken: u64,
     // how many deletions it called
     dels: u64,
@@ -33,7 +33,7 @@ struct Draft {
     bytes: Vec<u8>,
 }
 
-/// Deletes a file again. It is false where there was no memory.
+/// Deletes a file again. Returns false if there was no memory.
 fn delete_again<A: Ledger, G: Ledger, S: Ledger, J: Naming, R: Wait>(
     rt: &R,
     shared: &SharedEngine<A, G, S, J>,
@@ -50,7 +50,7 @@ fn delete_again<A: Ledger, G: Ledger, S: Ledger, J: Naming, R: Wait>(
     }
 }
 
-/// Adds one file, and deletes it again where it is the third one that was accepted. It is false where there was no memory.
+/// Adds one file, and deletes it again if it is the third accepted since the last deletion. Returns false if there was no memory.
 fn edit_file<A: Ledger, G: Ledger, S: Ledger, J: Naming, R: Wait>(
     rt: &R,
     shared: &SharedEngine<A, G, S, J>,
@@ -78,7 +78,7 @@ fn edit_file<A: Ledger, G: Ledger, S: Ledger, J: Naming, R: Wait>(
     }
 }
 
-/// Puts made file `i` into the draft. It is false where there was no memory.
+/// Puts made file `i` into the draft. Returns false if there was no memory.
 fn put_draft(draft: &mut Draft, i: u64) -> bool
     ensures { IsTrue result → is_name draft.new.name.items ≡ true }
 {
@@ -89,7 +89,7 @@ fn put_draft(draft: &mut Draft, i: u64) -> bool
     files.load(name.as_slice(), FILE_MOST, bytes).is_ok()
 }
 
-/// Adds made file `i`, and deletes it again where it is the third one that was accepted. It is false where there was no memory.
+/// Adds made file `i`, and deletes it again if it is the third accepted since the last deletion. Returns false if there was no memory.
 fn edit_made<A: Ledger, G: Ledger, S: Ledger, J: Naming, R: Wait>(
     rt: &R,
     shared: &SharedEngine<A, G, S, J>,
@@ -114,8 +114,8 @@ fn edit_made<A: Ledger, G: Ledger, S: Ledger, J: Naming, R: Wait>(
     )
 }
 
-/// One editor's work: it takes the files whose number leaves its own when divided by the number of editors. It is false where there was no
-/// memory, and then the work ended there.
+/// One editor's work: it takes the files whose number divided by the number of editors leaves its own number. Returns false if there was
+/// no memory, and then the work ended there.
 pub fn edit_own<A: Ledger, G: Ledger, S: Ledger, J: Naming, R: Wait>(
     rt: &R,
     alloc: Global,

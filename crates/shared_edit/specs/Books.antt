@@ -27,12 +27,12 @@ pub record BookContent : Type 0 where
 abbrev pub book_content : EngineContent → List Entry → ℕ → ℕ → ℕ → BookContent
 book_content engine journal added gone refused = record { engine = engine; journal = journal; added = added; gone = gone; refused = refused }
 
--- the journal is a history of one thread, at whose end the engine stands
+-- the journal is a history of one thread, and the engine stands for the collection at its end
 pub record IsJournalOf (engine : EngineContent) (journal : List Entry) : Type 0 where
   pub history : IsHistory (empty_from engine.version.first) journal
   pub stands : StandsFor engine.version (end_of (empty_from engine.version.first) journal)
 
--- So it is of the book, and the totals are numbers of its replies. No version's number comes near the end of numbers
+-- The book's journal is such a history, and the totals count its replies. No version's number comes near the largest number
 pub record IsBook (b : BookContent) : Type 0 where
   pub journal : IsJournalOf b.engine b.journal
   pub added : b.added ≡ count_of is_added b.journal
@@ -88,8 +88,8 @@ pub record ClosedContent : Type 0 where
 abbrev pub closed_content : EngineContent → List Entry → ClosedContent
 closed_content engine journal = record { engine = engine; journal = journal }
 
--- The journal is a history of one thread at whose end the engine stands. As many files survive as were added and not deleted, an id was given
--- for each accepted add, and each reply is of one of three kinds
+-- The journal is a history of one thread, and the engine stands for the collection at its end. As many files survive as were added and not
+-- deleted, an id was given for each accepted add, and each reply is of one of three kinds
 pub record IsClosed (closed : ClosedContent) : Type 0 where
   pub journal : IsJournalOf closed.engine closed.journal
   pub files : length (files_of closed.engine.version.slots) + count_of is_gone closed.journal ≡ count_of is_added closed.journal

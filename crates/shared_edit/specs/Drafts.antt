@@ -11,6 +11,6 @@ pub record DraftContent : Type 0 where
 abbrev pub draft_content : List ℕ → List ℕ → DraftContent
 draft_content name bytes = record { name = name; bytes = bytes }
 
--- the index that was made ahead, where there is one, is of the tokens of these bytes
+-- the index that was made ahead, if there is one, is of the tokens of these bytes
 abbrev pub IsDraft : List ℕ → Option (List (List ℕ)) → Type 0
 IsDraft bytes index = IfSome index (λ tokens. tokens ≡ tokens_of bytes)

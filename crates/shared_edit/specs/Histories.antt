@@ -24,22 +24,22 @@ abbrev pub del_reply : Bool → ℕ → EditReply
 del_reply true id = Gone
 del_reply false id = NotLive id
 
--- what is replied to an edit of this collection
+-- the reply to an edit of this collection
 abbrev pub reply_to : Edit → Collection → EditReply
 reply_to (Add name bytes) c = add_reply (fits c bytes) c bytes
 reply_to (Del id) c = del_reply (has_file c id) id
 
--- what the edit leaves of this collection: where it is refused, all of it
+-- this collection after the edit: unchanged if the edit is refused
 abbrev pub after_edit : Edit → Collection → Collection
 after_edit (Add name bytes) c = if fits c bytes then with_file c name (tokens_of bytes) else c
 after_edit (Del id) c = if has_file c id then without_file c id else c
 
--- a name that is added is one
+-- a name that is added is a valid name
 abbrev pub IsEdit : Edit → Type 0
 IsEdit (Add name bytes) = is_name name ≡ true
 IsEdit (Del id) = Unit {0}
 
--- each reply is the one that its edit gets at that point
+-- each reply is what its edit gets at that point
 abbrev pub IsHistory : Collection → List Entry → Type 0
 IsHistory c [] = Unit {0}
 IsHistory c (e ∷ es) = IsEdit e.edit × (e.reply ≡ reply_to e.edit c) × IsHistory (after_edit e.edit c) es
@@ -70,6 +70,6 @@ is_refused (Spent next need) = true
 is_refused Gone = false
 is_refused (NotLive id) = true
 
--- how many of the replies are such
+-- how many of the replies pass the test
 abbrev pub count_of : (EditReply → Bool) → List Entry → ℕ
 count_of test es = length (filter (λ e. test e.reply) es)

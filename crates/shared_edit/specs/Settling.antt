@@ -1,4 +1,4 @@
--- What a settling makes of the engine and of its reader.
+-- What settling a plan does to the engine and the reader.
 use Rattle.std.specs.Prelude.{◌≡◌, ◌≢◌, ℕ, ◌<◌, List, [], ◌∷◌, ◌++◌, ◌⊎◌, length, take, slice_get, Some}
 use Rattle.live_version.specs.Contents.{SlotContent, VersionContent}
 use Rattle.manifest_publish.specs.Accounts.{Account, ReaderContent, ReceiptContent, VouchesFor, MayEnter, with_pass, reached}
@@ -17,7 +17,7 @@ abbrev pub HasEntered : ReaderContent → List VersionContent → ReaderContent 
 HasEntered before history after =
     (after ≡ learnt before history) ⊎ ((found : Account) × MayEnter (learnt before history) found × ((after ≡ with_pass found.publisher found.history) ⊎ (after ≡ reached (learnt before history) found)))
 
--- a plan of that reader can't be used: the entering gave no pass, or one whose version is above the engine's
+-- a plan of that reader can't be used: entering gave no pass, or one whose version is above the engine's
 abbrev pub IsUnusable : EngineContent → ReaderContent → Type 0
 IsUnusable e r = (r.told ≢ []) ⊎ (length e.history < length r.seen)
 
@@ -30,19 +30,19 @@ pub record HasSeenAll (e : EngineContent) (r : ReaderContent) : Type 0 where
 abbrev pub AreInPlace : List SlotName → List SlotContent → Type 0
 AreInPlace names slots = take (length names) (names_of slots) ≡ names
 
--- the name is the first of these of which the slots have another in its place, or none
+-- the name is the first of the names that the slots do not have in its place
 pub record IsFirstStale (names : List SlotName) (slots : List SlotContent) (at : ℕ) (name : SlotName) : Type 0 where
   pub named : slice_get names at ≡ Some name
   pub gone : slice_get (names_of slots) at ≢ Some name
   pub before : take at (names_of slots) ≡ take at names
 
--- the plan's slot came in place of those that it names
+-- the plan's slot took the place of the slots that it names
 pub record TakesPlan (old new : EngineContent) (reader : ReaderContent) (plan : PlanContent) (receipt : ReceiptContent) : Type 0 where
   pub seen : HasSeenAll old reader
   pub in_place : AreInPlace plan.names old.version.slots
   pub merge : IsFrontMerge old new (length plan.names) plan.slot receipt
 
--- the engine's own first two slots are one
+-- the engine's own first two slots became one
 pub record MergesOwn (old new : EngineContent) (receipt : ReceiptContent) : Type 0 where
   pub slot : SlotContent
   pub merges : MergesFirst old.version.slots 2 slot
@@ -54,7 +54,7 @@ pub record HasNoTwo (old new : EngineContent) (receipt : ReceiptContent) : Type 
   pub same : new ≡ old
   pub vouched : VouchesFor receipt (published old)
 
--- the plan was not used, and the engine merged by itself, where it could
+-- the plan was not used, and the engine merged by itself, if it could
 pub record GoesByItself (old new : EngineContent) (reader : ReaderContent) (receipt : ReceiptContent) : Type 0 where
   pub unusable : IsUnusable old reader
   pub own : MergesOwn old new receipt ⊎ HasNoTwo old new receipt

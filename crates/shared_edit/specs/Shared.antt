@@ -1,4 +1,4 @@
--- What a receipt or a pass shows of a shared call.
+-- What a receipt or a pass shows about a shared call.
 use Rattle.std.specs.Prelude.{◌≡◌, ℕ, ◌+◌, ◌<◌, ◌≤◌, List, [], ◌∷◌, ◌++◌, ◌⊎◌, ◌≢◌, length, drop, slice_get, None, Some}
 use mathlib.Core.List.{IsPrefix}
 use Rattle.gcl_model.specs.Collections.{Collection, width_of, with_file, without_file}
@@ -55,7 +55,7 @@ pub record ShowsNotLive (id : ℕ) (history : List VersionContent) : Type 0 wher
   pub latest : IsLatest history version
   pub none : file_with_id id (files_of version.slots) ≡ None
 
--- the second version is of the same collection, with the slot in place of its first `count` ones
+-- the second version is of the same collection, with the slot in place of the first `count` slots
 pub record PutsFirst (v w : VersionContent) (count : ℕ) (slot : SlotContent) : Type 0 where
   pub stands : Keeps v w
   pub slots : w.slots ≡ slot ∷ drop count v.slots
@@ -68,11 +68,11 @@ pub record TookPlan (reader : ReaderContent) (plan : PlanContent) (history : Lis
   pub list : history ≡ reader.seen ++ after ∷ []
   pub put : PutsFirst before after (length plan.names) plan.slot
 
--- the list is the last one that the reader learnt, or the reader has seen more than it
+-- the list is the last that the reader learnt, or the reader has seen it and more
 abbrev pub IsKnownTo : ReaderContent → List VersionContent → Type 0
 IsKnownTo reader list = ((earlier : List (List VersionContent)) × (reader.told ≡ earlier ++ list ∷ [])) ⊎ (IsPrefix list reader.seen × (length list < length reader.seen))
 
--- one version follows the list, that has the first two slots of its last version as one
+-- one version follows the list: it has the first two slots of the list's last version as one
 pub record FollowsAlone (list : List VersionContent) (last : VersionContent) (history : List VersionContent) : Type 0 where
   pub after : VersionContent
   pub slot : SlotContent
@@ -80,7 +80,7 @@ pub record FollowsAlone (list : List VersionContent) (last : VersionContent) (hi
   pub merges : MergesFirst last.slots 2 slot
   pub put : PutsFirst last after 2 slot
 
--- the engine went by itself from a list that the reader knows of
+-- the engine settled by itself, from a list that the reader knows
 pub record WentAlone (reader : ReaderContent) (history : List VersionContent) : Type 0 where
   pub list : List VersionContent
   pub known : IsKnownTo reader list
@@ -88,7 +88,8 @@ pub record WentAlone (reader : ReaderContent) (history : List VersionContent) : 
   pub latest : IsLatest list last
   pub went : ((history ≡ list) × (length last.slots < 2)) ⊎ FollowsAlone list last history
 
--- the plan names that slot at that place, the pass's last version has none of that name there, and the plan was made from a beginning of its history
+-- the plan names that slot at that place, the pass's last version has no slot of that name there, and the plan was made from a prefix of the
+-- pass's history
 pub record ShowsStale (plan : PlanContent) (stale : StaleSlot) : Type 0 where
   pub version : VersionContent
   pub latest : IsLatest stale.seen.history version

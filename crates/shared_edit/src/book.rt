@@ -1,4 +1,5 @@
-ghost use Rattle.std.specs.Prelude.{◌≡◌, ℕ, ◌+◌, ◌<◌, ◌≤◌, ◌^◌, true, [], ◌∷◌, ◌++◌, length, vec_len, vec_capacity, None, Some, Ok, IfOk, OnOk, OnErr, IsErrOf, ◌⊎◌};
+ghost use Rattle.std.specs.Prelude.{◌≡◌, ℕ, ◌+◌, ◌<◌, ◌≤◌, ◌^◌, true, [], ◌∷◌, ◌++◌, length, vec_len, vec_capacity};
+ghost use Rattle.std.specs.Prelude.{None, Some, Ok, IfOk, OnOk, OnErr, IsErrOf, ◌⊎◌};
 ghost use mathlib.Core.List.{IsPrefix};
 ghost use Rattle.shared_edit.specs.Settling.{GoesByItself, HasEntered, IsStaleFor, TakesPlan};
 ghost use Rattle.shared_edit.specs.declared.faults.StaleSlot.{StaleSlot};
@@ -15,7 +16,8 @@ ghost use Rattle.collection.specs.Changes.{IsAdd, IsDelete};
 ghost use Rattle.collection.specs.declared.faults.AddFault.TheVariants.{AddressesSpent as NoRoom, NoMemory};
 ghost use Rattle.collection.specs.Engines.{engine_content, published};
 ghost use Rattle.live_version.specs.Changes.{empty_version};
-ghost use Rattle.shared_edit.specs.Books.{BookContent, IsBook, IsJournalOf, book_content, FilesAdd, FilesGone, FilesNotLive, FilesSpent, added_entry, gone_entry, not_live_entry, spent_entry};
+ghost use Rattle.shared_edit.specs.Books.{BookContent, IsBook, IsJournalOf, book_content, FilesAdd, FilesGone, FilesNotLive, FilesSpent};
+ghost use Rattle.shared_edit.specs.Books.{added_entry, gone_entry, not_live_entry, spent_entry};
 ghost use Rattle.shared_edit.specs.Drafts.{IsDraft};
 ghost use Rattle.shared_edit.specs.Histories.{count_of, is_added, is_gone, is_refused};
 ghost use Rattle.shared_edit.specs.declared.entry.EditReply.TheVariants.{Added as WasAdded, Spent as WasSpent};
@@ -55,7 +57,7 @@ impl<A: Ledger, G: Ledger, S: Ledger> Model for Book<A, G, S> {
     ghost invariant = { λ b. IsBook (book_content b.engine b.journal.items b.added.total b.gone.total b.refused.total) };
 }
 
-/// Puts the entry last, where there is room for it.
+/// Puts the entry last. There must be room for it.
 fn file(journal: &mut Vec<Entry>, entry: Entry)
     requires { vec_len journal.old < vec_capacity journal.old }
     ensures journal { journal.new.items ≡ journal.old.items ++ entry ∷ [] }
@@ -69,7 +71,7 @@ fn file(journal: &mut Vec<Entry>, entry: Entry)
     }
 }
 
-/// Adds a file, by the index that was made ahead where there is one.
+/// Adds a file, with the index that was made ahead if there is one.
 fn place<R: Wait>(
     rt: &R,
     engine: &mut Engine,
@@ -91,7 +93,7 @@ fn place<R: Wait>(
     }
 }
 
-/// What is filed of the answer to an add, if anything is.
+/// The reply to file for the answer to an add, if there is one.
 fn reply_to(answer: &Result<Added, AddFault>) -> Option<EditReply>
     ensures ok { IfOk answer.now (λ added. result ≡ Some (WasAdded added.id.0 added.first added.last)) }
     ensures spent { (next : ℕ) → (need : ℕ) → IsErrOf answer.now (NoRoom next need) → result ≡ Some (WasSpent next need) }
@@ -104,7 +106,7 @@ fn reply_to(answer: &Result<Added, AddFault>) -> Option<EditReply>
     }
 }
 
-/// Files the entry of an add, if the answer to it has one.
+/// Files the entry of an add, if there is one for its answer.
 fn file_add(journal: &mut Vec<Entry>, editor: u64, edit: Edit, answer: &Result<Added, AddFault>)
     requires room { vec_len journal.old < vec_capacity journal.old }
     ensures ok { IfOk answer.now (λ added. journal.new.items ≡
@@ -126,7 +128,7 @@ fn file_add(journal: &mut Vec<Entry>, editor: u64, edit: Edit, answer: &Result<A
     }
 }
 
-/// The same answer, with the pass before it where there are too few addresses.
+/// The same answer; if there are too few addresses, with the pass from before it.
 fn with_pass(answer: Result<Added, AddFault>, seen: Pass) -> Result<Added, FiledAddFault>
     ensures ok { IfOk result (λ added. answer ≡ Ok added) }
     ensures spent { (need : ℕ) → (pass : Account) → IsErrOf result (Spent need pass) →
@@ -142,7 +144,7 @@ fn with_pass(answer: Result<Added, AddFault>, seen: Pass) -> Result<Added, Filed
     }
 }
 
-/// Adds a file, and files the entry that says so. At `NoMemory` nothing changes.
+/// Adds a file, and files the entry for the answer. On `NoMemory` nothing changes.
 fn add_to<R: Wait>(
     rt: &R,
     engine: &mut Engine,
@@ -171,7 +173,7 @@ fn add_to<R: Wait>(
     with_pass(answer, seen)
 }
 
-/// Deletes a file, and files the entry that says so. At `NoMemory` nothing changes.
+/// Deletes a file, and files the entry for the answer. On `NoMemory` nothing changes.
 fn delete_from<R: Wait>(
     rt: &R,
     engine: &mut Engine,
@@ -244,7 +246,7 @@ impl<A: Ledger, G: Ledger, S: Ledger> Book<A, G, S> {
         }
     }
 
-    /// Its parts, where the shares are all of each ledger.
+    /// Its engine and its journal. The shares must be all of each ledger.
     pub(crate) fn into_parts(self, shares: Shares<A, G, S>) -> (Engine, Vec<Entry>)
         requires parts { (shares.added.parts ≡ A.parts) × (shares.gone.parts ≡ G.parts) × (shares.refused.parts ≡ S.parts) }
         ensures engine { result.0 ≡ self.engine }
@@ -272,7 +274,7 @@ impl<A: Ledger, G: Ledger, S: Ledger> Book<A, G, S> {
         (engine, journal)
     }
 
-    /// Adds a file of these bytes for an editor, and files that. At `NoMemory` nothing changes.
+    /// Adds a file of these bytes for an editor, and files the edit. On `NoMemory` nothing changes.
     pub fn add<R: Wait>(
         &mut self,
         rt: &R,
@@ -302,7 +304,7 @@ impl<A: Ledger, G: Ledger, S: Ledger> Book<A, G, S> {
         }
     }
 
-    /// Nothing changes: an editor's numbers are no more than the totals.
+    /// Changes nothing: it shows that the editor's numbers are at most the totals.
     fn audit(&mut self, editor: &mut Editor<A, G, S>)
         ensures same { (self.new ≡ self.old) × (editor.new ≡ editor.old) }
         ensures bounds { (editor.new.added ≤ self.new.added) × (editor.new.gone ≤ self.new.gone) }
@@ -316,12 +318,12 @@ impl<A: Ledger, G: Ledger, S: Ledger> Book<A, G, S> {
             gone,
             refused: _refused,
         } = self;
-        // by it the history is known to end with the version
+        // this shows that the history ends with the version
         let _version = engine.version();
         editor.audit(added, gone);
     }
 
-    /// The same of a draft, with all that was made of the file before.
+    /// The same for a draft, with all that was already made of the file.
     pub(crate) fn add_drafted<R: Wait>(
         &mut self,
         rt: &R,
@@ -362,7 +364,7 @@ impl<A: Ledger, G: Ledger, S: Ledger> Book<A, G, S> {
         }
     }
 
-    /// Deletes the file with this id for an editor, and files that. At `NoMemory` nothing changes.
+    /// Deletes the file with this id for an editor, and files the edit. On `NoMemory` nothing changes.
     pub fn delete<R: Wait>(
         &mut self,
         rt: &R,
@@ -401,7 +403,7 @@ impl<A: Ledger, G: Ledger, S: Ledger> Book<A, G, S> {
         }
     }
 
-    /// Settles a plan, as the reader that learnt the engine's receipt finds it. The journal stays.
+    /// Settles a plan by what the reader finds once it has learnt the engine's receipt. The journal is unchanged.
     pub fn settle<R: Wait>(
         &mut self,
         rt: &R,
@@ -427,7 +429,7 @@ impl<A: Ledger, G: Ledger, S: Ledger> Book<A, G, S> {
             refused: _refused,
         } = self;
         let alloc = *journal.allocator();
-        // by it the version is known to be one, and the plan
+        // this shows that the version and the plan are valid
         let _slots = engine.version().slot_count();
         let _names = plan.names();
         settle_in(rt, alloc, engine, reader, plan)

@@ -13,7 +13,7 @@ use collection::Engine;
 use std::marker::Model;
 use std::sync::ledger::Ledger;
 
-/// All edits that were answered, in their order.
+/// All edits that were answered, in order.
 #[derive(Drop)]
 pub struct Journal {
     entries: Vec<Entry>,
@@ -29,14 +29,14 @@ impl Model for Journal {
 }
 
 impl Journal {
-    /// How many there are.
+    /// How many entries there are.
     pub fn len(&self) -> usize
         ensures { result ≡ length self.now }
     {
         self.entries.len()
     }
 
-    /// The one at place `i`.
+    /// The entry at place `i`.
     pub fn entry(&self, i: usize) -> &Entry
         requires { i < length self.now }
         ensures { result.now ≡ slice_index_or self.now i result.now }
@@ -45,7 +45,8 @@ impl Journal {
     }
 }
 
-/// An engine that is no longer shared, with the journal of all edits. The journal is a history of one thread, at whose end the engine stands.
+/// An engine that is no longer shared, with the journal of all edits. The journal is a history of one thread, and the engine stands for the
+/// collection at its end.
 pub struct Closed {
     pub engine: Engine,
     pub journal: Journal,
@@ -92,7 +93,7 @@ impl Closed {
 }
 
 impl<A: Ledger, G: Ledger, S: Ledger> Book<A, G, S> {
-    /// The engine and the journal, where these are all editors of the book.
+    /// The engine and the journal. `editors` must be all editors of the book.
     pub fn close(self, editors: Vec<Editor<A, G, S>>) -> Closed
         requires some { 0 < length editors.items }
         requires all { (length editors.items ≡ A.parts) × (length editors.items ≡ G.parts) × (length editors.items ≡ S.parts) }
@@ -111,7 +112,7 @@ impl<A: Ledger, G: Ledger, S: Ledger> Book<A, G, S> {
 }
 
 impl<A: Ledger, G: Ledger, S: Ledger, J: Naming> SharedEngine<A, G, S, J> {
-    /// Takes the book from under the lock, and closes it, where these are all its editors. It takes no memory.
+    /// Takes the book from under the lock, and closes it. `editors` must be all its editors. It takes no memory.
     pub fn close(self, editors: Vec<Editor<A, G, S>>) -> Closed
         requires some { 0 < length editors.items }
         requires all { (length editors.items ≡ A.parts) × (length editors.items ≡ G.parts) × (length editors.items ≡ S.parts) }

@@ -11,7 +11,7 @@ use std::marker::Model;
 pub(crate) struct Draft {
     pub(crate) name: Bytes,
     pub(crate) bytes: Bytes,
-    // Where there was no memory for it, the engine makes it as the file is added.
+    // If it could not be made ahead, the engine makes it as the file is added.
     pub(crate) index: Option<TextIndex>,
 }
 
@@ -25,7 +25,7 @@ impl Model for Draft {
     ghost invariant = { λ d. IsDraft d.bytes d.index };
 }
 
-/// The index of a text, where it can have one and there is memory for it.
+/// The index of a text, if it can have one and there is memory for it.
 fn index_ahead(alloc: Global, names: &mut Names, bytes: &[u8]) -> Option<TextIndex>
     ensures { IsDraft bytes.now result }
 {
@@ -36,7 +36,7 @@ fn index_ahead(alloc: Global, names: &mut Names, bytes: &[u8]) -> Option<TextInd
 }
 
 impl Draft {
-    /// Of a file of this name and these bytes.
+    /// The draft of a file of this name and these bytes.
     pub(crate) fn of(
         alloc: Global,
         names: &mut Names,

@@ -27,7 +27,7 @@ impl<L: Ledger> Model for Counted<L> {
 }
 
 impl<L: Ledger> Counted<L> {
-    /// None so far, as one part of those of the share.
+    /// Zero so far, as one part split off the share.
     pub fn none(all: &mut Share<L>) -> Counted<L>
         requires part { 0 < all.old.parts }
         requires amount { all.old.amount ≡ 0 }
@@ -47,7 +47,7 @@ impl<L: Ledger> Counted<L> {
         self.count
     }
 
-    /// One more, here and in the total.
+    /// Counts one more, here and in the total.
     pub fn rise(&mut self, total: &mut Book<L>)
         requires { total.old.total + 1 < 2 ^ 64 }
         ensures count { self.new ≡ self.old + 1 }
@@ -58,7 +58,7 @@ impl<L: Ledger> Counted<L> {
         self.count += 1;
     }
 
-    /// It is no more than the total.
+    /// Shows that it is at most the total.
     pub fn audit(&mut self, total: &mut Book<L>)
         ensures count { self.new ≡ self.old }
         ensures total { total.new.total ≡ total.old.total }
@@ -67,7 +67,7 @@ impl<L: Ledger> Counted<L> {
         total.audit(&mut self.share);
     }
 
-    /// Its part, and its amount.
+    /// Its part of the ledger, with its amount.
     pub fn into_share(self) -> Share<L>
         ensures parts { result.parts ≡ 1 }
         ensures amount { result.amount ≡ self }
@@ -82,7 +82,7 @@ impl<L: Ledger> Counted<L> {
 pub struct Editor<A: Ledger, G: Ledger, S: Ledger> {
     number: u64,
     alloc: Global,
-    // The words of the texts that it added, which the index of the next text begins with.
+    // The words of the texts that it added. The index of the next text begins with them.
     names: Names,
     pub(crate) added: Counted<A>,
     pub(crate) gone: Counted<G>,
@@ -153,7 +153,7 @@ impl<A: Ledger, G: Ledger, S: Ledger> Editor<A, G, S> {
         Draft::of(self.alloc, &mut self.names, name, bytes)
     }
 
-    /// Its numbers of accepted edits are no more than the totals.
+    /// Shows that its numbers of accepted edits are at most the totals.
     pub(crate) fn audit(&mut self, added: &mut Book<A>, gone: &mut Book<G>)
         ensures editor { self.new ≡ self.old }
         ensures added { added.new.total ≡ added.old.total }
@@ -164,7 +164,7 @@ impl<A: Ledger, G: Ledger, S: Ledger> Editor<A, G, S> {
         self.gone.audit(gone);
     }
 
-    /// An accepted add more.
+    /// Counts one more accepted add.
     pub(crate) fn rise_added(&mut self, total: &mut Book<A>)
         requires { total.old.total + 1 < 2 ^ 64 }
         ensures editor { self.new ≡ record self.old { added = self.old.added + 1 } }
@@ -173,7 +173,7 @@ impl<A: Ledger, G: Ledger, S: Ledger> Editor<A, G, S> {
         self.added.rise(total);
     }
 
-    /// An accepted deletion more.
+    /// Counts one more accepted deletion.
     pub(crate) fn rise_gone(&mut self, total: &mut Book<G>)
         requires { total.old.total + 1 < 2 ^ 64 }
         ensures editor { self.new ≡ record self.old { gone = self.old.gone + 1 } }
@@ -182,7 +182,7 @@ impl<A: Ledger, G: Ledger, S: Ledger> Editor<A, G, S> {
         self.gone.rise(total);
     }
 
-    /// A refused edit more.
+    /// Counts one more refused edit.
     pub(crate) fn rise_refused(&mut self, total: &mut Book<S>)
         requires { total.old.total + 1 < 2 ^ 64 }
         ensures editor { self.new ≡ record self.old { refused = self.old.refused + 1 } }
@@ -201,7 +201,7 @@ pub(crate) struct Shares<A: Ledger, G: Ledger, S: Ledger> {
 }
 
 impl<A: Ledger, G: Ledger, S: Ledger> Editor<A, G, S> {
-    /// What it has of each ledger.
+    /// Its share of each ledger.
     fn into_shares(self) -> Shares<A, G, S>
         ensures parts { (result.added.parts ≡ 1) × (result.gone.parts ≡ 1) × (result.refused.parts ≡ 1) }
         ensures amounts { (result.added.amount ≡ self.added) × (result.gone.amount ≡ self.gone) × (result.refused.amount ≡ self.refused) }
@@ -222,7 +222,7 @@ impl<A: Ledger, G: Ledger, S: Ledger> Editor<A, G, S> {
     }
 }
 
-/// What the editors have of each ledger together.
+/// The editors' shares of each ledger, merged.
 pub(crate) fn gathered<A: Ledger, G: Ledger, S: Ledger>(
     mut editors: Vec<Editor<A, G, S>>,
 ) -> Shares<A, G, S>

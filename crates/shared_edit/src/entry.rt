@@ -9,7 +9,7 @@ pub enum Edit {
     Del(u64),
 }
 
-/// What it was answered.
+/// What the edit was answered.
 #[derive(Clone, Copy, Debug, PartialEq, Eq)]
 pub enum EditReply {
     /// The file got this id, this first and this last address.

@@ -1,14 +1,12 @@
-ghost use Rattle.std.specs.Prelude.{◌≡◌, ℕ, ◌+◌, ◌<◌, ◌≤◌, ◌⊎◌, [], ◌∷◌, ◌++◌, length, MatchOption, IfOk, IfSome, IfNone, OnErr, IsErrOf, IsErr};
+ghost use Rattle.std.specs.Prelude.{◌≡◌, ◌<◌, ◌≤◌, ◌⊎◌, [], length, IfOk, IfSome, IfNone, OnErr, IsErrOf, IsErr};
 ghost use mathlib.Core.List.{IsPrefix};
 ghost use Rattle.gcl_model.specs.Limits.{merge_end};
-ghost use Rattle.manifest_publish.specs.Accounts.{account, EndsWith, with_pass};
 ghost use Rattle.collection.specs.Engines.{published};
-ghost use Rattle.shared_edit.specs.Books.{IsBook, book_content};
-ghost use Rattle.live_version.specs.Contents.{IsVersion};
-ghost use Rattle.shared_edit.specs.Plans.{IsPlan, MergesFirst};
-ghost use Rattle.shared_edit.specs.Settling.{AreInPlace, GoesByItself, HasEntered, HasNoTwo, HasSeenAll, IsFirstStale, IsStaleFor, IsUnusable, MergesOwn, TakesPlan};
+ghost use Rattle.shared_edit.specs.Plans.{MergesFirst};
+ghost use Rattle.shared_edit.specs.Settling.{AreInPlace, GoesByItself, HasEntered, HasNoTwo, HasSeenAll};
+ghost use Rattle.shared_edit.specs.Settling.{IsFirstStale, IsStaleFor, IsUnusable, MergesOwn, TakesPlan};
 ghost use Rattle.shared_edit.specs.declared.faults.StaleSlot.{StaleSlot};
-ghost use Rattle.shared_edit.specs.declared.faults.SettleFault.TheVariants.{Stale, NoMemory as SettleNoMemory};
+ghost use Rattle.shared_edit.specs.declared.faults.SettleFault.TheVariants.{Stale};
 
 use crate::faults::{SettleFault, StaleSlot};
 use crate::plan::{Plan, SlotName};
@@ -19,7 +17,7 @@ use shard_merge::merge;
 use std::alloc::{AllocError, Global};
 use std::sync::Wait;
 
-/// Lets the reader learn the engine's receipt and enter: the pass, where it is of the engine's last version.
+/// Lets the reader learn the engine's receipt and enter. Returns the pass if it is for the engine's last version.
 fn enter_last(engine: &Engine, reader: &mut Reader) -> Result<Option<Pass>, AllocError>
     requires { reader.old.publisher ≡ engine.now.publisher }
     ensures entered { HasEntered reader.old engine.now.history reader.new }
@@ -40,7 +38,7 @@ fn enter_last(engine: &Engine, reader: &mut Reader) -> Result<Option<Pass>, Allo
     }
 }
 
-/// The first of the names of which the slots have another in its place, or none.
+/// The first of the names that the slots do not have in its place. Returns None if all are in place.
 fn first_stale(names: &[SlotName], slots: &[Slot]) -> Option<(usize, SlotName)>
     ensures some { IfSome result (λ found. IsFirstStale names.now slots.now found.0 found.1) }
     ensures none { IfNone result (AreInPlace names.now slots.now) }
@@ -62,7 +60,7 @@ fn first_two(alloc: Global, engine: &Engine) -> Result<Slot, AllocError>
     Ok(slot)
 }
 
-/// Makes the first two slots one, where there are two.
+/// Makes the first two slots one, if there are two.
 fn merge_own<R: Wait>(rt: &R, alloc: Global, engine: &mut Engine) -> Result<Receipt, AllocError>
     requires number { engine.old.version.number < merge_end }
     ensures ok { IfOk result (λ receipt. MergesOwn engine.old engine.new receipt ⊎ HasNoTwo engine.old engine.new receipt) }
@@ -76,7 +74,7 @@ fn merge_own<R: Wait>(rt: &R, alloc: Global, engine: &mut Engine) -> Result<Rece
     Ok(receipt)
 }
 
-/// Settles a plan in the engine, as the reader that learnt the engine's receipt finds it.
+/// Settles a plan in the engine by what the reader finds once it has learnt the engine's receipt.
 pub(crate) fn settle_in<R: Wait>(
     rt: &R,
     alloc: Global,

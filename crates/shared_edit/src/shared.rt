@@ -1,14 +1,14 @@
-ghost use Rattle.std.specs.Prelude.{◌≡◌, ℕ, ◌+◌, ◌<◌, ◌≤◌, true, ◌⊎◌, IfOk, OnOk, IsErrOf};
+ghost use Rattle.std.specs.Prelude.{◌≡◌, ℕ, ◌+◌, ◌<◌, true, ◌⊎◌, IfOk, OnOk, IsErrOf};
 ghost use mathlib.Core.List.{IsPrefix};
 ghost use Rattle.shared_edit.specs.declared.faults.StaleSlot.{StaleSlot};
 ghost use Rattle.shared_edit.specs.declared.faults.SettleFault.TheVariants.{Stale};
 ghost use Rattle.address_space.specs.declared.file_id.FileId.{FileId};
-ghost use Rattle.gcl_model.specs.Collections.{width_of};
 ghost use Rattle.gcl_model.specs.Names.{is_name};
 ghost use Rattle.gcl_model.specs.Tokens.{tokens_of};
 ghost use Rattle.manifest_publish.specs.Accounts.{Account};
-ghost use Rattle.shared_edit.specs.Books.{BookContent, IsBook};
-ghost use Rattle.shared_edit.specs.Shared.{EndsInAdd, EndsInDelete, HasCounts, MayHaveEntered, ShowsNotLive, ShowsSpent, ShowsStale, TookPlan, WentAlone};
+ghost use Rattle.shared_edit.specs.Books.{BookContent};
+ghost use Rattle.shared_edit.specs.Shared.{EndsInAdd, EndsInDelete, HasCounts, MayHaveEntered, ShowsNotLive};
+ghost use Rattle.shared_edit.specs.Shared.{ShowsSpent, ShowsStale, TookPlan, WentAlone};
 ghost use Rattle.shared_edit.specs.declared.faults.FiledAddFault.TheVariants.{AddressesSpent as Spent, NoMemory as AddNoMemory};
 ghost use Rattle.shared_edit.specs.declared.faults.FiledDeleteFault.TheVariants.{NotLive, NoMemory as DeleteNoMemory};
 
@@ -26,9 +26,9 @@ use std::mem::ManuallyDrop;
 use std::sync::ledger::Ledger;
 use std::sync::{Mutex, Wait};
 
-/// What lies under the lock: a book whose engine has the publisher.
+/// What is under the lock: a book whose engine has the publisher of `J`.
 pub struct Kept<A: Ledger, G: Ledger, S: Ledger, J: Naming> {
-    // It cannot be dropped, and a guard's own drop would ask for that.
+    // It cannot be dropped, and a guard's own drop would require that.
     book: ManuallyDrop<Book<A, G, S>>,
     of: PhantomData<J>,
 }
@@ -182,7 +182,7 @@ impl<A: Ledger, G: Ledger, S: Ledger, J: Naming> SharedEngine<A, G, S, J> {
         self.lock.lock(rt).delete(rt, editor, id)
     }
 
-    /// Settles a plan, as the reader that learnt the engine's receipt finds it.
+    /// Settles a plan by what the reader finds once it has learnt the engine's receipt.
     pub fn settle<R: Wait>(
         &self,
         rt: &R,

@@ -33,7 +33,7 @@ struct Flags {
     wrong: AtomicBool,
 }
 
-/// Adds a file, and says whether it was accepted.
+/// Adds a file, and returns whether it was accepted.
 fn is_added<A: Ledger, G: Ledger, S: Ledger, J: Naming, R: Wait>(
     rt: &R,
     shared: &SharedEngine<A, G, S, J>,
@@ -43,7 +43,7 @@ fn is_added<A: Ledger, G: Ledger, S: Ledger, J: Naming, R: Wait>(
     is_name(name) && shared.add(rt, editor, name, b"to be").is_ok()
 }
 
-/// Adds a file, puts one flag up, waits for the other, and adds a file again. Something is wrong where the wait runs out, or an add is
+/// Adds a file, puts one flag up, waits for the other, and adds a file again. Something is wrong if the wait runs out, or an add is
 /// not accepted.
 fn add_twice<A: Ledger, G: Ledger, S: Ledger, J: Naming, R: Wait>(
     rt: &R,
@@ -126,7 +126,7 @@ fn added<
     }
 }
 
-/// How many entries the journal of an engine has that is ended.
+/// Ends the engine, and returns how many entries its journal has.
 fn entries<R: Wait>(rt: &R, closed: Closed) -> usize {
     let Closed { engine, journal } = closed;
     engine.end(rt);

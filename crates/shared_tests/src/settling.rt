@@ -47,7 +47,7 @@ impl Question for Counting<'_> {
     ghost most = { λ q answer. sum_by (λ v. look_ups (version_text v) (access_most v) (form_of q.expr.now) answer) q.pass.now.history };
 
     fn ask<L: Counter>(&self, steps: &mut Steps<L>) -> u64 {
-        // by it the history is known to have a last version, which bounds the look-ups
+        // this shows that the history has a last version, which bounds the look-ups
         let _version = self.pass.version();
         pass_count(self.pass, self.expr, steps)
     }
@@ -152,8 +152,8 @@ fn settle_after<A: Ledger, G: Ledger, S: Ledger, J: Naming, R: Wait>(
     }
 }
 
-/// Adds three files that stand in a slot each, and settles two plans: one after a deletion in the first slot, and one after a deletion in
-/// the third slot alone.
+/// Adds three files that are in a slot each, and settles two plans: one after a deletion in the first slot, and one after a deletion only
+/// in the third slot.
 fn settle_both<A: Ledger, G: Ledger, S: Ledger, J: Naming, R: Wait>(
     rt: &R,
     alloc: Global,
@@ -259,7 +259,7 @@ fn settled_counted<A: Ledger, G: Ledger, S: Ledger, R: Wait>(
     }
 }
 
-/// Ends the engine.
+/// Ends the engine, and returns what came of both plans.
 fn came_of<R: Wait>(rt: &R, ended: Ended) -> (Settled, Settled) {
     let Ended { settled, closed } = ended;
     let Closed {

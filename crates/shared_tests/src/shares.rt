@@ -11,14 +11,14 @@ use std::sync::Wait;
 use std::test::*;
 use std::thread::Threads;
 
-/// The journal of an engine that is ended.
+/// Ends the engine, and returns its journal.
 fn journal_of<R: Wait>(rt: &R, closed: Closed) -> Journal {
     let Closed { engine, journal } = closed;
     engine.end(rt);
     journal
 }
 
-/// Shares by these words, and gives what was written and the journal, where there is one.
+/// Shares by these words, checks the status and what was written, and returns the journal, if there is one.
 fn shared<R: Threads + Wait + Sync + AllocGlobal + Abort, W: Gate + Sync>(
     rt: &R,
     words: &[&[u8]],
@@ -36,7 +36,7 @@ fn shared<R: Threads + Wait + Sync + AllocGlobal + Abort, W: Gate + Sync>(
     }
 }
 
-/// How far an editor of three files is: how many it added, and the id of the last one, and whether that was deleted.
+/// How far an editor of three files has come: how many it added, and the id of the last one, and whether that was deleted.
 #[derive(Clone, Copy, Debug, PartialEq, Eq)]
 struct Seen {
     added: u64,

@@ -1,4 +1,4 @@
--- For proofs alone: what is kept of a file.
+-- For proofs only: what is kept of a file.
 use Rattle.std.specs.Prelude.{◌≡◌, ℕ, ◌≤◌, List, length}
 use Rattle.gcl_model.specs.Collections.{width_of}
 use Rattle.gcl_model.specs.Limits.{most_file}
@@ -6,7 +6,7 @@ use Rattle.gcl_model.specs.Tokens.{tokens_of}
 use Rattle.text_search.specs.FileTexts.{file_text}
 use Rattle.text_search.specs.Tables.{Entry, filled, tokens_in}
 
--- the table has the places of its tokens in the file, which has addresses up to next
+-- the table has the places of its tokens in the file, whose addresses are those below next
 pub record IsKept (bytes : List ℕ) (next : ℕ) (table : List Entry) : Type 0 where
   pub fits : length bytes ≤ most_file
   pub width : next ≡ width_of (tokens_of bytes)

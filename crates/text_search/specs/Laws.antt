@@ -1,4 +1,4 @@
--- What is asked of a text depends on the named words alone.
+-- What is asked of a text depends only on the named words.
 use Rattle.std.specs.Prelude.{◌≡◌, ℕ, List}
 use Rattle.gcl_model.specs.Texts.{Text}
 use Rattle.gcl_model.specs.Forms.{Form}
@@ -18,7 +18,7 @@ NamesDecideTheList = (text : Text) (form : Form) → concordance (named_text (na
 abbrev pub NamesDecideTheCost : Type 0
 NamesDecideTheCost = (text : Text) (most : ℕ) (form : Form) → cost (named_text (names_of form) text) most form ≡ cost text most form
 
--- and a merge of the lists of all nodes
+-- and so may a merge of the lists of all nodes
 abbrev pub NamesDecideTheMergeCost : Type 0
 NamesDecideTheMergeCost = (text : Text) (most : ℕ) (form : Form) → merge_cost (named_text (names_of form) text) most form ≡ merge_cost text most form
 

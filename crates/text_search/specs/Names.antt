@@ -6,7 +6,7 @@ use Rattle.gcl_model.specs.Forms.{Form, Forms, term, phrase, width, both, one, s
 use Rattle.text_search.specs.FileTexts.{file_text}
 
 abbrev mutual
-  -- the tokens that an expression names, in the order in which they stand: of "to".."be" they are `to` and `be`
+  -- the tokens that an expression names, in the order in which they occur: for "to".."be" they are `to` and `be`
   pub names_of : Form → List (List ℕ)
   names_of (term token) = token ∷ []
   names_of (phrase tokens) = tokens
@@ -19,7 +19,7 @@ abbrev mutual
   names_of (not_containing a b) = names_of a ++ names_of b
   names_of (not_contained_in a b) = names_of a ++ names_of b
 
-  -- those of all operands
+  -- the tokens that all operands name
   pub names_in : Forms → List (List ℕ)
   names_in no_forms = []
   names_in (more_forms form forms) = names_of form ++ names_in forms

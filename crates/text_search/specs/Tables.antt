@@ -1,4 +1,4 @@
--- For proofs alone: a table of tokens with the addresses that hold each.
+-- For proofs only: a table of tokens with the addresses that hold each.
 use Rattle.std.specs.Prelude.{◌≡◌, ℕ, ◌+◌, ◌<◌, ◌||◌, bytes_eq, if◌then◌else◌, List, [], ◌∷◌, ◌++◌, length, map, min}
 use Rattle.std.specs.List.{AllByRecursion}
 use Rattle.gcl_model.specs.Texts.{Word, places}
@@ -21,11 +21,11 @@ tokens_in entries = map (λ e. e.token) entries
 abbrev pub filled : List Word → List (List ℕ) → List Entry
 filled words names = map (λ name. record { token = name; places = places words name }) names
 
--- the address, put to those of its token
+-- the address, added to those of its token
 abbrev pub noted : List ℕ → ℕ → Entry → Entry
 noted token address e = record { token = e.token; places = e.places ++ (if bytes_eq token e.token then address ∷ [] else []) }
 
--- the addresses of a token: none where the table does not have it
+-- the addresses of a token: none if the table does not have it
 abbrev pub places_in : List Entry → List ℕ → List ℕ
 places_in [] token = []
 places_in (e ∷ entries) token = if bytes_eq token e.token then e.places else places_in entries token
@@ -34,7 +34,7 @@ places_in (e ∷ entries) token = if bytes_eq token e.token then e.places else p
 abbrev pub AreEmpty : List Entry → Type 0
 AreEmpty entries = AllByRecursion (λ e. e.places ≡ []) entries
 
--- beside the old names there are these
+-- the new names are the old names and these
 abbrev pub Names : List (List ℕ) → List (List ℕ) → List (List ℕ) → Type 0
 Names old new names = (token : List ℕ) → is_named new token ≡ (is_named old token || is_named names token)
 
@@ -47,7 +47,7 @@ abbrev pub joined : List (List Entry) → List Entry
 joined [] = []
 joined (bucket ∷ buckets) = bucket ++ joined buckets
 
--- each bucket, from one with this key on, has the tokens with its key
+-- each bucket, starting with the one of this key, has only tokens with its key
 abbrev pub AreKeyed : ℕ → List (List Entry) → Type 0
 AreKeyed key [] = Unit {0}
 AreKeyed key (bucket ∷ buckets) = AllByRecursion (λ token. key_of token ≡ key) (tokens_in bucket) × AreKeyed (key + 1) buckets

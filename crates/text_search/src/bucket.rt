@@ -24,7 +24,7 @@ impl Model for Bucket {
 }
 
 impl Bucket {
-    /// No token. It takes no memory.
+    /// No tokens. It allocates nothing.
     pub(crate) fn new(alloc: Global) -> Self
         ensures { result ≡ [] }
     {
@@ -45,7 +45,7 @@ impl Bucket {
         false
     }
 
-    /// Puts a token behind the others, with no address yet.
+    /// Adds a token after the others, with no address yet.
     pub(crate) fn push(&mut self, alloc: Global, token: &[u8]) -> Result<(), AllocError>
         ensures ok { OnOk result (self.new ≡ self.old ++ new_entry token.now ∷ []) }
         ensures err { OnErr result (self.new ≡ self.old) }
@@ -55,7 +55,7 @@ impl Bucket {
         Ok(())
     }
 
-    /// Puts the address to those of its token, where that is among them.
+    /// Adds the address to those of its token, if that is among them.
     pub(crate) fn note(&mut self, token: &PlacedToken<'_>, address: u32) -> Result<(), AllocError>
         ensures tokens { tokens_in self.new ≡ tokens_in self.old }
         ensures ok { OnOk result (self.new ≡ map (noted token.now.token address) self.old) }
@@ -70,7 +70,7 @@ impl Bucket {
         Ok(())
     }
 
-    /// The addresses of a token: none where it is not among them.
+    /// The addresses of a token: none if it is not among them.
     pub(crate) fn places(&self, token: &[u8]) -> &[u32]
         ensures { result.now ≡ places_in self.now token.now }
     {

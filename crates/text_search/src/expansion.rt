@@ -11,14 +11,15 @@ use gcl_model::Expr;
 use std::alloc::{AllocError, Global};
 use wide_terms::expand;
 
-/// An expression over a file with these bytes, with each prefix term replaced by one of the file's words that begin with its prefix: what it
-/// answers by an evaluator of plain terms are the answers of the expression. Err comes for want of memory alone.
+/// An expression over a file with these bytes, with each prefix term replaced by "one of" the file's words that begin with its prefix: an
+/// evaluator of plain terms gives it the answers of the expression. Err means out of memory.
 ///
-/// Of `"n"* ^ "o"*` it makes `not ^ or` over `to be or not to be`. Without a prefix term it is a copy.
+/// For `"n"* ^ "o"*` over `to be or not to be` it is `not ^ or`. Without a prefix term it is a copy.
 pub fn expanded(alloc: Global, bytes: &[u8], expr: &Expr) -> Result<Expr, AllocError>
     requires { IsWellFormed (form_of expr.now) }
     ensures form { IfOk result (λ expanded. form_of expanded ≡ expansion (file_text bytes.now) (form_of expr.now)) }
-    ensures wide { IfOk result (λ expanded. concordance (file_text bytes.now) (form_of expanded) ≡ wide (file_text bytes.now) (form_of expr.now)) }
+    ensures wide { IfOk result (λ expanded. concordance (file_text bytes.now) (form_of expanded) ≡
+        wide (file_text bytes.now) (form_of expr.now)) }
     ensures well_formed { IfOk result (λ expanded. IsWellFormed (form_of expanded)) }
 {
     let words = FileWords::new(bytes);

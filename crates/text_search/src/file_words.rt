@@ -3,8 +3,8 @@ use gcl_model::TokenList;
 use std::alloc::{AllocError, Global};
 use wide_terms::WordTable;
 
-/// The tokens of a file, found by what they begin with: one pass over its bytes for each prefix, which takes memory for those alone that
-/// begin with it.
+/// The tokens of a file, found by what they begin with: one pass over its bytes for each prefix, which takes memory only for the tokens
+/// that begin with it.
 #[derive(Clone, Copy)]
 pub struct FileWords<'a> {
     bytes: &'a [u8],

@@ -1,6 +1,6 @@
 ghost use Rattle.text_search.specs.Laws.{NamesDecideTheList, NamesDecideTheWideList, NamesDecideTheCost, NamesDecideTheMergeCost};
 
-/// Of a text, an expression asks for the words that it names, and for no others.
+/// An expression asks a text for the words that it names, and for no others.
 pub fn names_decide()
     ensures list { NamesDecideTheList }
     ensures wide { NamesDecideTheWideList }

@@ -1,12 +1,13 @@
 //! One query over one text, which is searched by itself.
 //!
-//! A `QueryText` keeps of a file the addresses of those tokens that an expression names, from one pass over its bytes, and
-//! is the `Leaves` of an evaluator or of readers. Contracts see it as the file's text with these words alone (`query_text`).
-//! `answers` is a page of the concordance list over the whole file, by leaping, and `answer_count` its length; the laws say
-//! that the list, its cost and that of a merge depend on the named words alone. Of `to be or not to be` the list of
-//! `"to".."be"` is (1, 2), (5, 6).
+//! A `QueryText` keeps the addresses of the tokens that an expression names in a file, from one pass over its bytes, and is
+//! the `Leaves` of an evaluator or of readers. Contracts see it as the file's text with only these words (`query_text`).
+//! `answers` is a page of the concordance list over the whole file, by leaping, and `answer_count` the length of that list;
+//! the laws say that the list, its cost and that of a merge depend only on the named words. Over `to be or not to be` the
+//! list of `"to".."be"` is (1, 2), (5, 6).
 //!
-//! A query with prefix terms is first `expanded` over the file: each such term becomes one of the file's words that begin with its prefix.
+//! A query with prefix terms is first `expanded` over the file: each such term becomes "one of" the file's words that begin with its
+//! prefix.
 #![tactic(auto)]
 
 mod bucket;

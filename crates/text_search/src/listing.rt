@@ -13,8 +13,8 @@ use gcl_eval::{count, list_from};
 use gcl_model::{Expr, IntervalList, Ledger, Question, Steps, uncounted};
 use std::alloc::{AllocError, Global};
 
-/// A page of the list of an expression over the file of whose named tokens this is the text: its first `most` members that start at `k` or
-/// behind it, or all of these where there are fewer. Each look-up is counted on the caller's counter.
+/// A page of the list of an expression over the file whose named tokens are in `text`: the first `most` members that start at or after `k`,
+/// or all of them if there are fewer. Each look-up is counted on the caller's counter.
 pub fn answers_on<S: Ledger>(
     alloc: Global,
     text: &QueryText<'_>,
@@ -28,7 +28,8 @@ pub fn answers_on<S: Ledger>(
     ensures ok { (bytes : List ℕ) → text.now ≡ query_text bytes (form_of expr.now) →
         IfOk result (λ members. members ≡ take most (members_from (concordance (file_text bytes) (form_of expr.now)) k)) }
     ensures cost { (bytes : List ℕ) → text.now ≡ query_text bytes (form_of expr.now) → steps.new ≤ steps.old +
-        (length (take most (members_from (concordance (file_text bytes) (form_of expr.now)) k)) + 1) * cost (file_text bytes) 1 (form_of expr.now) }
+        (length (take most (members_from (concordance (file_text bytes) (form_of expr.now)) k)) + 1) *
+        cost (file_text bytes) 1 (form_of expr.now) }
 {
     list_from(alloc, expr, text, k, most, steps)
 }
@@ -36,7 +37,8 @@ pub fn answers_on<S: Ledger>(
 /// How many members the list has. No list is made. Each look-up is counted on the caller's counter.
 pub fn count_on<S: Ledger>(text: &QueryText<'_>, expr: &Expr, steps: &mut Steps<S>) -> u64
     requires { IsWellFormed (form_of expr.now) }
-    ensures value { (bytes : List ℕ) → text.now ≡ query_text bytes (form_of expr.now) → result ≡ length (concordance (file_text bytes) (form_of expr.now)) }
+    ensures value { (bytes : List ℕ) → text.now ≡ query_text bytes (form_of expr.now) →
+        result ≡ length (concordance (file_text bytes) (form_of expr.now)) }
     ensures cost { (bytes : List ℕ) → text.now ≡ query_text bytes (form_of expr.now) →
         steps.new ≤ steps.old + (result + 1) * cost (file_text bytes) 1 (form_of expr.now) }
 {
@@ -66,10 +68,12 @@ impl Question for PageOf<'_, '_> {
 
     ghost can_ask = { λ q. IsWellFormed (form_of q.expr.now) × (q.from < far) };
 
-    ghost answers = { λ q answer. IfOk answer (λ members. members ≡ take q.most (members_from (concordance q.text.now (form_of q.expr.now)) q.from)) };
+    ghost answers = { λ q answer. IfOk answer (λ members. members ≡
+        take q.most (members_from (concordance q.text.now (form_of q.expr.now)) q.from)) };
 
     ghost most = { λ q _.
-        (length (take q.most (members_from (concordance q.text.now (form_of q.expr.now)) q.from)) + 1) * cost q.text.now 1 (form_of q.expr.now) };
+        (length (take q.most (members_from (concordance q.text.now (form_of q.expr.now)) q.from)) + 1) *
+        cost q.text.now 1 (form_of q.expr.now) };
 
     fn ask<S: Ledger>(&self, steps: &mut Steps<S>) -> Result<IntervalList, AllocError> {
         list_from(
@@ -105,7 +109,7 @@ impl Question for CountOf<'_, '_> {
     }
 }
 
-/// A page of the list of an expression over the file, as `answers_on` gives it. No look-up is counted.
+/// A page of the list of an expression over the file, as from `answers_on`. No look-up is counted.
 pub fn answers(
     alloc: Global,
     text: &QueryText<'_>,
@@ -130,7 +134,8 @@ pub fn answers(
 /// How many members the list has. No list is made, and no look-up is counted.
 pub fn answer_count(text: &QueryText<'_>, expr: &Expr) -> u64
     requires { IsWellFormed (form_of expr.now) }
-    ensures { (bytes : List ℕ) → text.now ≡ query_text bytes (form_of expr.now) → result ≡ length (concordance (file_text bytes) (form_of expr.now)) }
+    ensures { (bytes : List ℕ) → text.now ≡ query_text bytes (form_of expr.now) →
+        result ≡ length (concordance (file_text bytes) (form_of expr.now)) }
 {
     uncounted(&CountOf { text, expr })
 }

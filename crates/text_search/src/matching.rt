@@ -26,7 +26,7 @@ pub(crate) fn matching(alloc: Global, bytes: &[u8], prefix: &[u8]) -> Result<Tok
     Ok(list)
 }
 
-/// Puts those of the tokens of a text that begin with the prefix among the words.
+/// Adds the tokens of a text that begin with the prefix to the words.
 fn put_matches(
     alloc: Global,
     words: &mut Vec<Bytes>,
@@ -42,7 +42,7 @@ fn put_matches(
     Ok(())
 }
 
-/// Puts a token among the words, where it begins with the prefix.
+/// Adds a token to the words, if it begins with the prefix.
 fn put_match(
     alloc: Global,
     words: &mut Vec<Bytes>,
@@ -59,7 +59,7 @@ fn put_match(
     Ok(())
 }
 
-/// Puts a word among others in byte order, where it is not there.
+/// Adds a word to others in byte order, if it is not there yet.
 fn put_word(words: &mut Vec<Bytes>, word: Bytes) -> Result<(), AllocError>
     ensures { OnOk result (words.new.items ≡ with_token word words.old.items) }
 {
@@ -70,7 +70,7 @@ fn put_word(words: &mut Vec<Bytes>, word: Bytes) -> Result<(), AllocError>
     Ok(())
 }
 
-/// The place of a word among others in byte order, and None where it is there.
+/// The place of a new word among others in byte order. Returns None if it is already there.
 fn place_of(words: &[Bytes], word: &[u8]) -> Option<usize>
     ensures there { IfNone result (with_token word.now words.now ≡ words.now) }
     ensures within { IfSome result (λ at. at ≤ length words.now) }

@@ -30,7 +30,7 @@ pub(crate) fn put_names(alloc: Global, expr: &Expr, table: &mut TermTable) -> Re
     }
 }
 
-/// Puts those of all operands into the table.
+/// Puts the tokens that all operands name into the table.
 #[cycle(put)]
 fn put_each(alloc: Global, operands: &[Expr], table: &mut TermTable) -> Result<(), AllocError>
     ensures named { OnOk result (Names (tokens_in table.old) (tokens_in table.new) (names_in (forms_from (map form_of operands.now)))) }

@@ -2,7 +2,7 @@ ghost use Rattle.std.specs.Prelude.{◌≡◌, nat_le, nat_lt, find};
 ghost use Rattle.gcl_model.specs.Access.{find_last};
 ghost use Rattle.text_search.specs.Tables.{AreClimbing};
 
-/// The least of rising addresses from `k` on.
+/// The least of rising addresses that is at or after `k`.
 pub(crate) fn next_of(places: &[u32], k: u64) -> Option<u64>
     requires { AreClimbing places.now }
     ensures { result ≡ find (λ p. nat_le k p) places.now }
@@ -18,7 +18,7 @@ pub(crate) fn next_of(places: &[u32], k: u64) -> Option<u64>
     Some(places[before] as u64)
 }
 
-/// The greatest of rising addresses up to `k`.
+/// The greatest of rising addresses that is at or before `k`.
 pub(crate) fn last_of(places: &[u32], k: u64) -> Option<u64>
     requires { AreClimbing places.now }
     ensures { result ≡ find_last (λ p. nat_le p k) places.now }

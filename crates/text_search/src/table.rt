@@ -1,5 +1,4 @@
-ghost use Rattle.std.specs.Prelude.{◌≡◌, ℕ, List, ◌<◌, [], ◌∷◌, length, map, OnOk, OnErr, IfOk};
-ghost use Rattle.text_search.specs.Names.{is_named};
+ghost use Rattle.std.specs.Prelude.{◌≡◌, ℕ, List, ◌<◌, [], ◌∷◌, length, map, OnOk, IfOk};
 ghost use Rattle.text_search.specs.Tables.{key_of, noted, places_in, tokens_in, AreEmpty, Names};
 
 use crate::bucket::Bucket;
@@ -10,7 +9,8 @@ use token_places::PlacedToken;
 /// How many buckets a table has.
 const BUCKETS: usize = 64;
 
-/// Tokens with their addresses, in buckets by their length: a token of a text is compared with those of its own length alone.
+/// Tokens with their addresses, in buckets by their length: a token of a text is compared only with those of its own length, or, if it has
+/// 63 bytes or more, with all that long.
 #[derive(Drop)]
 pub(crate) struct TermTable {
     buckets: Vec<Bucket>,
@@ -36,7 +36,7 @@ fn key(len: usize) -> usize
 }
 
 impl TermTable {
-    /// No token.
+    /// No tokens.
     pub(crate) fn new(alloc: Global) -> Result<Self, AllocError>
         ensures { IfOk result (λ table. table ≡ []) }
     {
@@ -47,7 +47,7 @@ impl TermTable {
         Ok(TermTable { buckets })
     }
 
-    /// Puts a token into the table, with no address yet, where it is not there.
+    /// Puts a token into the table, with no address yet, if it is not there.
     pub(crate) fn put(&mut self, alloc: Global, token: &[u8]) -> Result<(), AllocError>
         ensures named { OnOk result (Names (tokens_in self.old) (tokens_in self.new) (token.now ∷ [])) }
         ensures empty { AreEmpty self.old → AreEmpty self.new }
@@ -60,7 +60,7 @@ impl TermTable {
         Ok(())
     }
 
-    /// Puts the address to those of its token, where the table has that.
+    /// Adds the address to those of its token, if the table has that token.
     pub(crate) fn note(&mut self, token: &PlacedToken<'_>, address: u32) -> Result<(), AllocError>
         ensures { OnOk result (self.new ≡ map (noted token.now.token address) self.old) }
     {
@@ -69,7 +69,7 @@ impl TermTable {
         Ok(())
     }
 
-    /// The addresses of a token: none where the table does not have it.
+    /// The addresses of a token: none if the table does not have it.
     pub(crate) fn places(&self, token: &[u8]) -> &[u32]
         ensures { result.now ≡ places_in self.now token.now }
     {

@@ -51,7 +51,7 @@ impl TermPlaces {
         token.is(self.token.as_slice())
     }
 
-    /// Puts an address behind the others.
+    /// Adds an address after the others.
     pub(crate) fn push(&mut self, address: u32) -> Result<(), AllocError>
         ensures token { self.new.token ≡ self.old.token }
         ensures ok { OnOk result (self.new.places ≡ self.old.places ++ address ∷ []) }

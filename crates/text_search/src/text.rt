@@ -14,7 +14,7 @@ use std::alloc::{AllocError, Global};
 use std::marker::Model;
 use token_places::{PlaceCursor, PlacedToken};
 
-/// A file that is searched by itself, with the addresses of those of its tokens that an expression names.
+/// A file that is searched by itself, with the addresses of the tokens that an expression names.
 #[derive(Drop)]
 pub struct QueryText<'a> {
     bytes: &'a [u8],
@@ -38,7 +38,7 @@ impl<'a> Model for QueryText<'a> {
 
 impl<'a> QueryText<'a> {
     /// What a file has of the tokens that the expression names, from one pass over its bytes. It takes memory for the names, and four
-    /// bytes or more for each of their places. Err comes for want of memory alone.
+    /// bytes or more for each of their places. Err means out of memory.
     pub fn of(alloc: Global, bytes: &'a [u8], expr: &Expr) -> Result<Self, AllocError>
         requires { length bytes.now ≤ most_file }
         ensures { IfOk result (λ text. text ≡ query_text bytes.now (form_of expr.now)) }
@@ -55,7 +55,7 @@ impl<'a> QueryText<'a> {
         })
     }
 
-    /// The addresses that hold the token, where the expression names it.
+    /// The addresses that hold the token: none if the expression does not name it.
     pub fn places(&self, token: &[u8]) -> &[u32]
         ensures places { result.now ≡ places self.now.words token.now }
         ensures climbing { AreClimbing result.now }
@@ -64,7 +64,7 @@ impl<'a> QueryText<'a> {
         self.table.places(token)
     }
 
-    /// Whether one of the words that are kept begins with these bytes, and stands in the file.
+    /// Whether one of the kept words begins with these bytes, and occurs in the file.
     pub fn has_word_from(&self, prefix: &[u8]) -> bool {
         self.table.has_word_from(prefix)
     }
@@ -82,7 +82,7 @@ impl<'a> QueryText<'a> {
     }
 }
 
-/// Puts the addresses of the tokens of a text to those of the table, and gives the address behind them.
+/// Adds the addresses of the tokens of a text to those in the table, and returns the address after them.
 fn note_tokens(bytes: &[u8], table: &mut TermTable) -> Result<u32, AllocError>
     requires { length bytes.now ≤ most_file }
     ensures last { IfOk result (λ last. last ≡ length (tokens_of bytes.now) + 1) }

@@ -9,15 +9,15 @@ use Rattle.token_places.specs.Places.{Place, Placed, places_of, placed_tokens, f
 abbrev pub TokensHavePlaces : Type 0
 TokensHavePlaces = (bytes : List ℕ) → map (λ t. t.token) (placed_tokens bytes) ≡ tokens_of bytes
 
--- so there are as many of these as of those
+-- so there are as many places as tokens
 abbrev pub PlacesAreAsMany : Type 0
 PlacesAreAsMany = (bytes : List ℕ) → length (places_of bytes) ≡ length (tokens_of bytes)
 
--- and a file has one for each of its addresses
+-- and a file has one place for each of its addresses
 abbrev pub FilePlacesAreAsMany : Type 0
 FilePlacesAreAsMany = (bytes : List ℕ) → length (file_places bytes) ≡ width_of (tokens_of bytes)
 
--- the next place begins at the end of this one or behind it, or is the same
+-- the next place begins at or after the end of this one, or is the same
 abbrev pub GoesOn : Place → List Place → Type 0
 GoesOn a [] = Unit {0}
 GoesOn a (b ∷ places) = (a.to ≤ b.from) ⊎ (b ≡ a)
@@ -39,7 +39,7 @@ bytes_at bytes p = take (p.to - p.from) (drop p.from bytes)
 abbrev pub same_place : Place → Place → Bool
 same_place a b = (a.from == b.from) && (a.to == b.to)
 
--- the tokens that come from a place: two of that of a self-closing tag, else one
+-- the tokens that come from a place: two for a self-closing tag, else one
 abbrev pub tokens_at : Place → List Placed → List (List ℕ)
 tokens_at p placed = map (λ t. t.token) (filter (λ t. same_place t.place p) placed)
 
@@ -47,7 +47,7 @@ tokens_at p placed = map (λ t. t.token) (filter (λ t. same_place t.place p) pl
 abbrev pub PlacesGiveTheirTokens : Type 0
 PlacesGiveTheirTokens = (bytes : List ℕ) → AllByRecursion (λ p. tokens_of (bytes_at bytes p) ≡ tokens_at p (placed_tokens bytes)) (places_of bytes)
 
--- the bytes from one on up to the first place, between the places and behind the last one give no token
+-- the bytes starting at `at` up to the first place, between the places and after the last one give no token
 abbrev pub NothingBetween : List ℕ → ℕ → List Place → Type 0
 NothingBetween bytes at [] = tokens_of (drop at bytes) ≡ []
 NothingBetween bytes at (p ∷ places) = (tokens_of (take (p.from - at) (drop at bytes)) ≡ []) × NothingBetween bytes p.to places

@@ -2,7 +2,7 @@
 use Rattle.std.specs.Prelude.{ℕ, zero, suc, ◌+◌, List, [], ◌∷◌, ◌++◌, map, length, drop}
 use Rattle.gcl_model.specs.Tokens.{first_part}
 
--- a stretch of the bytes of a text, from one byte up to, and without, another
+-- a stretch of the bytes of a text, from one byte up to but not including another
 pub record Place : Type 0 where
   pub from : ℕ
   pub to : ℕ
@@ -20,7 +20,7 @@ pub record Placed : Type 0 where
 abbrev pub placed_at : Place → List (List ℕ) → List Placed
 placed_at place tokens = map (λ token. record { place = place; token = token }) tokens
 
--- the tokens of at most the first n parts with their places, where a byte is the first of these parts: the walk that cuts a text
+-- the tokens of at most the first n parts with their places, the first part at the place `at`: the walk that cuts a text
 abbrev pub placed_of_parts : ℕ → ℕ → List ℕ → List Placed
 placed_of_parts zero at bytes = []
 placed_of_parts (suc n) at [] = []
@@ -28,7 +28,7 @@ placed_of_parts (suc n) at (b ∷ bytes) =
     let part = first_part b bytes in
     placed_at (stretch at (at + part.size)) part.tokens ++ placed_of_parts n (at + part.size) (drop part.size (b ∷ bytes))
 
--- the tokens of what a text has from a byte on, with their places in the text
+-- the tokens of the rest of a text, which starts at the place `at`, with their places in the text
 abbrev pub placed_from : ℕ → List ℕ → List Placed
 placed_from at bytes = placed_of_parts (length bytes) at bytes
 
@@ -36,10 +36,10 @@ placed_from at bytes = placed_of_parts (length bytes) at bytes
 abbrev pub placed_tokens : List ℕ → List Placed
 placed_tokens bytes = placed_from 0 bytes
 
--- the place of each token of a text: of `To <B/>` these are 0 to 2, and twice 3 to 7
+-- the place of each token of a text: for `To <B/>` these are 0 to 2, and twice 3 to 7
 abbrev pub places_of : List ℕ → List Place
 places_of bytes = map (λ t. t.place) (placed_tokens bytes)
 
--- the place of each address of a file that is searched by itself: of its boundary tokens the empty ones at both ends
+-- the place of each address of a file that is searched by itself: its boundary tokens have the empty places at both ends
 abbrev pub file_places : List ℕ → List Place
 file_places bytes = stretch 0 0 ∷ (places_of bytes ++ stretch (length bytes) (length bytes) ∷ [])

@@ -1,4 +1,3 @@
-ghost use Rattle.gcl_model.specs.Tokens.{tokens_of};
 ghost use Rattle.std.specs.Prelude.{◌≡◌, ◌-◌, ◌<◌, ◌≤◌, [], ◌∷◌, ◌++◌, ℕ, length, IfSome, IsNone};
 ghost use Rattle.token_places.specs.Cursors.{placed_behind};
 ghost use Rattle.token_places.specs.Places.{placed_at, placed_tokens, stretch};
@@ -47,7 +46,7 @@ impl<'a> PlaceCursor<'a> {
         }
     }
 
-    /// A cursor of its own over what is still to come.
+    /// An independent cursor over what is still to come.
     pub fn copy(&self) -> Self
         ensures { result ≡ self.now }
     {
@@ -89,7 +88,7 @@ impl<'a> PlaceCursor<'a> {
     }
 }
 
-/// A lexeme, with what the text has from it on and behind it.
+/// A lexeme, with the text that starts at it and the text after it.
 #[derive(Drop)]
 struct FoundLexeme<'a> {
     lexeme: Lexeme<'a>,
@@ -97,10 +96,11 @@ struct FoundLexeme<'a> {
     behind: &'a [u8],
 }
 
-/// The first lexeme that gives a token, or a separator where no token is left.
+/// The first lexeme that gives a token, or a separator if no token is left.
 fn next_lexeme(bytes: &[u8]) -> FoundLexeme<'_>
     ensures placed { (n : ℕ) → length bytes.now ≤ n → placed_behind n bytes.now ≡
-        placed_at (stretch (n - length result.from.now) (n - length result.behind.now)) (lexeme_tokens result.lexeme) ++ placed_behind n result.behind.now }
+        placed_at (stretch (n - length result.from.now) (n - length result.behind.now)) (lexeme_tokens result.lexeme)
+        ++ placed_behind n result.behind.now }
     ensures none { lexeme_tokens result.lexeme ≡ [] → (n : ℕ) → length bytes.now ≤ n → placed_behind n bytes.now ≡ [] }
     ensures within { length result.from.now ≤ length bytes.now }
     ensures ordered { length result.behind.now ≤ length result.from.now }

@@ -15,7 +15,7 @@ pub fn tokens_have_places()
     ensures of_file { FilePlacesAreAsMany }
 {}
 
-/// Places rise, and neighbours are disjoint, or equal where they are of one self-closing tag.
+/// Places rise, and neighbours are disjoint, or equal if they are of one self-closing tag.
 pub fn places_are_in_order()
     ensures { PlacesAreInOrder }
 {}
@@ -25,12 +25,12 @@ pub fn places_give_their_tokens()
     ensures { PlacesGiveTheirTokens }
 {}
 
-/// The bytes between two places, in front of the first and behind the last give no token.
+/// The bytes between two places, before the first and after the last give no token.
 pub fn nothing_else()
     ensures { NothingElse }
 {}
 
-/// The places of rising addresses begin and end no earlier.
+/// The place of a later address begins and ends no earlier.
 pub fn file_places_rise()
     ensures { FilePlacesRise }
 {}

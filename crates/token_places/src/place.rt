@@ -3,7 +3,7 @@ ghost use Rattle.token_places.specs.Places.{stretch};
 
 use std::marker::Model;
 
-/// A stretch of the bytes of a text, from the byte at `from` up to, and without, the byte at `to`.
+/// A stretch of the bytes of a text, from the byte at `from` up to but not including the byte at `to`.
 #[derive(Clone, Copy, Debug, PartialEq, Eq)]
 pub struct Place {
     pub from: usize,
@@ -24,7 +24,7 @@ impl Model for Place {
 }
 
 impl Place {
-    /// From `from` up to, and without, `to`.
+    /// From `from` up to but not including `to`.
     pub fn new(from: usize, to: usize) -> Self
         requires { from ≤ to }
         ensures { result ≡ stretch from to }

@@ -21,7 +21,7 @@ pub(crate) enum TokenKind {
     CloseTag,
 }
 
-/// A token of a text, and where it comes from. It is not copied: its bytes stand in the text, in either case.
+/// A token of a text, and where it comes from. It is not copied: its bytes are those of the text, in upper or lower case.
 #[derive(Drop)]
 pub struct PlacedToken<'a> {
     place: Place,
@@ -55,7 +55,7 @@ impl<'a> PlacedToken<'a> {
         PlacedToken::new(place, TokenKind::OpenTag, b"file!")
     }
 
-    /// The token behind those of a file of `size` bytes, from the empty place at the end.
+    /// The token after those of a file of `size` bytes, from the empty place at the end.
     pub fn file_end(size: usize) -> PlacedToken<'static>
         ensures { result ≡ record { place = stretch size size; token = file_end } }
     {
@@ -73,7 +73,7 @@ impl<'a> PlacedToken<'a> {
         self.place
     }
 
-    /// How many bytes the token has: of `<b>` it is 3, also where `<B x="1">` stands in the text.
+    /// How many bytes the token has: 3 for `<b>`, even if the text has `<B x="1">`.
     pub fn len(&self) -> usize
         ensures { result ≡ length self.now.token }
     {
@@ -106,7 +106,7 @@ impl<'a> PlacedToken<'a> {
         }
     }
 
-    /// The token by itself, a word in lower case or a tag such as `<b>`. Err comes for want of memory alone.
+    /// The token by itself, a word in lower case or a tag such as `<b>`. Err means out of memory.
     pub fn to_bytes(&self, alloc: Global) -> Result<Bytes, AllocError>
         ensures { IfOk result (λ bytes. bytes ≡ self.now.token) }
     {
@@ -143,7 +143,7 @@ fn append_lower_case(bytes: &mut Vec<u8>, name: &[u8]) -> Result<(), AllocError>
     Ok(())
 }
 
-/// Whether the bytes are the first of the name in lower case, between these.
+/// Whether the name in lower case, between `opening` and `closing`, begins with `prefix`.
 fn is_front(prefix: &[u8], opening: &[u8], name: &[u8], closing: &[u8]) -> bool
     ensures { IsTrue result ↔ prefix.now ≡ take (length prefix.now) (opening.now ++ map to_ascii_lowercase name.now ++ closing.now) }
 {

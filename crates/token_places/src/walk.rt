@@ -5,15 +5,15 @@ use crate::cursor::PlaceCursor;
 use crate::place::Place;
 use std::marker::Model;
 
-/// The places of the addresses of a file that is searched by itself. However many rising addresses are asked for, the text is gone
-/// through once.
+/// The places of the addresses of a file that is searched by itself. However many rising addresses are asked for, it passes over the
+/// text once.
 #[derive(Drop)]
 pub struct PlaceWalk<'a> {
     bytes: &'a [u8],
-    // the address that was reached, and its place
+    // the reached address, and its place
     address: u64,
     place: Place,
-    // the tokens behind it
+    // the tokens after it
     cursor: PlaceCursor<'a>,
 }
 
@@ -41,7 +41,7 @@ impl<'a> PlaceWalk<'a> {
         }
     }
 
-    /// A walk of its own, which is at the same address.
+    /// An independent walk at the same address.
     pub fn copy(&self) -> Self
         ensures { result ≡ self.now }
     {
@@ -53,13 +53,13 @@ impl<'a> PlaceWalk<'a> {
         }
     }
 
-    /// The address that was asked for last, or 0; behind the last address of the file it stays at that.
+    /// The address that was asked for last, or 0. For an address after the last token it is that of the last token.
     pub fn reached(&self) -> u64 {
         self.address
     }
 
-    /// The place of an address: of `to be` that of 2 is 3 to 5. An address behind the last one has the empty place at the end. Where the
-    /// address is below the one that was asked for last, the walk begins again.
+    /// The place of an address: in `to be` that of 2 is 3 to 5. An address after the last one has the empty place at the end. If the
+    /// address is below the reached one, the walk begins again.
     pub fn place_at(&mut self, address: u64) -> Place
         ensures place { result ≡ slice_index_or (file_places self.old) address (stretch (length self.old) (length self.old)) }
         ensures same { self.new ≡ self.old }

@@ -1,4 +1,4 @@
--- For proofs alone: files that threads go to before their turn.
+-- For proofs only: files that threads visit before their turn.
 use Rattle.std.specs.Prelude.{◌≡◌, ℕ, ◌≤◌, List, length, Option, IfSome, ⊤}
 use Rattle.std.specs.List.{AllByRecursion}
 use Rattle.outside.specs.Contents.{Contents}
@@ -20,7 +20,7 @@ fate_of TooLong = too_long
 abbrev pub IsAnswer : Request → List ℕ → List ℕ → Answered → Type 0
 IsAnswer r name bytes answered = (answered.found ≡ has_answer r bytes) × (answered.text ≡ file_output r name bytes)
 
--- what is held of a file of this name is right
+-- what is held for a file of this name is right
 abbrev pub IsRight : Request → List ℕ → Gone → Type 0
 IsRight r name (Searched bytes answered) = IsAnswer r name bytes.value.items answered
 IsRight r name (Loaded bytes) = length bytes ≤ most_file
@@ -36,7 +36,7 @@ IsSound told r work = IsFound told r work.name work.gone
 abbrev pub AreSound : Option Contents → Request → List Work → Type 0
 AreSound told r works = AllByRecursion (IsSound told r) works
 
--- what a thread found of a file, where one did
+-- what a thread found in a file, if one did
 abbrev pub IsReady : Option Contents → Request → Option Work → Type 0
 IsReady told r work = IfSome work (IsSound told r)
 

@@ -1,4 +1,4 @@
-use Rattle.std.proofs.Common.{◌≡◌, ◌∙◌, length, ap, zero-add}
+use Rattle.std.proofs.Common.{◌∙◌, length, ap, zero-add}
 use Rattle.gcl_model.specs.FormOf.{form_of}
 use Rattle.gcl_model.specs.Meaning.{concordance}
 use Rattle.gcl_eval.proofs.Listing.{all_members}

@@ -1,4 +1,4 @@
-use Rattle.std.proofs.Common.{◌≡◌, sym, ◌∙◌}
+use Rattle.std.proofs.Common.{sym, ◌∙◌}
 use Rattle.share_run.specs.Words.{options_of}
 use Rattle.gclshare.proofs.Ends.{done_at_0, told}
 use Rattle.gclshare.proofs.session.answer.Goals as goal

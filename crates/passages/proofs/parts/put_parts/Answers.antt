@@ -1,4 +1,4 @@
-use Rattle.std.proofs.Common.{◌≡◌, ◌∙◌, sym, arith}
+use Rattle.std.proofs.Common.{◌∙◌, sym, arith}
 use Rattle.passages.proofs.PartLemmas.{put-last, put-more}
 use Rattle.passages.proofs.parts.put_parts.Goals as goal
 

@@ -1,8 +1,7 @@
-use Rattle.std.proofs.Common.{◌≡◌, ℕ, ◌<◌, ◌≤◌, List, length, true, ap, ◌∙◌, sym, subst, arith, rules}
-use Rattle.shared_edit.specs.Editors.{EditorContent, new_editors}
-use Rattle.share_run.specs.Sides.{SideContent, are_done, editors_from}
+use Rattle.std.proofs.Common.{◌≡◌, length, ap, ◌∙◌, sym, subst, arith, rules}
+use Rattle.shared_edit.specs.Editors.{new_editors}
 use Rattle.share_run.specs.Work.{HaveEdited}
-use Rattle.share_run.proofs.SideLemmas.{share-edited, share-kept, written_back}
+use Rattle.share_run.proofs.SideLemmas.{share-edited, share-kept}
 use Rattle.share_run.proofs.WorkLemmas.{edited-sums, new_length, sums-same}
 use Rattle.share_run.proofs.sharing.share_named.Goals as goal
 use Rattle.share_run.proofs.sharing.share_named.Given as given

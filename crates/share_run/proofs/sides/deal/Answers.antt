@@ -1,4 +1,4 @@
-use Rattle.std.proofs.Common.{◌≡◌, Some, ap, ◌∙◌, sym, arith}
+use Rattle.std.proofs.Common.{◌≡◌, Some, ap, arith}
 use Rattle.share_run.specs.Sides.{SideContent}
 use Rattle.share_run.proofs.SideLemmas.{one_dealt}
 use Rattle.share_run.proofs.sides.deal.Goals as goal

@@ -1,4 +1,4 @@
-use Rattle.std.proofs.Common.{◌≡◌, ◌+◌, ◌≤◌, ◌++◌, ◌∷◌, [], ◌&&◌, Bool, List, Option, None, length, vec_len, append-nil, ap, ◌∙◌, sym, subst, arith, rules}
+use Rattle.std.proofs.Common.{◌≡◌, ◌+◌, ◌++◌, ◌&&◌, Option, None, length, vec_len, append-nil, ap, ◌∙◌, sym, subst, arith, rules}
 use Rattle.std.specs.Prelude.{option_to_list}
 use Rattle.shared_edit.specs.Editors.{EditorContent}
 use Rattle.share_run.specs.Sides.{are_done, editors_from}

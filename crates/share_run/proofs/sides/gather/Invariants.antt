@@ -1,4 +1,4 @@
-use Rattle.std.specs.Prelude.{◌≡◌, ◌+◌, ◌≤◌, ◌++◌, ◌&&◌, length, vec_len, vec_capacity}
+use Rattle.std.specs.Prelude.{◌≡◌, ◌+◌, ◌≤◌, ◌++◌, ◌&&◌, length, vec_capacity}
 use Rattle.share_run.specs.Sides.{are_done, editors_from}
 use Rattle.share_run.proofs.sides.gather.Given as goal
 

@@ -1,7 +1,6 @@
-use Rattle.std.proofs.Common.{◌≡◌, ◌∷◌, [], List, ℕ, length, None, Some, option_map, ◌∙◌, ap, sym, inl}
-use Rattle.std.specs.List.{position}
+use Rattle.std.proofs.Common.{◌≡◌, ◌∷◌, length, Some, option_map, ◌∙◌, ap, sym, inl}
 use Rattle.std.proofs.lemmas.List.{nil_from_length}
-use Rattle.command_words.specs.Grammar.{is_equals, pairs_of}
+use Rattle.command_words.specs.Grammar.{pairs_of}
 use Rattle.share_run.proofs.WordLemmas.{joined_pairs, last_pairs, spaced_pairs}
 use Rattle.share_run.proofs.words.first_of.Goals as goal
 

@@ -1,5 +1,5 @@
-use Rattle.std.proofs.Common.{◌≡◌, ◌+◌, ◌*◌, ◌<◌, ◌≤◌, length, sym, refl, ap, ◌∙◌, subst, arith}
-use Rattle.share_run.specs.Work.{answers_of, files_for, HasEdited}
+use Rattle.std.proofs.Common.{◌≡◌, ◌+◌, ◌≤◌, ap, ◌∙◌, subst, arith}
+use Rattle.share_run.specs.Work.{answers_of, files_for}
 use Rattle.share_run.proofs.work.edit_own.Goals as goal
 
 pub returns : goal.returns

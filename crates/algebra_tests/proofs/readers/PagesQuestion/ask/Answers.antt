@@ -1,6 +1,4 @@
-use Rattle.std.proofs.Common.{◌≡◌, arith}
-use Rattle.gcl_model.specs.FormOf.{form_of}
-use Rattle.gcl_readers.specs.MergeCost.{merge_cost, cost_left}
+use Rattle.std.proofs.Common.{arith}
 use Rattle.algebra_tests.proofs.readers.PagesQuestion.ask.Goals as goal
 
 pub loop-page-init : goal.loop-page-init
