@@ -39,21 +39,21 @@ fn page_by<B: Ledger>(
     requires some { 0 < blank.parts }
 {
     let mut steps = Steps::<Tally<B>>::open(blank);
-    let mut cursor = Cursor::new(asked.alloc, asked.expr, asked.leaps);
+    let mut cursor = Cursor::new(asked.alloc, asked.expr, asked.leaps)?;
     let members = cursor.page(asked.alloc, asked.expr, asked.text, page, &mut steps)?;
     Ok((members, steps.count()))
 }
 
 /// The number of all members.
-fn count_by<B: Ledger>(asked: &Asked<'_>, blank: Blank) -> u64
+fn count_by<B: Ledger>(asked: &Asked<'_>, blank: Blank) -> Result<u64, AllocError>
     requires well_formed { IsWellFormed (form_of asked.now.expr.now) }
     requires name { blank.name ≡ B.name }
     requires parts { blank.parts ≡ B.parts }
     requires some { 0 < blank.parts }
 {
     let mut steps = Steps::<Tally<B>>::open(blank);
-    let mut cursor = Cursor::new(asked.alloc, asked.expr, asked.leaps);
-    cursor.count(asked.expr, asked.text, 0, 0, &mut steps)
+    let mut cursor = Cursor::new(asked.alloc, asked.expr, asked.leaps)?;
+    Ok(cursor.count(asked.expr, asked.text, 0, 0, &mut steps))
 }
 
 /// The members of the page among all.
@@ -93,7 +93,7 @@ fn finds<R: Abort>(
     same(
         rt,
         &(turn, asked.leaps),
-        &count_by::<Brand>(asked, Blank::new(1)),
+        &count_by::<Brand>(asked, Blank::new(1))?,
         &(plain.len() as u64),
     );
     Ok(())

@@ -32,7 +32,8 @@ pub enum Cursor {
 
 impl Cursor {
     /// A cursor before all members of the expression, over whatever text it will be asked, that makes `leaps` look-ups by leaping. All
-    /// memory that it takes besides the pages is taken here. `Err` means out of memory: then `Free` finds the same members, without a limit.
+    /// memory that it takes besides the pages is taken here. `Err` means out of memory: then `Free` finds the same members, but without a
+    /// limit.
     pub fn new(alloc: Global, expr: &Expr, leaps: u64) -> Result<Cursor, AllocError>
         ensures at { IfOk result (λ cursor. (text : Text) (k : ℕ) → IsAt text (form_of expr.now) k cursor) }
         ensures limited { IfOk result IsLimited }

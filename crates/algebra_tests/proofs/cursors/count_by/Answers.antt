@@ -9,4 +9,4 @@ count-requires-clause-given g c =
     zero-add _ ∙ ap length (all_members (concordance c.args.asked.now.text.now (form_of c.args.asked.now.expr.now)))
 
 pub count-requires-clause-at : goal.count-requires-clause-at
-count-requires-clause-at g c = c.new-cursor.ensures.at c.args.asked.now.text.now 0
+count-requires-clause-at g c = c.in_ok-cursor.ensures.at c.args.asked.now.text.now 0
