@@ -66,7 +66,7 @@ place-rises bytes i j before = elim (cases_Bool (leb (length (file_places bytes)
         let here = file_places_rise bytes i i (stretch (length bytes) (length bytes)) (omega arith) within in
         record { first = here.first; starts = omega (arith, here.first, here.within); ends = here.within; within = omega arith }
 
--- the passages of members from an address on do not begin in front of its place
+-- the passages of members that start at or after an address do not begin in front of its place
 from_members : (bytes : List ℕ) (k : ℕ) (list : List Extent) → AllByRecursion (λ a. k ≤ a.start) list → BeginFrom (place_of bytes k).from (passages_of bytes list)
 from_members bytes k [] all = tt
 from_members bytes k (a ∷ list) all = ((place-rises bytes k a.start all.0).starts, from_members bytes k list all.1)
@@ -150,7 +150,7 @@ pub count-next : (text : Text) (form : Form) (k n m next : ℕ) (a : Extent) →
 count-next text form k n m next a found more onward =
     ap length (taken-next text form k n m a (sym found) more) ∙ ap (λ (j : ℕ). suc (length (take m (members_from (concordance text form) j)))) (sym onward)
 
--- readers that passed no member from an address on answer from there as the whole list does
+-- readers that passed no member at or after an address answer from there as the whole list does
 pub answer-of_all : (text : Text) (form : Form) (readers : List ReaderPlace) (k : ℕ) (o : Option Extent) → start_at readers ≤ k → o ≡ first_start (left_to text form readers) k → o ≡ first_start (concordance text form) k
 answer-of_all text form readers k o behind is = is ∙ agrees_at (concordance text form) (start_at readers) k behind
 
@@ -158,12 +158,12 @@ pub start-of_some : (n : ℕ) (o : Option Extent) → n ≤ start_or_end o → I
 start-of_some n None le = tt
 start-of_some n (Some a) le = le
 
--- and those that stand before all members have all of them
+-- and those that are before all members have all of them
 pub all-left : (text : Text) (form : Form) (readers : List ReaderPlace) → start_at readers ≡ 0 → members_from (left_to text form readers) 0 ≡ concordance text form
 all-left text form readers new =
     all_members (left_to text form readers) ∙ ap (members_from (concordance text form)) new ∙ all_members (concordance text form)
 
--- there is a first member where the list has one
+-- there is a first member if the list has one
 pub some-first : (list : List Extent) (most : ℕ) (o : Option Extent) → o ≡ first_start list 0 → 0 < most → is_some o ≡ nat_lt 0 (length (take most list))
 some-first list zero o is more = absurd (omega (arith, more))
 some-first [] (suc m) o is more = ap is_some is

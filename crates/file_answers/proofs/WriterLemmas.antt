@@ -8,7 +8,7 @@ use Rattle.passages.specs.declared.cursors.LineCursor.{LineCursor}
 use Rattle.file_answers.specs.Written.{Moves}
 use Rattle.file_answers.proofs.WrittenLemmas.{moves-as}
 
--- what is still to come of these passages from a cursor on
+-- what is still to come of these passages, starting at a cursor
 abbrev pub to_come : Shown → List ℕ → List Passage → LineCursor → List ℕ
 to_come shown bytes ps cursor = text_of_met shown (lines_met ps (lines_at bytes cursor))
 

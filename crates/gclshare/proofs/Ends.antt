@@ -1,4 +1,4 @@
--- How a share that ended with 0 was told.
+-- What was written of a share that ended with 0.
 use Rattle.std.proofs.Common.{◌≡◌, ℕ, List, Option, None, Some, IfSome, IsSome, refl, arith}
 use Rattle.shared_edit.specs.Books.{ClosedContent, IsClosed}
 use Rattle.share_run.specs.Shares.{IsShared}

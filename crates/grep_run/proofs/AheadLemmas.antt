@@ -8,7 +8,7 @@ use Rattle.grep_run.specs.Requests.{Request}
 use Rattle.grep_run.specs.declared.work.Work.{Work}
 use Rattle.grep_run.specs.inner.Works.{AreSound}
 
--- what holds of all before holds of all after, where it does so at each place
+-- what holds of all before holds of all after, if it does so at each place
 pub all_by_each : {X : Type 0} (xs ys : List X) (P Q : X → Type 0) → length ys ≡ length xs → ((i : ℕ) (d : X) → i < length xs → P (get_or xs i d) → Q (get_or ys i d)) → AllByRecursion P xs → AllByRecursion Q ys
 all_by_each [] [] P Q len each all = tt
 all_by_each [] (y ∷ ys) P Q len each all = absurd (omega (arith, len))

@@ -41,7 +41,7 @@ pub next_of : (defined : Defined) (texts : List (List ℕ)) (i : ℕ) (text : Li
 next_of defined texts i text below here =
     at_drop_more (defined_by_all defined) texts i text below ∙ ap (λ t. define_next (λ more. defined_by_all more (drop (i + 1) texts)) (defined_by defined t)) here
 
--- the lines from this place on
+-- the lines starting at this place
 module _ (bytes : List ℕ) (at : ℕ) (cut : LineCut) (line : lines most_query (drop at bytes) ≡ line_of_cut bytes cut ∷ lines most_query (drop cut.after bytes)) where
   pub short_more : are_short (drop at bytes) ≡ (not cut.long && are_short (drop cut.after bytes))
   short_more = ap (λ (ls : List Line). list_all (λ l. not l.long) ls) line

@@ -18,7 +18,7 @@ use Rattle.grep_run.specs.Visits.{Fate, Visit, IsFate, AreVisits, IsVisited, IsB
 use Rattle.grep_run.specs.declared.outcome.Outcome.{Outcome}
 use Rattle.grep_run.specs.declared.outcome.Summary.{Summary}
 
--- so many files were visited, and no more
+-- `count` files were visited, and no more
 pub record SoFar (told : Option Contents) (r : Request) (names : List (List ℕ)) (count : ℕ) (summary : Summary) (old new : Option (List ℕ)) (faults faults' steps steps' : ℕ) : Type 0 where
   pub visits : List Visit
   pub count_is : length visits ≡ count

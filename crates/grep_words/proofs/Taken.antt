@@ -1,4 +1,4 @@
--- Where clap takes the words, and where it does not.
+-- If clap takes the words, and if it does not.
 use Rattle.std.proofs.Common.{◌≡◌, ◌∙◌, ◌∷◌, List, [], true, false, cond, Option, Some, None, IfOk, IsNone, Result, Ok, Err, inl, inr, refl, sym, ap, true≢false}
 use Rattle.clap.specs.Faults.{fault_of, is_simple_and_free}
 use Rattle.clap.specs.Kinds.{HasKind, Kinds}
@@ -12,7 +12,7 @@ use Rattle.grep_words.specs.Program.{program}
 use Rattle.grep_words.specs.Grammar.{is_clear, task_in, task_of}
 use Rattle.grep_words.specs.declared.task.Task.{Task}
 
--- clap tells the matches of such a command, and its faults
+-- clap reports the matches of such a command, and its faults
 pub is_simple_program : is_simple program ≡ true
 is_simple_program = refl
 
@@ -20,7 +20,7 @@ is_simple_program = refl
 pub is_free_program : is_simple_and_free program ≡ true
 is_free_program = refl
 
--- where clap finds no fault, the words ask for what the matches do
+-- if clap finds no fault, the words ask for what the matches do
 pub taken_is : (words : List Text) (rows : List Row) → rows ≡ matches_of program words → fault_of program words ≡ [] → task_in rows ≡ task_of words
 taken_is words rows are clear = ap task_in are ∙ sym (open_where (fault_of program words) clear)
   where
@@ -28,7 +28,7 @@ taken_is words rows are clear = ap task_in are ∙ sym (open_where (fault_of pro
     open_where [] none = refl
     open_where (k ∷ ks) none = absurd (true≢false (sym (ap is_clear none)))
 
--- where it finds one, they ask for nothing
+-- if it finds one, they ask for nothing
 pub not_taken : (words : List Text) (e : Error) (kinds : Kinds) → kinds ≡ fault_of program words → HasKind kinds e → ¬ (kind_of e ≡ OutOfMemory) → task_of words ≡ None
 not_taken words e kinds is (inl memory) other = absurd (other memory)
 not_taken words e [] is (inr among) other = absurd among
@@ -44,7 +44,7 @@ is_none : (o : Option Task) → IsNone o → o ≡ None
 is_none None none = refl
 is_none (Some x) none = absurd (true≢false none)
 
--- a refusal is right where the words ask for nothing, unless memory is wanted
+-- a refusal is right if the words ask for nothing, unless an allocation failed
 pub refusal_is : {E : Type 0} (r : Result (Option Task) E) (words : List Text) (k : ErrorKind) → (¬ (k ≡ OutOfMemory) → task_of words ≡ None) →
     IfOk r (λ task. IsNone task × ¬ (k ≡ OutOfMemory)) → IfOk r (λ task. task ≡ task_of words)
 refusal_is (Ok task) words k nothing h = is_none task h.0 ∙ sym (nothing h.1)

@@ -12,7 +12,7 @@ use Rattle.passages.specs.Texts.{parts_of, parts_text, parts_at}
 abbrev pub part_cursor : ℕ → ℕ → ℕ → PartCursor
 part_cursor at number mark = record { at = at; number = number; mark = mark }
 
--- where there is a byte the parts are those between newlines
+-- if there is a byte, the parts are those between newlines
 parts-some : (bytes : List ℕ) → 0 < length bytes → parts_of bytes ≡ cut_at_newlines bytes
 parts-some [] some = absurd (omega arith)
 parts-some (b ∷ bytes) some = refl

@@ -40,7 +40,7 @@ one_back back sides rest side all is h =
 pub one_done : (so_far : Bool) (sides rest : List SideContent) (side : SideContent) (all : Bool) → sides ≡ rest ++ side ∷ [] → (so_far && are_done sides) ≡ all → ((so_far && side.done) && are_done rest) ≡ all
 one_done so_far sides rest side all is h = sym (done-snoc rest side so_far) ∙ ap (λ ss. so_far && are_done ss) (sym is) ∙ h
 
--- there is room for one more where there is room for all
+-- there is room for one more if there is room for all
 pub one_room : (back : List EditorContent) (sides rest : List SideContent) (side : SideContent) (e : EditorContent) (all : List EditorContent) → sides ≡ rest ++ side ∷ [] → back ++ editors_from sides ≡ all
     → side.editor ≡ Some e → length back + 1 ≤ length all
 one_room back sides rest side e all is h some =
@@ -59,7 +59,7 @@ one-worked editors files before after h done = by_case before.editor after.edito
     by_case (Some x) None k = absurd k
     by_case (Some x) (Some y) k = (k done, tt)
 
--- where the work of all sides is done, the editors have edited
+-- if the work of all sides is done, the editors have edited
 pub all-worked : (editors files : ℕ) (before after : List SideContent) → length after ≡ length before
     → ((i : ℕ) → (d : SideContent) → i < length before → HasWorked editors files (slice_index_or before i d) (slice_index_or after i d)) → are_done after ≡ true
     → HaveEdited editors files (editors_from before) (editors_from after)
@@ -126,7 +126,7 @@ pub share-kept : (editors files n : ℕ) (sides slice after : List SideContent) 
 share-kept editors files n sides slice after same len count each new =
     ap (λ ss. length (editors_from ss)) (written n sides slice after same len count) ∙ all-kept editors files slice after count each ∙ ap (λ ss. length (editors_from ss)) same ∙ ap length new ∙ new_length editors
 
--- and where all is done, all have edited
+-- and if all is done, all have edited
 pub share-edited : (editors files n : ℕ) (sides slice after : List SideContent) → slice ≡ sides → n ≡ length sides → length after ≡ length slice → EachWorked editors files slice after
     → editors_from sides ≡ new_editors editors → are_done (written_back n sides after) ≡ true → HaveEdited editors files (new_editors editors) (editors_from (written_back n sides after))
 share-edited editors files n sides slice after same len count each new done =

@@ -6,7 +6,7 @@ use Rattle.command_words.specs.Grammar.{Given, is_equals, is_joined, pairs_of, p
 use Rattle.command_words.proofs.PairLemmas.{pairs_of-joined, pairs_of-last, pairs_of-spaced}
 use Rattle.share_run.specs.Words.{options_in, options_of}
 
--- a word is joined where an `=` stands in it
+-- a word is joined if an `=` is in it
 joined : (word : List ℕ) → is_joined word ≡ nat_lt (position_or_len is_equals word) (length word)
 joined [] = refl
 joined (b ∷ bs) = by_case (is_equals b) (joined bs)
@@ -65,7 +65,7 @@ some_pairs word (next ∷ rest) e = by_case (is_joined word) e
 abbrev three_more : Given → Given → Given → Option (List Given) → Option (List Given)
 three_more a b d o = option_map (λ ps. a ∷ ps) (option_map (λ ps. b ∷ ps) (option_map (λ ps. d ∷ ps) o))
 
--- where words come after three options, the words ask for nothing
+-- if words come after three options, the words ask for nothing
 pub too_many : (words one two three : List (List ℕ)) (a b d : Given) → pairs_of words ≡ option_map (λ ps. a ∷ ps) (pairs_of one) → pairs_of one ≡ option_map (λ ps. b ∷ ps) (pairs_of two)
     → pairs_of two ≡ option_map (λ ps. d ∷ ps) (pairs_of three) → 0 < length three → None ≡ options_of words
 too_many words one two three a b d e1 e2 e3 some =

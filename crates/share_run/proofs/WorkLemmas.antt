@@ -54,7 +54,7 @@ together editors files (x ∷ xs) (y ∷ ys) h =
 
 -- ---- each file is one editor's
 
--- among the editors numbered below n, one has this number, where it is below n
+-- among the editors numbered below n, one has this number, if it is below n
 abbrev one_of : ℕ → ℕ → ℕ
 one_of zero k = 0
 one_of (suc n) k = one_of n k + one_where (k == n)

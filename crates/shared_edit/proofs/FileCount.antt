@@ -40,7 +40,7 @@ rise_kept id low high (f ∷ files) h = by_case (f.id == id) (rise_kept id (f.id
     by_case true rest = let from = h.0 in rise_lower (f.id + 1) low high (kept id files) (omega (arith, from)) rest
     by_case false rest = (h.0, rest)
 
--- where all ids lie above it, every file is kept
+-- if all ids lie above it, every file is kept
 all_kept : (id low high : ℕ) (files : List File) → id < low → Rise low high files → length (kept id files) ≡ length files
 all_kept id low high [] lt h = refl
 all_kept id low high (f ∷ files) lt h = by_case (f.id == id) refl (all_kept id (f.id + 1) high files (let from = h.0 in omega (arith, lt, from)) h.1)
@@ -59,7 +59,7 @@ one_gone id low high (f ∷ files) h has = by_case (f.id == id) refl has (one_go
     by_case true e has rest = let same : f.id ≡ id = eqb-true f.id id e in let all = all_kept id (f.id + 1) high files (omega (arith, same)) h.1 in omega (arith, all)
     by_case false e has rest = let r = rest has in omega (arith, r)
 
--- what one edit leaves: rising ids, and one file more or less where it was accepted
+-- what one edit leaves: rising ids, and one file more or less if it was accepted
 record Leaves (c d : Collection) (x : Entry) : Type 0 where
   rise : Rise 0 d.next_id d.files
   count : length d.files + count_of is_gone (x ∷ []) ≡ length c.files + count_of is_added (x ∷ [])

@@ -37,7 +37,7 @@ name_at [] i d = refl
 name_at (slot ∷ slots) zero d = refl
 name_at (slot ∷ slots) (suc i) d = name_at slots i d
 
--- names that no test tells apart are one
+-- names that no test distinguishes are equal
 pub same-name : (a b : SlotName) → false ≡ not (eqb a.first b.first && (eqb a.last b.last && eqb a.files b.files)) → a ≡ b
 same-name a b e =
     let all = not-false (eqb a.first b.first && (eqb a.last b.last && eqb a.files b.files)) (sym e) in

@@ -67,7 +67,7 @@ shows-not_live old new n id seen e f = record {
   none = f.none;
 }
 
--- the engine stays where the deletion is refused, so the pass ends with its version
+-- the engine stays if the deletion is refused, so the pass ends with its version
 pub not_live-latest : (old new : BookContent) (n id : ℕ) (seen : Account) → EndsWith old.engine.history old.engine.version → FilesNotLive old new n id seen → IsLatest seen.history new.engine.version
 not_live-latest old new n id seen e f =
     subst (λ (v : VersionContent). IsLatest seen.history v) (sym (ap (λ (b : BookContent). b.engine.version) f.book))

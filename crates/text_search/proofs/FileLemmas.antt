@@ -119,7 +119,7 @@ take_next tokens more token zero is = ap (take 1) is
 take_next [] more token (suc i) is = absurd cc
 take_next (t ∷ tokens) more token (suc i) is = ap (λ xs. t ∷ xs) (take_next tokens more token i is)
 
--- behind the words so far stands the next one
+-- after the words so far comes the next word
 pub words_noted : (words : List Word) (tokens more : List (List ℕ)) (token : List ℕ) (i : ℕ) → drop i tokens ≡ token ∷ more
     → (words ++ words_from 1 (take i tokens)) ++ record { address = i + 1; token = token } ∷ [] ≡ words ++ words_from 1 (take (i + 1) tokens)
 words_noted words tokens more token i is =

@@ -54,7 +54,7 @@ places_named names (w ∷ words) token named = elim (cases_Bool (is_named names 
     by_token true rest = ap (λ ps. w.address ∷ ps) rest
     by_token false rest = rest
 
--- a token that is not named stands nowhere
+-- a token that is not named occurs nowhere
 pub places_unnamed : (names : List (List ℕ)) (words : List Word) (token : List ℕ) → is_named names token ≡ false → places (filter (λ w. is_named names w.token) words) token ≡ []
 places_unnamed names [] token unnamed = refl
 places_unnamed names (w ∷ words) token unnamed = elim (cases_Bool (is_named names w.token)) [

@@ -32,7 +32,7 @@ pub names_in-more : (exprs : List Expr) (i : ℕ) (e : Expr) → i < length expr
     → names_in (forms_from (map form_of (take (i + 1) exprs))) ≡ names_in (forms_from (map form_of (take i exprs))) ++ names_of (form_of e)
 names_in-more exprs i e below is = ap (λ xs. names_in (forms_from (map form_of xs))) (take_more exprs i e below ∙ ap (λ x. take i exprs ++ x ∷ []) (sym is)) ∙ names_in-push (take i exprs) e
 
--- the same names, told otherwise
+-- the same names, written otherwise
 pub on_same : (r : Result (Unit {0}) AllocError) (old new xs ys : List (List ℕ)) → xs ≡ ys → OnOk r (Names old new xs) → OnOk r (Names old new ys)
 on_same r old new xs ys e h = subst (λ names. OnOk r (Names old new names)) e h
 

@@ -41,7 +41,7 @@ not_below p k = elim (cases_Bool (ltb p k)) [
 slice_past : (p : ℕ) (ps : List ℕ) (n : ℕ) → slice_get (p ∷ ps) (1 + n) ≡ slice_get ps n
 slice_past p ps n = let e : 1 + n ≡ suc n = omega arith in ap (slice_get (p ∷ ps)) e
 
--- the first address from k on stands behind those below k
+-- the first address at or after k is after those below k
 pub next_at : (ps : List ℕ) (k : ℕ) → find (λ p. leb k p) ps ≡ slice_get ps (prefix_len (λ p. ltb p k) ps)
 next_at [] k = refl
 next_at (p ∷ ps) k = ap (λ s. cond s (Some p) (find (λ p. leb k p) ps)) (not_below p k) ∙ by_first (ltb p k) (next_at ps k)
@@ -58,7 +58,7 @@ none_upto p k (q ∷ ps) lt all =
     let late : leb q k ≡ false = lt-leb q k (omega arith) in
     ap (λ o. later_or o (cond (leb q k) (Some q) None)) (none_upto p k ps lt all.1) ∙ ap (λ s. later_or None (cond s (Some q) None)) late
 
--- the last address up to k stands at the end of those
+-- the last address at or before k is at the end of those
 abbrev pub last_of_front : List ℕ → ℕ → Option ℕ
 last_of_front ps zero = None
 last_of_front ps (suc n) = slice_get ps n

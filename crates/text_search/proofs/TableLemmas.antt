@@ -249,7 +249,7 @@ note_same token address items old i x y is below at same tokens places =
     let t : bytes_eq token x.token ≡ true = (bytes_eq-Decides token x.token).1 (sym same) in
     entry_done (noted token address) items old i y is below (entry_is y x.token (x.places ++ address ∷ []) tokens places ∙ sym (noted-same token address x t) ∙ ap (noted token address) there)
 
--- what is left where memory is missing has the same tokens
+-- what is left after an allocation failed has the same tokens
 pub note_failed : (token : List ℕ) (address : ℕ) (items old : List Entry) (i : ℕ) (x y : Entry) → items ≡ map (noted token address) (take i old) ++ drop i old → i < length items → x ≡ get_or items i x → y.token ≡ x.token
     → tokens_in (set items i y) ≡ tokens_in old
 note_failed token address items old i x y is below at same =

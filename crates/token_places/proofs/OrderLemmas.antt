@@ -78,7 +78,7 @@ rises n (a ∷ places) rising zero (suc j) d le below = rises_from n a places ri
 rises n (a ∷ places) rising (suc i) zero d le below = absurd (omega arith)
 rises n (a ∷ places) rising (suc i) (suc j) d le below = rises n places rising.2 i j d (omega arith) (omega arith)
 
--- behind places in order stands the last one
+-- after places in order comes the last one
 with_end : (n : ℕ) (places : List Place) → AreInOrder n places → Rising n (places ++ stretch n n ∷ [])
 with_end n [] h = (record { first = omega arith; starts = omega arith; ends = omega arith; within = omega arith }, tt, tt)
 with_end n (a ∷ []) h = (

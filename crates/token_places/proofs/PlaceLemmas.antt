@@ -38,7 +38,7 @@ pub placed_from-cons : (at b : ℕ) (bytes : List ℕ) →
     placed_from at (b ∷ bytes) ≡ placed_at (stretch at (at + (first_part b bytes).size)) (first_part b bytes).tokens ++ placed_from (at + (first_part b bytes).size) (drop (first_part b bytes).size (b ∷ bytes))
 placed_from-cons at b bytes = placed_step (length (b ∷ bytes)) at b bytes (omega arith)
 
--- the same where the places are counted from the end of the text
+-- the same if the places are counted from the end of the text
 pub placed_behind-part : (n : ℕ) (text : List ℕ) → 0 < length text → length text ≤ n →
     placed_behind n text ≡ placed_at (stretch (n - length text) (n - length (drop (part_of text).size text))) (part_of text).tokens ++ placed_behind n (drop (part_of text).size text)
 placed_behind-part n [] some le = absurd (omega arith)

@@ -14,7 +14,7 @@ pub walk_here : (bytes : List ℕ) (address : ℕ) (place : Place) (more : List 
 walk_here bytes address place more d walk =
     sym (ap (λ n. get_or (file_places bytes) n d) (sym (add-zero address)) ∙ sym (get_or-drop address (file_places bytes) 0 d) ∙ ap (λ places. get_or places 0 d) walk)
 
--- where no token is left only the last address comes, and all behind it have its place
+-- if no token is left only the last address comes, and all after it have its place
 pub walk_end : (bytes : List ℕ) (address k : ℕ) (place : Place) (more : List Placed) → IsWalk bytes address place more → more ≡ [] → address < k
     → stretch (length bytes) (length bytes) ≡ get_or (file_places bytes) k (stretch (length bytes) (length bytes))
 walk_end bytes address k place more walk none behind =

@@ -125,7 +125,7 @@ tag_behind-take m bytes part is size = by_slash (starts_with_byte 47 bytes) refl
 abbrev word_part : ℕ → List ℕ → Part
 word_part b run = record { size = length (b ∷ run); tokens = map to_ascii_lowercase (b ∷ run) ∷ [] }
 
--- what stands at a byte that begins no word, by what stands behind it
+-- what is at a byte that begins no word, by what is after it
 abbrev other_part : ℕ → Option Part → Part
 other_part b tag = part_or_separator (cond (b == 60) tag None)
 
@@ -162,14 +162,14 @@ tokens_of-whole (b ∷ bytes) some given = by_size (first_part b bytes).size ref
         ∙ ap (λ rest. (first_part b bytes).tokens ++ tokens_of rest) (drop_all (first_part b bytes).size (b ∷ take m bytes) (omega (arith, length-take m bytes)))
         ∙ append-nil (first_part b bytes).tokens
 
--- each of the bytes stands in no word
+-- each of the bytes is in no word
 abbrev pub AreOther : List ℕ → Type 0
 AreOther bytes = AllByRecursion (λ b. is_word_byte b ≡ false) bytes
 
 other_than_letter : (b : ℕ) → is_word_byte b ≡ false → is_ascii_alphabetic b ≡ false
 other_than_letter b e = grind (arith, nat_tests)
 
--- no tag begins where no letter comes
+-- no tag begins if no letter comes
 no_name : (bytes : List ℕ) → AreOther bytes → name_at bytes ≡ []
 no_name [] others = refl
 no_name (b ∷ bytes) others = ap (λ t. cond t (b ∷ take_while is_name_byte bytes) []) (other_than_letter b others.0)
@@ -185,7 +185,7 @@ no_tag bytes others = by_slash (starts_with_byte 47 bytes)
     by_slash true = ap (λ name. tag_with_name true 2 name (drop 1 bytes)) (no_name (drop 1 bytes) (behind bytes others))
     by_slash false = ap (λ name. tag_with_name false 1 name bytes) (no_name bytes others)
 
--- bytes that stand in no word give no token
+-- bytes that are in no word give no token
 pub no_tokens : (bytes : List ℕ) → AreOther bytes → tokens_of bytes ≡ []
 no_tokens [] others = refl
 no_tokens (b ∷ bytes) others =

@@ -9,7 +9,7 @@ use Rattle.file_answers.specs.Searched.{passages_of, place_of}
 use Rattle.file_answers.specs.Written.{Moves}
 use Rattle.file_answers.proofs.members.put_answers.Given as goal
 
--- so many answers were put, and those that are left are the first members from an address on
+-- `put` answers were put, and those that are left are the first members that start at or after `from`
 abbrev pub invariant-loop-put : goal.invariant-loop-put
 invariant-loop-put g l =
     let text = g.L.Leaves.text l.leaves in

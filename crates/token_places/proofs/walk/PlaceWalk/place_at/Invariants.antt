@@ -2,7 +2,7 @@ use Rattle.std.proofs.Common.{◌≡◌, ◌≤◌, ◌-◌}
 use Rattle.token_places.specs.Walks.{IsWalk}
 use Rattle.token_places.proofs.walk.PlaceWalk.place_at.Given as goal
 
--- the walk stands at an address up to the one that is asked for
+-- the walk is at an address up to the one that is asked for
 abbrev pub invariant-loop-self : goal.invariant-loop-self
 invariant-loop-self l = record {
   upto : l.self-inside.address ≤ l.address;
