@@ -7,11 +7,10 @@ ghost use Rattle.gcl_locality.specs.Agreement.{AgreeOutside};
 ghost use Rattle.gcl_locality.specs.Changed.{touches};
 ghost use Rattle.live_version.specs.Contents.{version_text};
 ghost use Rattle.collection.specs.Engines.{last_of};
-ghost use Rattle.near_search.specs.Costs.{one_access};
+ghost use Rattle.near_search.specs.Costs.{near_listing_cost, near_opening_cost};
 ghost use Rattle.query_search.specs.Pages.{reads};
 ghost use Rattle.standing_query.specs.Changes.{changes, members};
-ghost use Rattle.change_search.specs.Costs.{change_cost, edit_opening_cost, near_listing_cost, near_opening_cost};
-ghost use Rattle.change_search.specs.Costs.{expanded, whole_cost, whole_listing_cost, words_cost};
+ghost use Rattle.change_search.specs.Costs.{change_cost, edit_opening_cost, expanded, whole_cost, whole_listing_cost, words_cost};
 ghost use Rattle.change_search.specs.inner.Sides.{IsSide, look_ups, to_come};
 
 use crate::opening::{addresses_over, expanded_over};
@@ -107,13 +106,14 @@ fn near_side<S: Ledger>(
     ensures side { IfOk result IsSide }
     ensures members { IfOk result (λ side. to_come side ≡
         filter (touches near.low near.high) (members (last_of pass.history) (form_of expr))) }
-    ensures cost { IfOk result (λ side. steps.new + look_ups side ≤ steps.old + (one_access (last_of pass.history) (form_of expr) +
-        near_listing_cost (last_of pass.history) near.low near.high (form_of expr) (reads side.rest.way) (length (to_come side)))) }
-    ensures stopped { steps.new ≤ steps.old + near_opening_cost (last_of pass.history) (form_of expr) }
+    ensures cost { IfOk result (λ side. steps.new + look_ups side ≤ steps.old +
+        (near_opening_cost (last_of pass.history) near.low near.high (form_of expr) +
+        near_listing_cost (last_of pass.history) near.low near.high (form_of expr))) }
+    ensures stopped { steps.new ≤ steps.old + near_opening_cost (last_of pass.history) near.low near.high (form_of expr) }
 {
     match Arc::new(alloc, expr) {
         Ok(expr) => {
-            let members = NearPages::of(alloc, pass, expr, near, steps)?;
+            let members = NearPages::of(pass, expr, near, steps);
             Ok(Side::of(alloc, members, near.high))
         }
         Err(_) => Err(AllocError),
@@ -139,14 +139,12 @@ fn within<S: Ledger>(
         (filter (touches near.low near.high) (members (last_of before.history) (form_of old_expr)))
         (filter (touches near.low near.high) (members (last_of after.history) (form_of new_expr)))) }
     ensures cost { IfOk result (λ listing. steps.new + listing.look_ups ≤ steps.old +
-        (one_access (last_of before.history) (form_of old_expr) +
-        near_listing_cost (last_of before.history) near.low near.high (form_of old_expr) listing.before_reads
-        (length (filter (touches near.low near.high) (members (last_of before.history) (form_of old_expr)))) +
-        (one_access (last_of after.history) (form_of new_expr) +
-        near_listing_cost (last_of after.history) near.low near.high (form_of new_expr) listing.after_reads
-        (length (filter (touches near.low near.high) (members (last_of after.history) (form_of new_expr))))))) }
-    ensures stopped { steps.new ≤ steps.old + (near_opening_cost (last_of before.history) (form_of old_expr) +
-        near_opening_cost (last_of after.history) (form_of new_expr)) }
+        (near_opening_cost (last_of before.history) near.low near.high (form_of old_expr) +
+        near_listing_cost (last_of before.history) near.low near.high (form_of old_expr) +
+        (near_opening_cost (last_of after.history) near.low near.high (form_of new_expr) +
+        near_listing_cost (last_of after.history) near.low near.high (form_of new_expr)))) }
+    ensures stopped { steps.new ≤ steps.old + (near_opening_cost (last_of before.history) near.low near.high (form_of old_expr) +
+        near_opening_cost (last_of after.history) near.low near.high (form_of new_expr)) }
 {
     let before = near_side(alloc, before, old_expr, near, steps)?;
     let after = near_side(alloc, after, new_expr, near, steps)?;
@@ -199,10 +197,9 @@ impl CountedListing {
             (wide (version_text (last_of before.history)) (form_of expr.now))
             (wide (version_text (last_of after.history)) (form_of expr.now))) }
         ensures cost { IfOk result (λ listing. steps.new + listing.look_ups ≤ steps.old +
-            change_cost (last_of before.history) (last_of after.history) edited listing.before_reads listing.after_reads
-            (form_of expr.now)) }
+            change_cost (last_of before.history) (last_of after.history) edited (form_of expr.now)) }
         ensures opening { steps.new ≤ steps.old +
-            edit_opening_cost (last_of before.history) (last_of after.history) (form_of expr.now) }
+            edit_opening_cost (last_of before.history) (last_of after.history) edited (form_of expr.now) }
     {
         expansions_are_wide();
         changes_are_local();

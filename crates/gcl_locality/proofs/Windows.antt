@@ -1,17 +1,17 @@
 -- What has the words of a window determines the members that touch two addresses, by induction over expressions.
-use Rattle.std.proofs.Common.{◌≡◌, ℕ, ◌+◌, ◌-◌, ◌<◌, ◌≤◌, Bool, true, ◌&&◌, leb, eqb, List, [], ◌∷◌, Option, Some, None, inl, inr, refl, sym, ap, ◌∙◌, arith, min, max, le_refl, filter}
-use Rattle.std.proofs.lemmas.Bool.{cases_Bool, cases_lt, and_parts, leb-true}
-use Rattle.gcl_model.specs.Extents.{Extent, extent, is_nested, is_inside, covers, IsAhead, IsRising}
+use Rattle.std.proofs.Common.{◌≡◌, ℕ, ◌+◌, ◌-◌, ◌<◌, ◌≤◌, Bool, true, not, ◌&&◌, leb, eqb, List, [], ◌∷◌, length, Option, Some, None, inl, inr, refl, sym, ap, ◌∙◌, arith, min, max, le_refl, filter}
+use Rattle.std.proofs.lemmas.Bool.{true≢false, cases_Bool, cases_lt, and_parts, or_cases, leb-true, eqb-true}
+use Rattle.gcl_model.specs.Extents.{Extent, extent, all_extents, contains_extent, is_least, is_nested, is_inside, covers, IsAhead, IsRising}
 use Rattle.gcl_model.specs.Access.{first_start, last_end}
-use Rattle.gcl_model.specs.Texts.{Text}
+use Rattle.gcl_model.specs.Texts.{Text, holds}
 use Rattle.gcl_model.specs.Forms.{Form, Forms, term, phrase, width, both, one, seq, containing, contained_in, not_containing, not_contained_in, no_forms, more_forms}
-use Rattle.gcl_model.specs.Meaning.{concordance, denotes, is_term, operands}
+use Rattle.gcl_model.specs.Meaning.{any_contains, concordance, denotes, extents_where, holds_in_row, is_minimal, is_phrase, is_term, operands}
 use Rattle.gcl_model.proofs.Lists.{all_kept}
 use Rattle.gcl_model.proofs.Covers.{Nested, nested_tells, Has, of_each, find_gives, find_last_gives, same_member}
 use Rattle.gcl_model.proofs.Minimal.{filter_has, has_filter}
-use Rattle.gcl_model.proofs.Meanings.{IsOf, AreOf, each_of_text, concordance_rises}
+use Rattle.gcl_model.proofs.Meanings.{IsOf, AreOf, contains_tells, each_of_text, concordance_rises}
 use Rattle.gcl_locality.specs.Changed.{touches}
-use Rattle.gcl_locality.specs.Windows.{IsPart, start_or, end_or, start_before, end_behind, told_from, all_told_from, told_upto, all_told_upto, window_from, window_upto}
+use Rattle.gcl_locality.specs.Windows.{IsPart, start_or, end_or, start_before, end_behind, reach_from, all_reach_from, reach_upto, all_reach_upto, told_from, all_told_from, told_upto, all_told_upto, window_from, window_upto}
 use Rattle.gcl_locality.proofs.Alike.{any_tells, any_from, Goes, Alike, AreAlike, AreShared, where_alike, both_alike, one_alike, seq_alike, kept_alike, dropped_alike}
 use Rattle.gcl_locality.proofs.Locality.{phrase_alike, width_alike, cover_on, cover_back, inner_shared}
 
@@ -71,42 +71,164 @@ IsNear x y c = (x ≤ c.end) × (c.start ≤ y)
 abbrev pub IsWithin : ℕ → ℕ → Extent → Type 0
 IsWithin x y c = Nested c (extent x y)
 
-start_most : (text : Text) (list : List Extent) (x : ℕ) → start_before text list x ≤ x
-start_most text list x = omega arith
+-- the members of the operators whose own members determine how far they reach: two lists have the same there
+abbrev mutual
+  pub KnowReach : (Extent → Type 0) → Text → Text → Form → Type 0
+  KnowReach S text part (term token) = Unit {0}
+  KnowReach S text part (phrase tokens) = Unit {0}
+  KnowReach S text part (width n) = Alike S (concordance text (width n)) (concordance part (width n))
+  KnowReach S text part (both forms) = Alike S (concordance text (both forms)) (concordance part (both forms))
+  KnowReach S text part (one forms) = AllKnowReach S text part forms
+  KnowReach S text part (seq forms) = Alike S (concordance text (seq forms)) (concordance part (seq forms))
+  KnowReach S text part (containing a b) = KnowReach S text part a
+  KnowReach S text part (contained_in a b) = KnowReach S text part a
+  KnowReach S text part (not_containing a b) = KnowReach S text part a
+  KnowReach S text part (not_contained_in a b) = KnowReach S text part a
 
-end_least : (text : Text) (list : List Extent) (y : ℕ) → y ≤ end_behind text list y
-end_least text list y = omega arith
+  pub AllKnowReach : (Extent → Type 0) → Text → Text → Forms → Type 0
+  AllKnowReach S text part no_forms = Unit {0}
+  AllKnowReach S text part (more_forms form forms) = KnowReach S text part form × AllKnowReach S text part forms
 
--- two lists that agree between the member before x and the one after y have the same members near x and y
+-- a text knows its own
+mutual
+  own_reach : (S : Extent → Type 0) (text : Text) (form : Form) → KnowReach S text text form
+  own_reach S text (term token) = tt
+  own_reach S text (phrase tokens) = tt
+  own_reach S text (width n) = (λ c s m. m, λ c s m. m)
+  own_reach S text (both forms) = (λ c s m. m, λ c s m. m)
+  own_reach S text (one forms) = own_reaches S text forms
+  own_reach S text (seq forms) = (λ c s m. m, λ c s m. m)
+  own_reach S text (containing a b) = own_reach S text a
+  own_reach S text (contained_in a b) = own_reach S text a
+  own_reach S text (not_containing a b) = own_reach S text a
+  own_reach S text (not_contained_in a b) = own_reach S text a
+
+  own_reaches : (S : Extent → Type 0) (text : Text) (forms : Forms) → AllKnowReach S text text forms
+  own_reaches S text no_forms = tt
+  own_reaches S text (more_forms form forms) = (own_reach S text form, own_reaches S text forms)
+
+-- a reach has the addresses that it is asked for
+module _ (text : Text) where
+  mutual
+    reach_most : (x : ℕ) (form : Form) → reach_from text x form ≤ x
+    reach_most x (term token) = le_refl x
+    reach_most x (phrase tokens) = omega arith
+    reach_most x (width n) = omega arith
+    reach_most x (both forms) = omega arith
+    reach_most x (one forms) = reaches_most x forms
+    reach_most x (seq forms) = omega arith
+    reach_most x (containing a b) = reach_most x a
+    reach_most x (contained_in a b) = reach_most x a
+    reach_most x (not_containing a b) = reach_most x a
+    reach_most x (not_contained_in a b) = reach_most x a
+
+    reaches_most : (x : ℕ) (forms : Forms) → all_reach_from text x forms ≤ x
+    reaches_most x no_forms = le_refl x
+    reaches_most x (more_forms form forms) = let h = reach_most x form in omega arith
+
+  mutual
+    reach_least : (y : ℕ) (form : Form) → y ≤ reach_upto text y form
+    reach_least y (term token) = le_refl y
+    reach_least y (phrase tokens) = omega arith
+    reach_least y (width n) = omega arith
+    reach_least y (both forms) = omega arith
+    reach_least y (one forms) = reaches_least y forms
+    reach_least y (seq forms) = omega arith
+    reach_least y (containing a b) = reach_least y a
+    reach_least y (contained_in a b) = reach_least y a
+    reach_least y (not_containing a b) = reach_least y a
+    reach_least y (not_contained_in a b) = reach_least y a
+
+    reaches_least : (y : ℕ) (forms : Forms) → y ≤ all_reach_upto text y forms
+    reaches_least y no_forms = le_refl y
+    reaches_least y (more_forms form forms) = let h = reach_least y form in omega arith
+
+-- what a containment keeps is of its first operand
+kept_is : (text : Text) (test keep : Extent → Bool) (c : Extent) → Has (extents_where text (λ c. test c && keep c)) c → Has (extents_where text test) c
+kept_is text test keep c m =
+    let h = has_filter (λ c. test c && keep c) (all_extents text.first text.next) c m in
+    filter_has test (all_extents text.first text.next) c h.0 (and_parts (test c) (keep c) h.1).0
+
+-- a part of a text whose list is like the text's between the addresses that its members reach: no member of the part reaches further
+module _ (text part : Text) (first : text.first ≤ part.first) (next : part.next ≤ text.next) (x y : ℕ) (le : x ≤ y + 1) (from upto : ℕ) where
+  of_part : (form : Form) (d : Extent) → Has (concordance part form) d → IsOf text d
+  of_part form d n =
+      let of = of_each (IsOf part) (concordance part form) d (each_of_text part (denotes part form)) n in
+      let above : part.first ≤ d.start = of.above in
+      let below : d.end < part.next = of.below in
+      record { above = omega arith; proper = of.proper; below = omega arith }
+
+  -- an interval that touches the addresses lies between these
+  abbrev Reaches : Extent → (start end : ℕ) → Type 0
+  Reaches d start end = (x ≤ d.end → start ≤ d.start) × (d.start ≤ y → d.end ≤ end)
+
+  reaches_by : (form : Form) → from ≤ start_before text (concordance text form) x → end_behind text (concordance text form) y ≤ upto →
+      Alike (IsWithin from upto) (concordance text form) (concordance part form) → (d : Extent) → Has (concordance part form) d →
+      Reaches d (start_before text (concordance text form) x) (end_behind text (concordance text form) y)
+  reaches_by form low high told d n = (
+    reach_start text x (concordance text form) (concordance part form) (concordance_rises part form) (λ d n. (of_part form d n).above)
+        (λ m n lt ge. told.0 m (omega arith, omega arith) n) d n,
+    reach_end text y (concordance text form) (concordance part form) (concordance_rises part form) (λ d n. (of_part form d n).below)
+        (λ m n lt ge. told.0 m (omega arith, omega arith) n) d n,
+  )
+
+  mutual
+    reaches : (form : Form) → from ≤ reach_from text x form → reach_upto text y form ≤ upto → KnowReach (IsWithin from upto) text part form →
+        (d : Extent) → Has (concordance part form) d → Reaches d (reach_from text x form) (reach_upto text y form)
+    reaches (term token) low high told d n =
+        let h = has_filter (is_term part token) (all_extents part.first part.next) d n in
+        let one : d.start ≡ d.end = eqb-true d.start d.end (and_parts (eqb d.start d.end) (holds part.words token d.start) h.1).0 in
+        (λ ge. omega arith, λ ge. omega arith)
+    reaches (phrase tokens) low high told d n =
+        let h = has_filter (is_phrase part tokens) (all_extents part.first part.next) d n in
+        let long : d.end + 1 ≡ d.start + length tokens = eqb-true (d.end + 1) (d.start + length tokens) (and_parts (eqb (d.end + 1) (d.start + length tokens)) (holds_in_row part.words tokens d.start) h.1).0 in
+        let of = of_part (phrase tokens) d n in
+        let proper : d.start ≤ d.end = of.proper in
+        let below : d.end < text.next = of.below in
+        (λ ge. omega arith, λ ge. omega arith)
+    reaches (width n) low high told d m = reaches_by (width n) low high told d m
+    reaches (both forms) low high told d n = reaches_by (both forms) low high told d n
+    reaches (one forms) low high told d n =
+        let h = has_filter (is_minimal part (any_contains (operands part forms))) (all_extents part.first part.next) d n in
+        let some : any_contains (operands part forms) d ≡ true = (and_parts (any_contains (operands part forms) d) (is_least (extents_where part (any_contains (operands part forms))) d) h.1).0 in
+        one_reaches forms low high told d some
+    reaches (seq forms) low high told d n = reaches_by (seq forms) low high told d n
+    reaches (containing a b) low high told d n = reaches a low high told d (kept_is part (denotes part a) (covers (concordance part b)) d n)
+    reaches (contained_in a b) low high told d n = reaches a low high told d (kept_is part (denotes part a) (is_inside (concordance part b)) d n)
+    reaches (not_containing a b) low high told d n = reaches a low high told d (kept_is part (denotes part a) (λ c. not (covers (concordance part b) c)) d n)
+    reaches (not_contained_in a b) low high told d n = reaches a low high told d (kept_is part (denotes part a) (λ c. not (is_inside (concordance part b) c)) d n)
+
+    one_reaches : (forms : Forms) → from ≤ all_reach_from text x forms → all_reach_upto text y forms ≤ upto → AllKnowReach (IsWithin from upto) text part forms →
+        (d : Extent) → any_contains (operands part forms) d ≡ true → Reaches d (all_reach_from text x forms) (all_reach_upto text y forms)
+    one_reaches no_forms low high told d some = absurd (true≢false (sym some))
+    one_reaches (more_forms form forms) low high told d some =
+        elim (or_cases (contains_extent (concordance part form) d) (any_contains (operands part forms) d) some) [
+          | inl here ↦
+              let r = reaches form (omega arith) (omega arith) told.0 d (contains_tells (concordance part form) d here) in
+              (λ ge. let s = r.0 ge in omega arith, λ ge. let e = r.1 ge in omega arith)
+          | inr later ↦
+              let r = one_reaches forms (omega arith) (omega arith) told.1 d later in
+              (λ ge. let s = r.0 ge in omega arith, λ ge. let e = r.1 ge in omega arith)
+        ]
+
+-- two lists that agree as far as members reach that touch x and y have the same members near x and y
 module _ (text part : Text) (first : text.first ≤ part.first) (next : part.next ≤ text.next) (form : Form) (x y : ℕ) (le : x ≤ y + 1) where
   abbrev from : ℕ
-  from = start_before text (concordance text form) x
+  from = reach_from text x form
 
   abbrev upto : ℕ
-  upto = end_behind text (concordance text form) y
+  upto = reach_upto text y form
 
   in_text : (c : Extent) → Has (concordance text form) c → IsNear x y c → IsWithin from upto c
   in_text c m near =
-      let of : (d : Extent) → Has (concordance text form) d → IsOf text d = λ d n. of_each (IsOf text) (concordance text form) d (each_of_text text (denotes text form)) n in (
-        reach_start text x (concordance text form) (concordance text form) (concordance_rises text form) (λ d n. (of d n).above) (λ d n lt ge. n) c m near.0,
-        reach_end text y (concordance text form) (concordance text form) (concordance_rises text form) (λ d n. (of d n).below) (λ d n lt ge. n) c m near.1,
-      )
+      let r = reaches text text (le_refl text.first) (le_refl text.next) x y le from upto form (le_refl from) (le_refl upto) (own_reach (IsWithin from upto) text form) c m in
+      (r.0 near.0, r.1 near.1)
 
-  module _ (told : Alike (IsWithin from upto) (concordance text form) (concordance part form)) where
-    of_part : (d : Extent) → Has (concordance part form) d → (text.first ≤ d.start) × (d.end < text.next)
-    of_part d n =
-        let of = of_each (IsOf part) (concordance part form) d (each_of_text part (denotes part form)) n in
-        let above : part.first ≤ d.start = of.above in
-        let below : d.end < part.next = of.below in
-        (omega arith, omega arith)
-
+  module _ (told : Alike (IsWithin from upto) (concordance text form) (concordance part form)) (know : KnowReach (IsWithin from upto) text part form) where
     in_part : (c : Extent) → Has (concordance part form) c → IsNear x y c → IsWithin from upto c
-    in_part c m near = (
-      reach_start text x (concordance text form) (concordance part form) (concordance_rises part form) (λ d n. (of_part d n).0)
-          (λ d n lt ge. told.0 d (ge, let e = end_least text (concordance text form) y in omega arith) n) c m near.0,
-      reach_end text y (concordance text form) (concordance part form) (concordance_rises part form) (λ d n. (of_part d n).1)
-          (λ d n lt ge. told.0 d (let e = start_most text (concordance text form) x in omega arith, ge) n) c m near.1,
-    )
+    in_part c m near =
+        let r = reaches text part first next x y le from upto form (le_refl from) (le_refl upto) know c m in
+        (r.0 near.0, r.1 near.1)
 
     near_alike : Alike (IsNear x y) (concordance text form) (concordance part form)
     near_alike = (λ c near m. told.0 c (in_text c m near) m, λ c near m. told.1 c (in_part c m near) m)
@@ -189,10 +311,14 @@ module _ (text part : Text) (lo hi : ℕ) (is : IsPart part text lo hi) where
   one_shared : (form : Form) (x y : ℕ) → lo ≤ told_from text x y form → told_upto text x y form ≤ hi → AreShared text part (IsWithin x y)
   one_shared form x y ge le = let l = from_le text x y form in let h = upto_ge text x y form in told_shared x y (omega arith) (omega arith)
 
+  -- both lists have the same members from x to y, and as far as is needed to know how far members reach
+  abbrev Told : Form → (x y : ℕ) → Type 0
+  Told form x y = Alike (IsWithin x y) (concordance text form) (concordance part form) × KnowReach (IsWithin x y) text part form
+
   -- what `<` and `/<` ask of their second operand
-  module _ (b : Form) (x y : ℕ) (second : Alike (IsWithin (start_before text (concordance text b) x) (end_behind text (concordance text b) y)) (concordance text b) (concordance part b)) where
+  module _ (b : Form) (x y : ℕ) (second : Told b (reach_from text x b) (reach_upto text y b)) where
     near : x ≤ y + 1 → Alike (IsNear x y) (concordance text b) (concordance part b)
-    near le = near_alike text part is.first is.next b x y le second
+    near le = near_alike text part is.first is.next b x y le second.0 second.1
 
     inside_on : (c : Extent) → IsWithin x y c → c.start ≤ c.end → is_inside (concordance text b) c ≡ true → is_inside (concordance part b) c ≡ true
     inside_on c s le e = inside_goes x y (concordance text b) (concordance part b) (near (let u = s.0 in let v = s.1 in omega arith)).0 c s le e
@@ -209,34 +335,46 @@ module _ (text part : Text) (lo hi : ℕ) (is : IsPart part text lo hi) where
       not_contained_alike =
           dropped_alike text part (IsWithin x y) (denotes text a) (denotes part a) (is_inside (concordance text b)) (is_inside (concordance part b)) first inside_on inside_back
 
+  -- the same of the operands of "one of", "both of" or "followed by"
+  abbrev ToldEach : Forms → (x y : ℕ) → Type 0
+  ToldEach forms x y = AreAlike (IsWithin x y) (operands text forms) (operands part forms) × AllKnowReach (IsWithin x y) text part forms
+
   -- a part that has the words which determine the members from x to y has these members
   mutual
-    pub told_alike : (form : Form) (x y : ℕ) → lo ≤ told_from text x y form → told_upto text x y form ≤ hi → Alike (IsWithin x y) (concordance text form) (concordance part form)
-    told_alike (term token) x y ge le = term_alike text part (IsWithin x y) (told_shared x y ge le) token
-    told_alike (phrase tokens) x y ge le = phrase_alike text part (IsWithin x y) (told_shared x y ge le) tokens
-    told_alike (width n) x y ge le = width_alike text part (IsWithin x y) (told_shared x y ge le) n
-    told_alike (both forms) x y ge le = both_alike text part (IsWithin x y) (each_shared forms x y ge le) (operands text forms) (operands part forms) (told_each forms x y ge le)
-    told_alike (one forms) x y ge le = one_alike text part (IsWithin x y) (each_shared forms x y ge le) (operands text forms) (operands part forms) (told_each forms x y ge le)
-    told_alike (seq forms) x y ge le =
-        seq_alike text part (IsWithin x y) (each_shared forms x y ge le) (operands text forms) (operands part forms) (all_of text forms) (all_of part forms) (told_each forms x y ge le)
-    told_alike (containing a b) x y ge le =
-        containing_alike text part (IsWithin x y) (one_shared a x y (omega arith) (omega arith)) a b
-        (told_alike a x y (omega arith) (omega arith)) (told_alike b x y (omega arith) (omega arith))
-    told_alike (contained_in a b) x y ge le =
-        contained_alike b x y
-        (told_alike b (start_before text (concordance text b) x) (end_behind text (concordance text b) y) (omega arith) (omega arith))
-        a (told_alike a x y (omega arith) (omega arith))
-    told_alike (not_containing a b) x y ge le =
-        not_containing_alike text part (IsWithin x y) (one_shared a x y (omega arith) (omega arith)) a b
-        (told_alike a x y (omega arith) (omega arith)) (told_alike b x y (omega arith) (omega arith))
-    told_alike (not_contained_in a b) x y ge le =
-        not_contained_alike b x y
-        (told_alike b (start_before text (concordance text b) x) (end_behind text (concordance text b) y) (omega arith) (omega arith))
-        a (told_alike a x y (omega arith) (omega arith))
+    pub told : (form : Form) (x y : ℕ) → lo ≤ told_from text x y form → told_upto text x y form ≤ hi → Told form x y
+    told (term token) x y ge le = (term_alike text part (IsWithin x y) (told_shared x y ge le) token, tt)
+    told (phrase tokens) x y ge le = (phrase_alike text part (IsWithin x y) (told_shared x y ge le) tokens, tt)
+    told (width n) x y ge le = let same = width_alike text part (IsWithin x y) (told_shared x y ge le) n in (same, same)
+    told (both forms) x y ge le =
+        let each = told_each forms x y ge le in
+        let same = both_alike text part (IsWithin x y) (each_shared forms x y ge le) (operands text forms) (operands part forms) each.0 in
+        (same, same)
+    told (one forms) x y ge le =
+        let each = told_each forms x y ge le in
+        (one_alike text part (IsWithin x y) (each_shared forms x y ge le) (operands text forms) (operands part forms) each.0, each.1)
+    told (seq forms) x y ge le =
+        let each = told_each forms x y ge le in
+        let same = seq_alike text part (IsWithin x y) (each_shared forms x y ge le) (operands text forms) (operands part forms) (all_of text forms) (all_of part forms) each.0 in
+        (same, same)
+    told (containing a b) x y ge le =
+        let first = told a x y (omega arith) (omega arith) in
+        (containing_alike text part (IsWithin x y) (one_shared a x y (omega arith) (omega arith)) a b first.0 (told b x y (omega arith) (omega arith)).0, first.1)
+    told (contained_in a b) x y ge le =
+        let first = told a x y (omega arith) (omega arith) in
+        (contained_alike b x y (told b (reach_from text x b) (reach_upto text y b) (omega arith) (omega arith)) a first.0, first.1)
+    told (not_containing a b) x y ge le =
+        let first = told a x y (omega arith) (omega arith) in
+        (not_containing_alike text part (IsWithin x y) (one_shared a x y (omega arith) (omega arith)) a b first.0 (told b x y (omega arith) (omega arith)).0, first.1)
+    told (not_contained_in a b) x y ge le =
+        let first = told a x y (omega arith) (omega arith) in
+        (not_contained_alike b x y (told b (reach_from text x b) (reach_upto text y b) (omega arith) (omega arith)) a first.0, first.1)
 
-    told_each : (forms : Forms) (x y : ℕ) → lo ≤ all_told_from text x y forms → all_told_upto text x y forms ≤ hi → AreAlike (IsWithin x y) (operands text forms) (operands part forms)
-    told_each no_forms x y ge le = tt
-    told_each (more_forms form forms) x y ge le = (told_alike form x y (omega arith) (omega arith), told_each forms x y (omega arith) (omega arith))
+    told_each : (forms : Forms) (x y : ℕ) → lo ≤ all_told_from text x y forms → all_told_upto text x y forms ≤ hi → ToldEach forms x y
+    told_each no_forms x y ge le = (tt, tt)
+    told_each (more_forms form forms) x y ge le =
+        let here = told form x y (omega arith) (omega arith) in
+        let later = told_each forms x y (omega arith) (omega arith) in
+        ((here.0, later.0), (here.1, later.1))
 
 -- what passes a test still rises
 filter_rises : (test : Extent → Bool) (list : List Extent) → IsRising list → IsRising (filter test list)
@@ -284,10 +422,8 @@ kept_goes low high xs ys go c m =
 pub told_near : (text part : Text) (form : Form) (low high : ℕ) → low ≤ high + 1 → IsPart part text (window_from text low high form) (window_upto text low high form) →
     filter (touches low high) (concordance part form) ≡ filter (touches low high) (concordance text form)
 told_near text part form low high le is =
-    let from = start_before text (concordance text form) low in
-    let upto = end_behind text (concordance text form) high in
-    let told = told_alike text part (window_from text low high form) (window_upto text low high form) is form from upto (le_refl _) (le_refl _) in
-    let near = near_alike text part is.first is.next form low high le told in
+    let both = told text part (window_from text low high form) (window_upto text low high form) is form (reach_from text low form) (reach_upto text high form) (le_refl _) (le_refl _) in
+    let near = near_alike text part is.first is.next form low high le both.0 both.1 in
     same_rising (filter (touches low high) (concordance part form)) (filter (touches low high) (concordance text form))
     (filter_rises (touches low high) (concordance part form) (concordance_rises part form)) (filter_rises (touches low high) (concordance text form) (concordance_rises text form))
     (kept_goes low high (concordance part form) (concordance text form) near.1) (kept_goes low high (concordance text form) (concordance part form) near.0)

@@ -3,11 +3,11 @@ use Rattle.std.specs.Prelude.{◌≡◌, ℕ, List, true, false, [], ◌∷◌, 
 use Rattle.std.proofs.Common.{arith}
 use Rattle.gcl_model.specs.Extents.{extent}
 use Rattle.gcl_model.specs.Texts.{Text, Word}
-use Rattle.gcl_model.specs.Forms.{Form, term, width, seq, both, containing, contained_in, not_contained_in, no_forms, more_forms}
+use Rattle.gcl_model.specs.Forms.{Form, term, phrase, width, one, seq, both, containing, contained_in, not_contained_in, no_forms, more_forms}
 use Rattle.gcl_model.specs.Wide.{wide}
 use Rattle.gcl_locality.specs.Agreement.{has_address}
 use Rattle.gcl_locality.specs.Changed.{earlier_start, later_end, changed_from, changed_upto, is_lost, differs, touches, looks_around}
-use Rattle.gcl_locality.specs.Windows.{IsPart, start_before, end_behind, window_from, window_upto}
+use Rattle.gcl_locality.specs.Windows.{IsPart, start_before, end_behind, reach_from, reach_upto, window_from, window_upto}
 
 abbrev word : ℕ → List ℕ → Word
 word p token = record { address = p; token = token }
@@ -143,7 +143,7 @@ it_is_not_in_the_list = refl
 it_is_in_the_list_of_a_part : filter (touches 6 6) (wide alone watched) ≡ extent 6 6 ∷ []
 it_is_in_the_list_of_a_part = refl
 
--- the window of a word reaches from the one before to the one after
+-- what lies before and behind the `be` at 6
 a_word_starts_before : start_before after (wide after be) 5 ≡ 2
 a_word_starts_before = refl
 
@@ -163,28 +163,51 @@ none_before = refl
 none_behind : end_behind last [] 9 ≡ 11
 none_behind = refl
 
--- `to x to x be to be x be to x be to x to x` at 0 to 15: the window of the same expression at 8 has the words from 2 to 13
+-- a word reaches no further than itself, a phrase of two words one further, and not past the end of the text
+a_word_reaches : (reach_from after 5 be ≡ 5) × (reach_upto after 5 be ≡ 5)
+a_word_reaches = (refl, refl)
+
+abbrev to_be : Form
+to_be = phrase (codes "to" ∷ codes "be" ∷ [])
+
+a_phrase_reaches : (reach_from after 5 to_be ≡ 4) × (reach_upto after 5 to_be ≡ 6) × (reach_from after 0 to_be ≡ 0) × (reach_upto after 11 to_be ≡ 11)
+a_phrase_reaches = (refl, refl, refl, refl)
+
+its_reach : (reach_from before 3 to_be ≡ 2) × (reach_upto before 4 to_be ≡ 5)
+its_reach = (refl, refl)
+
+an_elements_window : (window_from before 3 4 (followed to be) ≡ 1) × (window_upto before 3 4 (followed to be) ≡ 6)
+an_elements_window = (refl, refl)
+
+-- what a containment keeps reaches as far as its first operand, and "one of" as far as the one that reaches furthest
+a_containment_reaches : (reach_from after 5 (containing (followed to x) be) ≡ reach_from after 5 (followed to x)) × (reach_upto after 5 (contained_in be (followed to x)) ≡ 5)
+a_containment_reaches = (refl, refl)
+
+one_of_reaches : (reach_from after 5 (one (more_forms be (more_forms to_be no_forms))) ≡ 4) × (reach_upto after 5 (one (more_forms be (more_forms to_be no_forms))) ≡ 6)
+one_of_reaches = (refl, refl)
+
+-- `to x to x be to be x be to x be to x to x` at 0 to 15: the window of the same expression at 8 has the words from 5 to 10
 abbrev inner_words : List Word
-inner_words = word 2 (codes "to") ∷ word 3 (codes "x") ∷ word 4 (codes "be") ∷ word 5 (codes "to") ∷ word 6 (codes "be") ∷ word 7 (codes "x")
-    ∷ word 8 (codes "be") ∷ word 9 (codes "to") ∷ word 10 (codes "x") ∷ word 11 (codes "be") ∷ word 12 (codes "to") ∷ word 13 (codes "x") ∷ []
+inner_words = word 5 (codes "to") ∷ word 6 (codes "be") ∷ word 7 (codes "x") ∷ word 8 (codes "be") ∷ word 9 (codes "to") ∷ word 10 (codes "x") ∷ []
 
 abbrev long : Text
 long = record {
   first = 0;
   next = 16;
-  words = word 0 (codes "to") ∷ word 1 (codes "x") ∷ inner_words ++ word 14 (codes "to") ∷ word 15 (codes "x") ∷ [];
+  words = word 0 (codes "to") ∷ word 1 (codes "x") ∷ word 2 (codes "to") ∷ word 3 (codes "x") ∷ word 4 (codes "be")
+      ∷ inner_words ++ word 11 (codes "be") ∷ word 12 (codes "to") ∷ word 13 (codes "x") ∷ word 14 (codes "to") ∷ word 15 (codes "x") ∷ [];
 }
 
 abbrev inner : Text
-inner = record { first = 2; next = 14; words = inner_words }
+inner = record { first = 5; next = 11; words = inner_words }
 
 long_list : wide long watched ≡ extent 4 4 ∷ extent 8 8 ∷ extent 11 11 ∷ []
 long_list = refl
 
-long_from : window_from long 8 8 watched ≡ 2
+long_from : window_from long 8 8 watched ≡ 5
 long_from = refl
 
-long_upto : window_upto long 8 8 watched ≡ 13
+long_upto : window_upto long 8 8 watched ≡ 10
 long_upto = refl
 
 its_part_tells : filter (touches 8 8) (wide inner watched) ≡ filter (touches 8 8) (wide long watched)

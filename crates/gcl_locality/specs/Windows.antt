@@ -1,5 +1,5 @@
 -- Which part of a text determines the members of an expression that touch two addresses.
-use Rattle.std.specs.Prelude.{◌≡◌, ℕ, ◌+◌, ◌-◌, ◌≤◌, List, Option, None, Some, min, max, filter}
+use Rattle.std.specs.Prelude.{◌≡◌, ℕ, ◌+◌, ◌-◌, ◌≤◌, List, Option, None, Some, min, max, filter, length}
 use Rattle.gcl_model.specs.Extents.{Extent}
 use Rattle.gcl_model.specs.Access.{first_start, last_end}
 use Rattle.gcl_model.specs.Texts.{Text}
@@ -34,6 +34,45 @@ abbrev pub end_behind : Text → List Extent → ℕ → ℕ
 end_behind text list y = max y (end_or text.next (first_start list (y + 1)))
 
 abbrev mutual
+  -- each member that ends at x or later starts here or later. A term's start where they end, a phrase's are as long as it is, and those of a
+  -- containment are members of its first operand: so no search goes far. Of the phrase `to be` it is 4 for 5
+  pub reach_from : Text → ℕ → Form → ℕ
+  reach_from text x (term token) = x
+  reach_from text x (phrase tokens) = x - (length tokens - 1)
+  reach_from text x (width n) = start_before text (concordance text (width n)) x
+  reach_from text x (both forms) = start_before text (concordance text (both forms)) x
+  reach_from text x (one forms) = all_reach_from text x forms
+  reach_from text x (seq forms) = start_before text (concordance text (seq forms)) x
+  reach_from text x (containing a b) = reach_from text x a
+  reach_from text x (contained_in a b) = reach_from text x a
+  reach_from text x (not_containing a b) = reach_from text x a
+  reach_from text x (not_contained_in a b) = reach_from text x a
+
+  -- the least of the operands' addresses
+  pub all_reach_from : Text → ℕ → Forms → ℕ
+  all_reach_from text x no_forms = x
+  all_reach_from text x (more_forms form forms) = min (reach_from text x form) (all_reach_from text x forms)
+
+abbrev mutual
+  -- each member that starts at y or before ends here or before
+  pub reach_upto : Text → ℕ → Form → ℕ
+  reach_upto text y (term token) = y
+  reach_upto text y (phrase tokens) = max y (min text.next (y + (length tokens - 1)))
+  reach_upto text y (width n) = end_behind text (concordance text (width n)) y
+  reach_upto text y (both forms) = end_behind text (concordance text (both forms)) y
+  reach_upto text y (one forms) = all_reach_upto text y forms
+  reach_upto text y (seq forms) = end_behind text (concordance text (seq forms)) y
+  reach_upto text y (containing a b) = reach_upto text y a
+  reach_upto text y (contained_in a b) = reach_upto text y a
+  reach_upto text y (not_containing a b) = reach_upto text y a
+  reach_upto text y (not_contained_in a b) = reach_upto text y a
+
+  -- the greatest of the operands' addresses
+  pub all_reach_upto : Text → ℕ → Forms → ℕ
+  all_reach_upto text y no_forms = y
+  all_reach_upto text y (more_forms form forms) = max (reach_upto text y form) (all_reach_upto text y forms)
+
+abbrev mutual
   -- from where a part of the text must have its words to determine the members that lie from x to y: from x, except for `<` and `/<`, for
   -- which it must also determine what contains these members
   pub told_from : Text → (x y : ℕ) → Form → ℕ
@@ -45,10 +84,10 @@ abbrev mutual
   told_from text x y (seq forms) = all_told_from text x y forms
   told_from text x y (containing a b) = min (told_from text x y a) (told_from text x y b)
   told_from text x y (contained_in a b) =
-      min (told_from text x y a) (told_from text (start_before text (concordance text b) x) (end_behind text (concordance text b) y) b)
+      min (told_from text x y a) (told_from text (reach_from text x b) (reach_upto text y b) b)
   told_from text x y (not_containing a b) = min (told_from text x y a) (told_from text x y b)
   told_from text x y (not_contained_in a b) =
-      min (told_from text x y a) (told_from text (start_before text (concordance text b) x) (end_behind text (concordance text b) y) b)
+      min (told_from text x y a) (told_from text (reach_from text x b) (reach_upto text y b) b)
 
   -- the least of the operands' addresses
   pub all_told_from : Text → (x y : ℕ) → Forms → ℕ
@@ -66,10 +105,10 @@ abbrev mutual
   told_upto text x y (seq forms) = all_told_upto text x y forms
   told_upto text x y (containing a b) = max (told_upto text x y a) (told_upto text x y b)
   told_upto text x y (contained_in a b) =
-      max (told_upto text x y a) (told_upto text (start_before text (concordance text b) x) (end_behind text (concordance text b) y) b)
+      max (told_upto text x y a) (told_upto text (reach_from text x b) (reach_upto text y b) b)
   told_upto text x y (not_containing a b) = max (told_upto text x y a) (told_upto text x y b)
   told_upto text x y (not_contained_in a b) =
-      max (told_upto text x y a) (told_upto text (start_before text (concordance text b) x) (end_behind text (concordance text b) y) b)
+      max (told_upto text x y a) (told_upto text (reach_from text x b) (reach_upto text y b) b)
 
   -- the greatest of the operands' addresses
   pub all_told_upto : Text → (x y : ℕ) → Forms → ℕ
@@ -78,13 +117,11 @@ abbrev mutual
 
 -- the window of an expression at two addresses: the part of a text from here
 abbrev pub window_from : Text → (low high : ℕ) → Form → ℕ
-window_from text low high form =
-    told_from text (start_before text (concordance text form) low) (end_behind text (concordance text form) high) form
+window_from text low high form = told_from text (reach_from text low form) (reach_upto text high form) form
 
 -- up to here
 abbrev pub window_upto : Text → (low high : ℕ) → Form → ℕ
-window_upto text low high form =
-    told_upto text (start_before text (concordance text form) low) (end_behind text (concordance text form) high) form
+window_upto text low high form = told_upto text (reach_from text low form) (reach_upto text high form) form
 
 -- what has the words of the window determines the members that touch the two addresses. The first is at most one after the second, as 5
 -- and 4, between which there is no address: with 12 and 2, (1, 12) would touch both, and the window might have none of its words

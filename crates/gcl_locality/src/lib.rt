@@ -8,11 +8,11 @@
 //!
 //! The layer above finds the two addresses by a few accesses of the second operands, with `earlier_start` and `later_end`.
 //!
-//! A window of an expression at two addresses is the part of a text that determines its members there, from the member
-//! that ends before them to the one that starts after them, and for `<` and `/<` on to what contains these: a text with
-//! the same words in the window, and no address that the first text lacks, has the same members that touch the two
-//! addresses. The `be` at 6 alone does not show that it lies in (5, 9). The layer above finds a window by accesses, too,
-//! with `start_before` and `end_behind`.
+//! A window of an expression at two addresses is the part of a text that determines its members there, as far as members reach that touch
+//! these addresses, and for `<` and `/<` on to what contains these: a text with the same words in the window, and no address that the
+//! first text lacks, has the same members that touch the two addresses. The `be` at 6 alone does not show that it lies in (5, 9). The layer
+//! above finds by accesses, too, how far the members of "both of", "followed by" and widths reach: from the member before the addresses to
+//! the one after them, with `start_before` and `end_behind`.
 #![tactic(auto)]
 
 mod addresses;

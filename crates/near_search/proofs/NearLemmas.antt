@@ -14,10 +14,8 @@ use Rattle.gcl_model.proofs.Lists.{all_weaker, filter_kept, filter_gone}
 use Rattle.gcl_model.proofs.Meanings.{concordance_rises}
 use Rattle.gcl_eval.specs.Members.{members_from}
 use Rattle.gcl_locality.specs.Changed.{touches}
-use Rattle.live_version.specs.Contents.{VersionContent}
-use Rattle.query_search.specs.Pages.{Way, leaping, reading, ended, reads, IsWayOver}
-use Rattle.query_search.proofs.SearchLemmas.{none_at_end, none_from, start_before}
-use Rattle.near_search.specs.Contents.{IsNearWay, start_of, starts_by}
+use Rattle.query_search.proofs.SearchLemmas.{none_at_end}
+use Rattle.near_search.specs.Contents.{start_of, starts_by}
 
 -- if all members end at or after the lower address, those up to the last one that starts at the upper address touch both
 upto_touches : (low high : ℕ) (list : List Extent) → IsRising list → AllByRecursion (λ (a : Extent). low ≤ a.end) list → take_while (starts_by high) list ≡ filter (touches low high) list
@@ -100,45 +98,6 @@ none_touch low high n (x ∷ list) r gt =
       | inr f ↦ let later : high < start_or n (first_end list low) = rw f at gt in not_touching low high x list f ∙ none_touch low high n list r.1 later
     ]
 
-touching_first : (low high : ℕ) (x : Extent) (list : List Extent) → leb low x.end ≡ true → leb x.start high ≡ true → filter (touches low high) (x ∷ list) ≡ x ∷ filter (touches low high) list
-touching_first low high x list t h =
-    ap (λ (b : Bool). cond b (x ∷ filter (touches low high) list) (filter (touches low high) list)) (and_from (leb low x.end) (leb x.start high) t h)
-
--- else it is the first one that touches both
-pub is_first : (low high : ℕ) (list : List Extent) (a : Extent) → first_end list low ≡ Some a → a.start ≤ high → (rest : List Extent) × (filter (touches low high) list ≡ a ∷ rest)
-is_first low high [] a is le = absurd cc
-is_first low high (x ∷ list) a is le =
-    elim (cases_Bool (leb low x.end)) [
-      | inl t ↦
-          let h = rw t at is in
-          let same : x ≡ a = cc in
-          let by : leb x.start high ≡ true = subst (λ (y : Extent). leb y.start high ≡ true) (sym same) (le-leb a.start high le) in
-          (filter (touches low high) list, touching_first low high x list t by ∙ ap (λ (y : Extent). y ∷ filter (touches low high) list) same)
-      | inr f ↦
-          let h : first_end list low ≡ Some a = rw f at is in
-          let rest = is_first low high list a h le in
-          (rest.0, not_touching low high x list f ∙ rest.1)
-    ]
-
--- and back: the first that touches both is the first that ends at or after the lower address
-pub first_is : (low high : ℕ) (list : List Extent) (a : Extent) (rest : List Extent) → IsRising list → filter (touches low high) list ≡ a ∷ rest → first_end list low ≡ Some a
-first_is low high [] a rest r is = absurd cc
-first_is low high (x ∷ list) a rest r is =
-    elim (cases_Bool (leb low x.end)) [
-      | inl t ↦ elim (cases_Bool (leb x.start high)) [
-        | inl h ↦
-            let both : x ∷ filter (touches low high) list ≡ a ∷ rest = sym (touching_first low high x list t h) ∙ is in
-            let same : x ≡ a = cc in
-            rw t (ap Some same)
-        | inr f ↦
-            let past : high < x.start = leb-false x.start high f in
-            let none : filter (touches low high) (x ∷ list) ≡ [] = none_touch low high 0 (x ∷ list) r (rw t past) in
-            let clash : [] ≡ a ∷ rest = sym none ∙ is in
-            absurd cc
-      ]
-      | inr f ↦ rw f (first_is low high list a rest r.1 (sym (not_touching low high x list f) ∙ is))
-    ]
-
 -- the members starting with the first that ends at or after the lower address
 pub touching_start : (text : Text) (form : Form) (low high : ℕ) →
     take_while (starts_by high) (members_from (concordance text form) (start_of text form low)) ≡ filter (touches low high) (concordance text form)
@@ -148,26 +107,3 @@ touching_start text form low high = here (first_end (concordance text form) low)
         take_while (starts_by high) (members_from (concordance text form) (start_or text.next o)) ≡ filter (touches low high) (concordance text form)
     here None is = ap (λ (l : List Extent). take_while (starts_by high) l) (none_at_end text form text.next refl) ∙ sym (touching_none low high (concordance text form) is)
     here (Some a) is = touching_from low high (concordance text form) a (concordance_rises text form) is
-
--- and those of a part of the text that has the same members there
-pub touching_part : (text part : Text) (form : Form) (low high : ℕ) → part.next ≤ text.next →
-    filter (touches low high) (concordance part form) ≡ filter (touches low high) (concordance text form) → start_of text form low ≤ high →
-    take_while (starts_by high) (members_from (concordance part form) (start_of text form low)) ≡ filter (touches low high) (concordance text form)
-touching_part text part form low high within same le = here (first_end (concordance text form) low) refl le
-  where
-    here : (o : Option Extent) → first_end (concordance text form) low ≡ o → start_or text.next o ≤ high →
-        take_while (starts_by high) (members_from (concordance part form) (start_or text.next o)) ≡ filter (touches low high) (concordance text form)
-    here None is le =
-        let before : AllByRecursion (λ (a : Extent). a.start < text.next) (concordance part form) =
-        all_weaker (λ (a : Extent). a.start < part.next) (λ (a : Extent). a.start < text.next) (λ a lt. omega (arith, lt, within)) (concordance part form) (start_before part form) in
-        ap (λ (l : List Extent). take_while (starts_by high) l) (none_from text.next (concordance part form) before) ∙ sym (touching_none low high (concordance text form) is)
-    here (Some a) is le =
-        let first = is_first low high (concordance text form) a is le in
-        let found : first_end (concordance part form) low ≡ Some a = first_is low high (concordance part form) a first.0 (concordance_rises part form) (same ∙ first.1) in
-        touching_from low high (concordance part form) a (concordance_rises part form) found ∙ same
-
--- if no readers find the members, it does not matter over which part of the text
-pub way_is_near : (v : VersionContent) (low high : ℕ) (form : Form) (way : Way) → reads way ≡ false → IsWayOver v form way → IsNearWay v low high form way
-way_is_near v low high form (leaping each) not_read is = is
-way_is_near v low high form (reading left) not_read is = absurd (true≢false not_read)
-way_is_near v low high form ended not_read is = tt

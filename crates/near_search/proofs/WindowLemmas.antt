@@ -25,6 +25,10 @@ pub behind_below : (k : ℕ) (page : List Extent) → k < far → AllByRecursion
 behind_below k [] below all = below
 behind_below k (a ∷ page) below all = let lt : a.start < address_end = all.0 in behind_below (a.start + 1) page (omega arith) all.1
 
+-- a part of a text ends in range
+pub within_range : (text : Text) (low high : ℕ) → text.next ≤ address_end → (within text low high).next ≤ address_end
+within_range text low high in_range = omega arith
+
 -- the members of a page over a part of a text start in range
 pub page_below : (text : Text) (low high : ℕ) (form : Form) (k most : ℕ) (page : List Extent) → text.next ≤ address_end
     → page ≡ take most (members_from (concordance (within text low high) form) k) → AllByRecursion (λ (a : Extent). a.start < address_end) page

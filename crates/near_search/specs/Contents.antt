@@ -6,11 +6,9 @@ use Rattle.gcl_model.specs.Extents.{Extent}
 use Rattle.gcl_model.specs.Forms.{Form}
 use Rattle.gcl_model.specs.Meaning.{concordance}
 use Rattle.gcl_model.specs.Texts.{Text}
-use Rattle.gcl_readers.specs.MergeCost.{merge_cost}
 use Rattle.live_version.specs.Contents.{VersionContent}
-use Rattle.near_search.specs.Costs.{one_access, window}
+use Rattle.near_search.specs.Costs.{near_listing_cost}
 use Rattle.query_search.specs.Pages.{Way, leaping, reading, ended}
-use Rattle.reader_pass.specs.Members.{access_most}
 
 -- the interval starts at an address or before it
 abbrev pub starts_by : ℕ → Extent → Bool
@@ -29,9 +27,8 @@ pub record NearContent : Type 0 where
 abbrev pub near_content : List Extent → Way → NearContent
 near_content to_come way = record { to_come = to_come; way = way }
 
--- an access makes at most the look-ups of one access to the expression over the version; readers begin with those of a merge of the lists
--- over the window
+-- readers begin with the look-ups of a merge of the lists over the window; none is made by leaping
 abbrev pub IsNearWay : VersionContent → (low high : ℕ) → Form → Way → Type 0
-IsNearWay v low high form (leaping each) = each ≡ one_access v form
-IsNearWay v low high form (reading left) = left ≡ merge_cost (window v low high form) (access_most v) form
+IsNearWay v low high form (leaping each) = ⊥
+IsNearWay v low high form (reading left) = left ≡ near_listing_cost v low high form
 IsNearWay v low high form ended = Unit {0}

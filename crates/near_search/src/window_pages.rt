@@ -2,20 +2,26 @@
 ghost use Rattle.std.specs.Prelude.{◌≡◌, ◌+◌, ◌<◌, ◌≤◌, length, take, drop, IfOk, OnErr, OnOk};
 ghost use Rattle.std.specs.List.{AllByRecursion};
 ghost use Rattle.gcl_eval.specs.Members.{members_from};
+ghost use Rattle.gcl_model.specs.Cost.{cost};
 ghost use Rattle.gcl_model.specs.Extents.{Extent};
 ghost use Rattle.gcl_model.specs.FormOf.{form_of};
 ghost use Rattle.gcl_model.specs.Limits.{address_end, far};
+ghost use Rattle.gcl_model.specs.Texts.{IsText};
 ghost use Rattle.gcl_model.specs.WellFormed.{IsWellFormed};
+ghost use Rattle.live_version.specs.Contents.{version_text};
 ghost use Rattle.gcl_readers.specs.Reading.{behind_page};
 ghost use Rattle.gcl_readers.specs.Standing.{Stands, start_at};
 ghost use Rattle.collection.specs.Engines.{last_of};
-ghost use Rattle.near_search.specs.Contents.{near_content};
+ghost use Rattle.near_search.specs.Contents.{near_content, start_of};
+ghost use Rattle.near_search.specs.Costs.{window, window_cost};
 ghost use Rattle.near_search.specs.declared.window_pages.Stage.TheVariants.{Fresh, On, Over};
 ghost use Rattle.near_search.specs.inner.Windows.{IsPage, IsReading, list_of_part, text_of_part, to_come_at, to_come_of, way_at, way_of};
 ghost use Rattle.query_search.specs.Pages.{IsAfter, ended, left_of};
 ghost use Rattle.reader_pass.specs.Members.{access_most};
 
-use gcl_model::{Expr, IntervalList, Ledger, Steps};
+use crate::around::window_of;
+use gcl_eval::first_end;
+use gcl_model::{Expr, IntervalList, Leaves, Ledger, Steps};
 use gcl_readers::{Readers, read_list_from};
 use manifest_publish::Pass;
 use standing_query::Addresses;
@@ -45,6 +51,44 @@ pub struct Part {
 }
 
 impl Part {
+    /// The window of the expression at two addresses.
+    pub fn of<S: Ledger>(pass: Pass, expr: Arc<Expr>, near: Addresses, steps: &mut Steps<S>) -> Part
+        requires well_formed { IsWellFormed (form_of expr.value) }
+        requires low_below { near.low ≤ address_end }
+        requires high_below { near.high ≤ address_end }
+        ensures pass { result.pass.history ≡ pass.history }
+        ensures expr { result.expr.value ≡ expr.value }
+        ensures text { text_of_part result ≡ window (last_of pass.history) near.low near.high (form_of expr.value) }
+        ensures sound { IsText (version_text (last_of pass.history)) }
+        ensures cost { steps.new ≤ steps.old + window_cost (last_of pass.history) (form_of expr.value) }
+    {
+        let version = pass.version();
+        // the span shows that the words rise
+        let _span = version.span();
+        let window = window_of(&expr, version, near, steps);
+        Part { pass, expr, window }
+    }
+
+    /// Where the first member that ends at or after `low` starts, or the end of the part if there is none.
+    pub fn start_of<S: Ledger>(&self, low: u64, steps: &mut Steps<S>) -> u64
+        requires well_formed { IsWellFormed (form_of self.now.expr.value) }
+        requires below { low ≤ address_end }
+        ensures value { result ≡ start_of (text_of_part self.now) (form_of self.now.expr.value) low }
+        ensures in_range { result ≤ address_end }
+        ensures cost { steps.new ≤ steps.old +
+            cost (text_of_part self.now) (access_most (last_of self.now.pass.history)) (form_of self.now.expr.value) }
+    {
+        let version = self.pass.version();
+        // the end of the text is in range
+        let _end = version.next();
+        let text = Window::new(version, self.window.low, self.window.high);
+        let end = text.span().next;
+        match first_end(&self.expr, &text, low, steps) {
+            Some(first) => first.start,
+            None => end,
+        }
+    }
+
     /// The next members, found by readers that passed none of them.
     fn read_by<S: Ledger>(
         &self,
