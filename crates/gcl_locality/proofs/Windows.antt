@@ -1,5 +1,5 @@
 -- What has the words of a window determines the members that touch two addresses, by induction over expressions.
-use Rattle.std.proofs.Common.{◌≡◌, ℕ, ◌+◌, ◌-◌, ◌<◌, ◌≤◌, Bool, true, not, ◌&&◌, leb, eqb, List, [], ◌∷◌, length, Option, Some, None, inl, inr, refl, sym, ap, ◌∙◌, arith, min, max, le_refl, filter}
+use Rattle.std.proofs.Common.{◌≡◌, ℕ, ◌+◌, ◌-◌, ◌<◌, ◌≤◌, Bool, true, not, ◌&&◌, leb, eqb, List, [], ◌∷◌, length, Option, Some, None, inl, inr, refl, sym, ap, ◌∙◌, subst, arith, min, max, le_refl, filter}
 use Rattle.std.proofs.lemmas.Bool.{true≢false, cases_Bool, cases_lt, and_parts, or_cases, leb-true, eqb-true}
 use Rattle.gcl_model.specs.Extents.{Extent, extent, all_extents, contains_extent, is_least, is_nested, is_inside, covers, IsAhead, IsRising}
 use Rattle.gcl_model.specs.Access.{first_start, last_end}
@@ -11,7 +11,7 @@ use Rattle.gcl_model.proofs.Covers.{Nested, nested_tells, Has, of_each, find_giv
 use Rattle.gcl_model.proofs.Minimal.{filter_has, has_filter}
 use Rattle.gcl_model.proofs.Meanings.{IsOf, AreOf, contains_tells, each_of_text, concordance_rises}
 use Rattle.gcl_locality.specs.Changed.{touches}
-use Rattle.gcl_locality.specs.Windows.{IsPart, start_or, end_or, start_before, end_behind, reach_from, all_reach_from, reach_upto, all_reach_upto, told_from, all_told_from, told_upto, all_told_upto, window_from, window_upto}
+use Rattle.gcl_locality.specs.Windows.{IsPart, start_or, end_or, start_before, end_behind, has_width, reach_from, all_reach_from, reach_upto, all_reach_upto, told_from, all_told_from, told_upto, all_told_upto, window_from, window_upto}
 use Rattle.gcl_locality.proofs.Alike.{any_tells, any_from, Goes, Alike, AreAlike, AreShared, where_alike, both_alike, one_alike, seq_alike, kept_alike, dropped_alike}
 use Rattle.gcl_locality.proofs.Locality.{phrase_alike, width_alike, cover_on, cover_back, inner_shared}
 
@@ -71,6 +71,19 @@ IsNear x y c = (x ≤ c.end) × (c.start ≤ y)
 abbrev pub IsWithin : ℕ → ℕ → Extent → Type 0
 IsWithin x y c = Nested c (extent x y)
 
+-- what has a width is one
+width_is : (form : Form) → has_width form ≡ true → (n : ℕ) × (form ≡ width n)
+width_is (term token) t = absurd (true≢false (sym t))
+width_is (phrase tokens) t = absurd (true≢false (sym t))
+width_is (width n) t = (n, refl)
+width_is (both forms) t = absurd (true≢false (sym t))
+width_is (one forms) t = absurd (true≢false (sym t))
+width_is (seq forms) t = absurd (true≢false (sym t))
+width_is (containing a b) t = absurd (true≢false (sym t))
+width_is (contained_in a b) t = absurd (true≢false (sym t))
+width_is (not_containing a b) t = absurd (true≢false (sym t))
+width_is (not_contained_in a b) t = absurd (true≢false (sym t))
+
 -- the members of the operators whose own members determine how far they reach: two lists have the same there
 abbrev mutual
   pub KnowReach : (Extent → Type 0) → Text → Text → Form → Type 0
@@ -81,7 +94,7 @@ abbrev mutual
   KnowReach S text part (one forms) = AllKnowReach S text part forms
   KnowReach S text part (seq forms) = Alike S (concordance text (seq forms)) (concordance part (seq forms))
   KnowReach S text part (containing a b) = KnowReach S text part a
-  KnowReach S text part (contained_in a b) = KnowReach S text part a
+  KnowReach S text part (contained_in a b) = KnowReach S text part a × (has_width b ≡ true → KnowReach S text part b)
   KnowReach S text part (not_containing a b) = KnowReach S text part a
   KnowReach S text part (not_contained_in a b) = KnowReach S text part a
 
@@ -99,7 +112,7 @@ mutual
   own_reach S text (one forms) = own_reaches S text forms
   own_reach S text (seq forms) = (λ c s m. m, λ c s m. m)
   own_reach S text (containing a b) = own_reach S text a
-  own_reach S text (contained_in a b) = own_reach S text a
+  own_reach S text (contained_in a b) = (own_reach S text a, λ t. own_reach S text b)
   own_reach S text (not_containing a b) = own_reach S text a
   own_reach S text (not_contained_in a b) = own_reach S text a
 
@@ -118,7 +131,7 @@ module _ (text : Text) where
     reach_most x (one forms) = reaches_most x forms
     reach_most x (seq forms) = omega arith
     reach_most x (containing a b) = reach_most x a
-    reach_most x (contained_in a b) = reach_most x a
+    reach_most x (contained_in a b) = elim (cases_Bool (has_width b)) [ inl t ↦ rw t (reach_most x b) | inr f ↦ rw f (reach_most x a) ]
     reach_most x (not_containing a b) = reach_most x a
     reach_most x (not_contained_in a b) = reach_most x a
 
@@ -135,7 +148,7 @@ module _ (text : Text) where
     reach_least y (one forms) = reaches_least y forms
     reach_least y (seq forms) = omega arith
     reach_least y (containing a b) = reach_least y a
-    reach_least y (contained_in a b) = reach_least y a
+    reach_least y (contained_in a b) = elim (cases_Bool (has_width b)) [ inl t ↦ rw t (reach_least y b) | inr f ↦ rw f (reach_least y a) ]
     reach_least y (not_containing a b) = reach_least y a
     reach_least y (not_contained_in a b) = reach_least y a
 
@@ -194,7 +207,18 @@ module _ (text part : Text) (first : text.first ≤ part.first) (next : part.nex
         one_reaches forms low high told d some
     reaches (seq forms) low high told d n = reaches_by (seq forms) low high told d n
     reaches (containing a b) low high told d n = reaches a low high told d (kept_is part (denotes part a) (covers (concordance part b)) d n)
-    reaches (contained_in a b) low high told d n = reaches a low high told d (kept_is part (denotes part a) (is_inside (concordance part b)) d n)
+    reaches (contained_in a b) low high told d n =
+        elim (cases_Bool (has_width b)) [
+          | inl t ↦
+              let h = has_filter (λ c. denotes part a c && is_inside (concordance part b) c) (all_extents part.first part.next) d n in
+              let e = any_tells (λ e. is_nested d e) (concordance part b) (and_parts (denotes part a d) (is_inside (concordance part b) d) h.1).1 in
+              let nested = nested_tells d e.0 e.2 in
+              let start : e.0.start ≤ d.start = nested.0 in
+              let end : d.end ≤ e.0.end = nested.1 in
+              let r = reaches b (rw t at low) (rw t at high) (told.1 t) e.0 e.1 in
+              rw t (λ ge. let s = r.0 (omega arith) in omega arith, λ ge. let f = r.1 (omega arith) in omega arith)
+          | inr f ↦ rw f (reaches a (rw f at low) (rw f at high) told.0 d (kept_is part (denotes part a) (is_inside (concordance part b)) d n))
+        ]
     reaches (not_containing a b) low high told d n = reaches a low high told d (kept_is part (denotes part a) (λ c. not (covers (concordance part b) c)) d n)
     reaches (not_contained_in a b) low high told d n = reaches a low high told d (kept_is part (denotes part a) (λ c. not (is_inside (concordance part b) c)) d n)
 
@@ -360,8 +384,15 @@ module _ (text part : Text) (lo hi : ℕ) (is : IsPart part text lo hi) where
         let first = told a x y (omega arith) (omega arith) in
         (containing_alike text part (IsWithin x y) (one_shared a x y (omega arith) (omega arith)) a b first.0 (told b x y (omega arith) (omega arith)).0, first.1)
     told (contained_in a b) x y ge le =
-        let first = told a x y (omega arith) (omega arith) in
-        (contained_alike b x y (told b (reach_from text x b) (reach_upto text y b) (omega arith) (omega arith)) a first.0, first.1)
+        let first = told a x y (omega arith) (omega arith) in (
+          contained_alike b x y (told b (reach_from text x b) (reach_upto text y b) (omega arith) (omega arith)) a first.0,
+          (
+            first.1,
+            λ t.
+                let is = width_is b t in
+                subst (λ form. KnowReach (IsWithin x y) text part form) (sym is.1) (width_alike text part (IsWithin x y) (one_shared a x y (omega arith) (omega arith)) is.0),
+          ),
+        )
     told (not_containing a b) x y ge le =
         let first = told a x y (omega arith) (omega arith) in
         (not_containing_alike text part (IsWithin x y) (one_shared a x y (omega arith) (omega arith)) a b first.0 (told b x y (omega arith) (omega arith)).0, first.1)

@@ -179,6 +179,10 @@ its_reach = (refl, refl)
 an_elements_window : (window_from before 3 4 (followed to be) ≡ 1) × (window_upto before 3 4 (followed to be) ≡ 6)
 an_elements_window = (refl, refl)
 
+-- what lies within a width reaches no further than that
+within_a_width_reaches : (reach_from after 6 (contained_in (followed to x) (width 3)) ≡ 3) × (reach_upto after 6 (contained_in (followed to x) (width 3)) ≡ 9)
+within_a_width_reaches = (refl, refl)
+
 -- what a containment keeps reaches as far as its first operand, and "one of" as far as the one that reaches furthest
 a_containment_reaches : (reach_from after 5 (containing (followed to x) be) ≡ reach_from after 5 (followed to x)) × (reach_upto after 5 (contained_in be (followed to x)) ≡ 5)
 a_containment_reaches = (refl, refl)

@@ -1,5 +1,5 @@
 -- Which part of a text determines the members of an expression that touch two addresses.
-use Rattle.std.specs.Prelude.{◌≡◌, ℕ, ◌+◌, ◌-◌, ◌≤◌, List, Option, None, Some, min, max, filter, length}
+use Rattle.std.specs.Prelude.{◌≡◌, ℕ, ◌+◌, ◌-◌, ◌≤◌, Bool, true, false, List, Option, None, Some, min, max, filter, length, if◌then◌else◌}
 use Rattle.gcl_model.specs.Extents.{Extent}
 use Rattle.gcl_model.specs.Access.{first_start, last_end}
 use Rattle.gcl_model.specs.Texts.{Text}
@@ -33,9 +33,15 @@ start_before text list x = min x (start_or text.first (last_end list (x - 1)))
 abbrev pub end_behind : Text → List Extent → ℕ → ℕ
 end_behind text list y = max y (end_or text.next (first_start list (y + 1)))
 
+-- whether all members have the same width, as those of `[5]`
+abbrev pub has_width : Form → Bool
+has_width (width n) = true
+has_width _ = false
+
 abbrev mutual
-  -- each member that ends at x or later starts here or later. A term's start where they end, a phrase's are as long as it is, and those of a
-  -- containment are members of its first operand: so no search goes far. Of the phrase `to be` it is 4 for 5
+  -- each member that ends at x or later starts here or later. A term's start where they end, a phrase's are as long as it is, those within a
+  -- width are no longer, and those of another containment are members of its first operand: so no search goes far. Of the phrase `to be`
+  -- it is 4 for 5
   pub reach_from : Text → ℕ → Form → ℕ
   reach_from text x (term token) = x
   reach_from text x (phrase tokens) = x - (length tokens - 1)
@@ -44,7 +50,7 @@ abbrev mutual
   reach_from text x (one forms) = all_reach_from text x forms
   reach_from text x (seq forms) = start_before text (concordance text (seq forms)) x
   reach_from text x (containing a b) = reach_from text x a
-  reach_from text x (contained_in a b) = reach_from text x a
+  reach_from text x (contained_in a b) = if has_width b then reach_from text x b else reach_from text x a
   reach_from text x (not_containing a b) = reach_from text x a
   reach_from text x (not_contained_in a b) = reach_from text x a
 
@@ -63,7 +69,7 @@ abbrev mutual
   reach_upto text y (one forms) = all_reach_upto text y forms
   reach_upto text y (seq forms) = end_behind text (concordance text (seq forms)) y
   reach_upto text y (containing a b) = reach_upto text y a
-  reach_upto text y (contained_in a b) = reach_upto text y a
+  reach_upto text y (contained_in a b) = if has_width b then reach_upto text y b else reach_upto text y a
   reach_upto text y (not_containing a b) = reach_upto text y a
   reach_upto text y (not_contained_in a b) = reach_upto text y a
 

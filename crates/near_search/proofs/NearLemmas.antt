@@ -1,7 +1,7 @@
 -- The members of a rising list that touch two addresses.
 use Rattle.std.proofs.Common.{◌≡◌, ℕ, ◌<◌, ◌≤◌, Bool, true, false, leb, cond, List, [], ◌∷◌, filter, take_while, Option, Some, None, inl, inr, refl, sym, ap, ◌∙◌, subst, arith, le_refl}
 use Rattle.std.specs.List.{AllByRecursion}
-use Rattle.std.proofs.lemmas.Bool.{true≢false, cases_Bool, and_from, and_left, and_right, leb-true, leb-false, le-leb, lt-leb}
+use Rattle.std.proofs.lemmas.Bool.{cases_Bool, and_from, and_left, and_right, leb-true, leb-false, le-leb, lt-leb}
 use Rattle.std.proofs.lemmas.List.Sums.{take_while-cons}
 use Rattle.gcl_locality.specs.Windows.{start_or}
 use Rattle.gcl_model.specs.Access.{first_end}

@@ -1,6 +1,6 @@
 -- How many look-ups it takes to find the members of an expression that touch two addresses.
-use Rattle.std.specs.Prelude.{ℕ, ◌+◌, ◌*◌}
-use Rattle.gcl_locality.specs.Windows.{window_from, window_upto}
+use Rattle.std.specs.Prelude.{ℕ, ◌+◌, ◌*◌, if◌then◌else◌}
+use Rattle.gcl_locality.specs.Windows.{has_width, window_from, window_upto}
 use Rattle.gcl_model.specs.Cost.{cost}
 use Rattle.gcl_model.specs.Forms.{Form, Forms, term, phrase, width, both, one, seq, containing, contained_in, not_containing, not_contained_in, no_forms, more_forms}
 use Rattle.gcl_model.specs.Texts.{Text}
@@ -28,7 +28,7 @@ abbrev mutual
   reach_cost v (one forms) = reach_costs v forms
   reach_cost v (seq forms) = 2 * one_access v (seq forms)
   reach_cost v (containing a b) = reach_cost v a
-  reach_cost v (contained_in a b) = reach_cost v a
+  reach_cost v (contained_in a b) = if has_width b then reach_cost v b else reach_cost v a
   reach_cost v (not_containing a b) = reach_cost v a
   reach_cost v (not_contained_in a b) = reach_cost v a
 

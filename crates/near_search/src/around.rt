@@ -1,7 +1,7 @@
 //! Which part of the text of a version determines the members that touch two addresses.
 ghost use Rattle.std.specs.Prelude.{◌≡◌, ◌+◌, ◌*◌, ◌-◌, ◌<◌, ◌≤◌, length, map, max, min};
-ghost use Rattle.gcl_locality.specs.Windows.{all_reach_from, all_reach_upto, all_told_from, all_told_upto, reach_from, reach_upto};
-ghost use Rattle.gcl_locality.specs.Windows.{end_behind, start_before, told_from, told_upto, window_from, window_upto};
+ghost use Rattle.gcl_locality.specs.Windows.{all_reach_from, all_reach_upto, end_behind, has_width, reach_from, reach_upto, start_before};
+ghost use Rattle.gcl_locality.specs.Windows.{all_told_from, all_told_upto, told_from, told_upto, window_from, window_upto};
 ghost use Rattle.gcl_model.specs.FormOf.{form_of, forms_from};
 ghost use Rattle.gcl_model.specs.Limits.{address_end, far};
 ghost use Rattle.gcl_model.specs.Meaning.{concordance};
@@ -60,8 +60,16 @@ fn beside(version: &Version, inner: Addresses, tokens: usize) -> Addresses
     }
 }
 
-/// Between which addresses each member lies that touches two addresses. Those of a containment are members of its first operand, and those
-/// of a phrase are as long as it is: so only members of "both of", "followed by" and widths are looked for, which are found near by.
+/// Whether all members have the same width.
+fn has_width(expr: &Expr) -> bool
+    ensures { result ≡ has_width (form_of expr.now) }
+{
+    matches!(expr, Expr::Width(_))
+}
+
+/// Between which addresses each member lies that touches two addresses. Those of a phrase are as long as it is, those within a width are no
+/// longer, and those of another containment are members of its first operand: so only members of "both of", "followed by" and widths are
+/// looked for, which are found near by.
 #[cycle(reach)]
 fn reach<S: Ledger>(
     expr: &Expr,
@@ -83,6 +91,7 @@ fn reach<S: Ledger>(
         Expr::Phrase(tokens) => beside(version, inner, tokens.len()),
         Expr::One(operands) => all_reach(operands, version, inner, steps),
         Expr::Width(_) | Expr::Both(_) | Expr::Seq(_) => around(expr, version, inner, steps),
+        Expr::ContainedIn(_, second) if has_width(second) => reach(second, version, inner, steps),
         Expr::Containing(first, _)
         | Expr::ContainedIn(first, _)
         | Expr::NotContaining(first, _)

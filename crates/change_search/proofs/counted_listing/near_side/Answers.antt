@@ -1,4 +1,4 @@
-use Rattle.std.proofs.Common.{◌≡◌, ℕ, ◌+◌, ◌≤◌, rules, filter, length, take_while, sym, ap, ◌∙◌, subst, arith}
+use Rattle.std.proofs.Common.{◌≡◌, ℕ, ◌≤◌, rules, filter, length, take_while, sym, ap, ◌∙◌, subst, arith}
 use Rattle.gcl_model.specs.Extents.{IsRising}
 use Rattle.gcl_model.specs.FormOf.{form_of}
 use Rattle.gcl_model.specs.Forms.{Form}
@@ -12,7 +12,7 @@ use Rattle.near_search.specs.Costs.{near_listing_cost, near_opening_cost}
 use Rattle.standing_query.specs.Changes.{members}
 use Rattle.standing_query.proofs.LocalLemmas.{kept_rises}
 use Rattle.change_search.specs.Costs.{paged_accesses}
-use Rattle.change_search.specs.inner.Sides.{look_ups, look_ups_by, to_come}
+use Rattle.change_search.specs.inner.Sides.{look_ups_by, to_come}
 use Rattle.change_search.proofs.OpeningLemmas.{near_paid}
 use Rattle.change_search.proofs.counted_listing.near_side.Goals as goal
 

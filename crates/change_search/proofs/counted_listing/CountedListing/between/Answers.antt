@@ -1,8 +1,8 @@
-use Rattle.std.proofs.Common.{◌≡◌, ℕ, ◌+◌, ◌≤◌, List, IfOk, filter, length, sym, ◌∙◌, subst, arith}
+use Rattle.std.proofs.Common.{◌≡◌, ℕ, ◌+◌, ◌≤◌, List, IfOk, sym, ◌∙◌, subst, arith}
 use Rattle.gcl_model.specs.FormOf.{form_of}
 use Rattle.gcl_model.specs.Forms.{Form}
 use Rattle.gcl_model.specs.Wide.{wide}
-use Rattle.gcl_locality.specs.Changed.{changed_from, changed_upto, touches}
+use Rattle.gcl_locality.specs.Changed.{changed_from, changed_upto}
 use Rattle.gcl_locality.specs.Laws.{DifferBetween}
 use Rattle.live_version.specs.Contents.{VersionContent, version_text}
 use Rattle.collection.specs.Engines.{last_of}

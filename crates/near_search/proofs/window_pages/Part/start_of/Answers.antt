@@ -1,10 +1,9 @@
-use Rattle.std.proofs.Common.{◌≡◌, ◌≤◌, ◌+◌, ℕ, List, Option, Some, None, rules, sym, ap, ◌∙◌, subst, arith}
+use Rattle.std.proofs.Common.{◌≡◌, ◌≤◌, ◌+◌, ℕ, List, Some, None, rules, sym, ap, ◌∙◌, subst}
 use Rattle.gcl_locality.specs.Windows.{start_or}
 use Rattle.gcl_model.specs.Access.{first_end}
 use Rattle.gcl_model.specs.Cost.{cost}
 use Rattle.gcl_model.specs.Extents.{Extent}
 use Rattle.gcl_model.specs.FormOf.{form_of}
-use Rattle.gcl_model.specs.Forms.{Form}
 use Rattle.gcl_model.specs.Limits.{address_end}
 use Rattle.gcl_model.specs.Meaning.{concordance}
 use Rattle.gcl_model.specs.Texts.{Text}
@@ -13,7 +12,6 @@ use Rattle.collection.specs.Engines.{last_of}
 use Rattle.collection.proofs.EngineLemmas.{last_is}
 use Rattle.reader_pass.specs.Members.{access_most}
 use Rattle.near_search.specs.Contents.{start_of}
-use Rattle.near_search.specs.inner.Windows.{text_of_part}
 use Rattle.near_search.proofs.AroundLemmas.{start_within}
 use Rattle.near_search.proofs.WindowLemmas.{over_part, within_range}
 use Rattle.near_search.proofs.window_pages.Part.start_of.Goals as goal
