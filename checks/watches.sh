@@ -1,7 +1,7 @@
 #!/usr/bin/env bash
-# What the watches report is what changed: scripts of edits and merges over three small files, each with six watches (one whose negation
-# reaches far back, one with a width, one with a prefix term, one of an element, and two that readers follow: through whole lists, since a
-# containment has a chain with another one, and over a window of the text, since there are many words). After each line the six queries are
+# What the watches report is what changed: scripts of edits and merges over three small files, each with eight watches (one whose negation
+# reaches far back, one with a width, one with a prefix term, one of an element, a phrase, two words near each other, one for which whole
+# lists are compared, since a containment has a chain with another one, and one with many words). After each line the eight queries are
 # listed, and what the watches reported must be the difference between the lists before and after it. Before each script that opens, an
 # image was saved. Then the answers to the lines that begin and end a watch, and their refusals.
 . "$(dirname "$0")/common.sh"
@@ -14,7 +14,8 @@ cat > compare.py << 'P'
 import itertools, subprocess, sys
 from concurrent.futures import ThreadPoolExecutor
 
-QUERIES = ['"be" /< ("to".."x")', '[2] > "be"', '"no"*', '"<p>".."</p>"', '"be" /< (("to" + ("or" < [2])) .. "x")',
+QUERIES = ['"be" /< ("to".."x")', '[2] > "be"', '"no"*', '"<p>".."</p>"', '"to be"', '("not" ^ "be") < [3]',
+           '"be" /< (("to" + ("or" < [2])) .. "x")',
            "(" + " + ".join(f'"{word}"' for word in "to be or not x nothing noted a b c d e f g h i j k".split()) + ') < ("to".."x")']
 EDITS = ["add speech", "add end", "add page", "del 0", "del 1", "open image", "merge"]
 STEPS = 5
