@@ -3,7 +3,11 @@ ghost use Rattle.std.specs.Io.KnownBytes.{Appends};
 ghost use Rattle.outside.specs.Causes.{Rose};
 ghost use Rattle.gcl_model.specs.FormOf.{form_of};
 ghost use Rattle.gcl_model.specs.Limits.{most_file};
+ghost use Rattle.gcl_model.specs.Meaning.{concordance};
 ghost use Rattle.gcl_model.specs.WellFormed.{IsWellFormed};
+ghost use Rattle.gcl_model.specs.Wide.{wide};
+ghost use Rattle.wide_terms.specs.Expansion.{expansion};
+ghost use Rattle.text_search.specs.FileTexts.{file_text};
 ghost use Rattle.file_answers.specs.Written.{GetsPart};
 ghost use Rattle.grep_run.specs.Requests.{file_output, has_answer, request_of, shown_name, shown_of};
 ghost use Rattle.grep_run.specs.Visits.{IsBegun, IsVisited, look_ups, searched};
@@ -12,7 +16,7 @@ use crate::fault::SearchFault;
 use crate::outcome::Outcome;
 use crate::wish::Wish;
 use file_answers::{Asking, Label, write_file};
-use gcl_model::{Bytes, Ledger, Steps};
+use gcl_model::{Bytes, Expr, Ledger, Steps};
 use outside::{FileError, Files, Loaded, Sink};
 use passages::Shown;
 use std::alloc::{AllocError, Global};
@@ -72,9 +76,34 @@ pub(crate) fn search_bytes<K: Sink, S: Ledger>(
     ensures calm { OnOk result (K.faults sink.new ≡ K.faults sink.old) }
 {
     let expr = expanded(alloc, bytes, wish.asking.expr)?;
-    let text = QueryText::of(alloc, bytes, &expr)?;
+    search_expanded(alloc, sink, steps, wish, &expr, name, bytes)
+}
+
+/// The same by the expression as it is expanded over the file.
+fn search_expanded<K: Sink, S: Ledger>(
+    alloc: Global,
+    sink: &mut K,
+    steps: &mut Steps<S>,
+    wish: &Wish<'_>,
+    expr: &Expr,
+    name: &[u8],
+    bytes: &[u8],
+) -> Result<bool, SearchFault>
+    requires well_formed { IsWellFormed (form_of expr.now) }
+    requires short { length bytes.now ≤ most_file }
+    requires form { form_of expr.now ≡ expansion (file_text bytes.now) (form_of wish.now.asking.expr.now) }
+    requires wide { concordance (file_text bytes.now) (form_of expr.now) ≡ wide (file_text bytes.now) (form_of wish.now.asking.expr.now) }
+    ensures written { OnOk result (Appends (K.written sink.old) (K.written sink.new) (file_output
+        (request_of wish.now) name.now bytes.now)) }
+    ensures part { GetsPart (K.written sink.old) (K.written sink.new) (file_output (request_of wish.now) name.now bytes.now) }
+    ensures some { IfOk result (λ some. some ≡ has_answer (request_of wish.now) bytes.now) }
+    ensures cost { steps.new ≤ steps.old + look_ups (request_of wish.now) (searched bytes.now) }
+    ensures fault { IsErrOf result SearchFault.Write → Rose (K.faults sink.old) (K.faults sink.new) }
+    ensures calm { OnOk result (K.faults sink.new ≡ K.faults sink.old) }
+{
+    let text = QueryText::of(alloc, bytes, expr)?;
     let asking = Asking {
-        expr: &expr,
+        expr,
         most: wish.asking.most,
         mode: wish.asking.mode,
     };

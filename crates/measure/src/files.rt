@@ -23,14 +23,17 @@ pub(crate) fn text_of<R: rt::Files + AllocGlobal>(rt: &R, name: &[u8]) -> Option
     token_text(rt.alloc(), &content_of(rt, name)?).ok()
 }
 
-/// Prints how many tokens a file has.
+/// Prints how many tokens a file has, and how long cutting it took.
 pub(crate) fn measure_tokens<R: rt::Files + Clock + Print + AllocGlobal>(
     rt: &R,
     name: &[u8],
 ) -> Option<()> {
-    let content = content_of(rt, name)?;
+    cut(rt, &content_of(rt, name)?)
+}
+
+fn cut<R: Clock + Print + AllocGlobal>(rt: &R, content: &[u8]) -> Option<()> {
     let start = Instant::now(rt).ok()?;
-    let words = token_text(rt.alloc(), &content).ok()?.len();
+    let words = token_text(rt.alloc(), content).ok()?.len();
     let took = start.elapsed(rt).ok()?.as_nanos();
     println!(rt; "{words} tokens cut in {took} ns").ok()
 }
@@ -47,20 +50,29 @@ fn shards_of(alloc: Global, text: &TokenText, times: u64) -> Result<Vec<Shard>, 
     Ok(shards)
 }
 
+/// How many terms the shards have together.
+fn terms_of(shards: &[Shard]) -> usize {
+    let mut terms = 0usize;
+    for shard in shards {
+        terms = terms.saturating_add(shard.term_count());
+    }
+    terms
+}
+
 /// Prints how long building the shards of a file took, and how many terms they have together.
 pub(crate) fn measure_shards<R: rt::Files + Clock + Print + AllocGlobal>(
     rt: &R,
     name: &[u8],
     times: u64,
 ) -> Option<()> {
-    let text = text_of(rt, name)?;
+    build(rt, &text_of(rt, name)?, times)
+}
+
+fn build<R: Clock + Print + AllocGlobal>(rt: &R, text: &TokenText, times: u64) -> Option<()> {
     let start = Instant::now(rt).ok()?;
-    let shards = shards_of(rt.alloc(), &text, times).ok()?;
+    let shards = shards_of(rt.alloc(), text, times).ok()?;
     let took = start.elapsed(rt).ok()?.as_nanos();
+    let terms = terms_of(&shards);
     let words = text.len();
-    let mut terms = 0usize;
-    for shard in &shards {
-        terms = terms.saturating_add(shard.term_count());
-    }
     println!(rt; "{words} tokens, {terms} terms in {times} shards built in {took} ns").ok()
 }
